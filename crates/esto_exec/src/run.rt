@@ -4,10 +4,10 @@ ghost use Rattle.esto_plan.specs.Meaning.{IsResult};
 ghost use Rattle.esto_plan.specs.Rows.{IsRowOf, held_by};
 ghost use Rattle.esto_exec.specs.Runnable.{AreRunnable};
 
-use crate::order::order_of;
 use crate::project::projected;
 use crate::slots::equations_of;
-use crate::turns::{arities_of, joined_rows, head_in};
+use crate::tables::tables_of;
+use crate::turns::{Prepared, arities_of, head_in, joined_rows};
 use esto_columns::{Fragment, Rows};
 use esto_plan::Steps;
 use esto_term::OutOfMemory;
@@ -29,16 +29,15 @@ pub fn run_plan<F: Fragment>(
 {
     let arities = arities_of(alloc, &steps.gets, fragments)?;
     let equations = equations_of(alloc, &arities, &steps.gets)?;
-    let order = order_of(alloc, &steps.gets, &arities, &equations)?;
-    let so_far = joined_rows(
-        alloc,
-        &steps.gets,
-        fragments,
-        &arities,
-        &equations,
-        &steps.head,
-        &order,
-    )?;
+    let tables = tables_of(alloc, &steps.gets, fragments)?;
+    let prepared = Prepared {
+        gets: &steps.gets,
+        head: &steps.head,
+        arities: &arities,
+        equations: &equations,
+        tables: &tables,
+    };
+    let so_far = joined_rows(alloc, &prepared, fragments)?;
     let head = head_in(alloc, &so_far.places, &arities, &steps.head)?;
     projected(alloc, &head, &so_far.rows)
 }

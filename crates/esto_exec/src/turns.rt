@@ -8,10 +8,11 @@ ghost use Rattle.esto_exec.specs.Joined.{IsJoin, IsKept};
 ghost use Rattle.esto_exec.specs.declared.slots.Side.TheVariants.{Held};
 ghost use Rattle.esto_exec.specs.Runnable.{AreRunnable};
 ghost use Rattle.esto_exec.specs.Slots.{side_of, IsKnown};
-ghost use Rattle.esto_exec.specs.Turns.{source_in, link_in, links_of, slots_from, IsReady, AreArities, IsUnderWay, kept_slots};
+ghost use Rattle.esto_exec.specs.Turns.{source_in, link_in, links_of, slots_from, IsReady, AreArities, IsPrepared, IsUnderWay, kept_slots};
 
 use crate::asked::asked_rows;
 use crate::join::{Join, joined};
+use crate::order::next_get;
 use crate::slots::{
     Equation, Equations, Side, Slot, Slots, first_of, is_in, is_known, kept_slots, needed_slots, side_of, source_in,
 };
@@ -74,7 +75,7 @@ fn push_link(
 }
 
 /// The equations that the get decides, as its links.
-fn links_at(
+pub(crate) fn links_at(
     alloc: Global,
     number: usize,
     done: &Places,
@@ -160,17 +161,25 @@ pub(crate) fn head_in(
     Ok(sources)
 }
 
-/// Joins the rows so far with those of the fragment, and keeps of them what the join says.
+/// Joins the rows so far with those of the fragment, and keeps of them what the join says. Where nothing is asked by, the
+/// fragment's rows are those of the table.
 fn join_fragment<F: Fragment>(
     alloc: Global,
     join: &Join,
     fragment: &F,
+    table: &Rows,
     so_far: &mut Rows,
 ) -> Result<(), OutOfMemory>
-    requires { IsAllowed (F.shape fragment.now) (map (λ link. link.column) join.now.get.inputs) }
+    requires table { length join.now.get.inputs ≡ 0 → (row : List ℕ)
+        → Contains table.now.rows row ↔ Contains (F.rows fragment.now) row }
+    requires allowed { IsAllowed (F.shape fragment.now) (map (λ link. link.column) join.now.get.inputs) }
     ensures { OnOk result ((row : List ℕ) → Contains so_far.new.rows row
         ↔ IsKept join.now.kept (IsJoin join.now.get so_far.old.rows (F.rows fragment.now)) row) }
 {
+    if join.get.inputs.is_empty() {
+        *so_far = joined(alloc, join, so_far, table)?;
+        return Ok(());
+    }
     let asked = asked_rows(alloc, &join.get, fragment, so_far)?;
     *so_far = joined(alloc, join, so_far, &asked)?;
     Ok(())
@@ -181,11 +190,14 @@ fn follow<F: Fragment>(
     alloc: Global,
     get: Get,
     fragment: &F,
+    table: &Rows,
     needed: &Slots,
     places: &mut Slots,
     so_far: &mut Rows,
 ) -> Result<(), OutOfMemory>
-    requires { IsAllowed (F.shape fragment.now) (map (λ link. link.column) get.inputs) }
+    requires table { length get.inputs ≡ 0 → (row : List ℕ)
+        → Contains table.now.rows row ↔ Contains (F.rows fragment.now) row }
+    requires allowed { IsAllowed (F.shape fragment.now) (map (λ link. link.column) get.inputs) }
     ensures { OnOk result ((places.new ≡ kept_slots needed.now places.old)
         × ((row : List ℕ) → Contains so_far.new.rows row
         ↔ IsKept (map (λ slot. source_in places.old (Held slot)) places.new)
@@ -194,9 +206,20 @@ fn follow<F: Fragment>(
     let kept = kept_slots(alloc, needed, places)?;
     let sources = slot_sources(alloc, places, &kept)?;
     let join = Join { get, kept: sources };
-    join_fragment(alloc, &join, fragment, so_far)?;
+    join_fragment(alloc, &join, fragment, table, so_far)?;
     *places = kept;
     Ok(())
+}
+
+/// Steps, with what joins in any order rest on: the arities of the rows that the gets give, the equations of their filters,
+/// and all rows of each get that has no inputs.
+#[derive(Clone, Copy)]
+pub(crate) struct Prepared<'a> {
+    pub gets: &'a Gets,
+    pub head: &'a Sources,
+    pub arities: &'a Places,
+    pub equations: &'a Equations,
+    pub tables: &'a List<Rows>,
 }
 
 /// Rows so far: the numbers of the gets that are done, the slots of the cells, and the rows.
@@ -223,46 +246,52 @@ fn nothing_done(alloc: Global) -> Result<SoFar, OutOfMemory>
 /// Joins the get of the number, which is not done and whose inputs are known.
 fn take_turn<F: Fragment>(
     alloc: Global,
-    gets: &Gets,
+    steps: &Prepared,
     fragments: &[F],
-    arities: &Places,
-    equations: &Equations,
-    head: &Sources,
     number: usize,
     so_far: &mut SoFar,
 ) -> Result<(), OutOfMemory>
-    requires runnable { AreRunnable (map F.shape fragments.now) gets.now }
-    requires arities { AreArities (IsRowOf (held_by (map F.rows fragments.now))) gets.now arities.now }
-    requires there { number < length gets.now }
+    requires runnable { AreRunnable (map F.shape fragments.now) steps.now.gets.now }
+    requires prepared { IsPrepared (IsRowOf (held_by (map F.rows fragments.now))) steps.now.gets.now
+        steps.now.arities.now steps.now.tables.now }
+    requires there { number < length steps.now.gets.now }
     requires fresh { ¬ (Contains so_far.old.done number) }
-    requires ready { (get : Get) → slice_get gets.now number ≡ Some get
-        → IsReady arities.now so_far.old.done get number }
-    requires under_way { IsUnderWay (IsRowOf (held_by (map F.rows fragments.now))) arities.now
-        gets.now equations.now head.now so_far.old.done so_far.old.places so_far.old.rows.rows }
+    requires ready { (get : Get) → slice_get steps.now.gets.now number ≡ Some get
+        → IsReady steps.now.arities.now so_far.old.done get number }
+    requires under_way { IsUnderWay (IsRowOf (held_by (map F.rows fragments.now))) steps.now.arities.now
+        steps.now.gets.now steps.now.equations.now steps.now.head.now so_far.old.done so_far.old.places so_far.old.rows.rows }
     ensures done { OnOk result (so_far.new.done ≡ so_far.old.done ++ number ∷ []) }
     ensures under_way { OnOk result (IsUnderWay (IsRowOf (held_by (map F.rows fragments.now)))
-        arities.now gets.now equations.now head.now so_far.new.done so_far.new.places so_far.new.rows.rows) }
+        steps.now.arities.now steps.now.gets.now steps.now.equations.now steps.now.head.now so_far.new.done so_far.new.places so_far.new.rows.rows) }
 {
-    let get = gets.item(number);
+    let get = steps.gets.item(number);
     let inputs = links_in(
         alloc,
         &so_far.places,
-        first_of(arities, number),
+        first_of(steps.arities, number),
         &get.inputs,
     )?;
     so_far.done.push(number)?;
-    push_slots(&mut so_far.places, number, arities.item(number))?;
-    let filters = links_at(alloc, number, &so_far.done, &so_far.places, equations)?;
+    push_slots(&mut so_far.places, number, steps.arities.item(number))?;
+    let filters = links_at(alloc, number, &so_far.done, &so_far.places, steps.equations)?;
     let own = Get {
         fragment: get.fragment,
         inputs,
         filters,
     };
-    let needed = needed_slots(alloc, arities, gets, equations, head, &so_far.done)?;
+    let needed = needed_slots(
+        alloc,
+        steps.arities,
+        steps.gets,
+        steps.equations,
+        steps.head,
+        &so_far.done,
+    )?;
     follow(
         alloc,
         own,
         &fragments[get.fragment],
+        steps.tables.item(number),
         &needed,
         &mut so_far.places,
         &mut so_far.rows,
@@ -272,127 +301,120 @@ fn take_turn<F: Fragment>(
 /// Joins the get of the number, if there is one that is not done and whose inputs are known.
 fn take_if_ready<F: Fragment>(
     alloc: Global,
-    gets: &Gets,
+    steps: &Prepared,
     fragments: &[F],
-    arities: &Places,
-    equations: &Equations,
-    head: &Sources,
     number: usize,
     so_far: &mut SoFar,
 ) -> Result<(), OutOfMemory>
-    requires runnable { AreRunnable (map F.shape fragments.now) gets.now }
-    requires arities { AreArities (IsRowOf (held_by (map F.rows fragments.now))) gets.now arities.now }
-    requires under_way { IsUnderWay (IsRowOf (held_by (map F.rows fragments.now))) arities.now
-        gets.now equations.now head.now so_far.old.done so_far.old.places so_far.old.rows.rows }
+    requires runnable { AreRunnable (map F.shape fragments.now) steps.now.gets.now }
+    requires prepared { IsPrepared (IsRowOf (held_by (map F.rows fragments.now))) steps.now.gets.now
+        steps.now.arities.now steps.now.tables.now }
+    requires under_way { IsUnderWay (IsRowOf (held_by (map F.rows fragments.now))) steps.now.arities.now
+        steps.now.gets.now steps.now.equations.now steps.now.head.now so_far.old.done so_far.old.places so_far.old.rows.rows }
     ensures { OnOk result (IsUnderWay (IsRowOf (held_by (map F.rows fragments.now)))
-        arities.now gets.now equations.now head.now so_far.new.done so_far.new.places so_far.new.rows.rows) }
+        steps.now.arities.now steps.now.gets.now steps.now.equations.now steps.now.head.now so_far.new.done so_far.new.places so_far.new.rows.rows) }
 {
-    if number >= gets.len() || is_in(&so_far.done, number) {
+    if number >= steps.gets.len() || is_in(&so_far.done, number) {
         return Ok(());
     }
     if !each_known(
         &so_far.done,
-        first_of(arities, number),
-        &gets.item(number).inputs,
+        first_of(steps.arities, number),
+        &steps.gets.item(number).inputs,
     ) {
         return Ok(());
     }
-    take_turn(
-        alloc, gets, fragments, arities, equations, head, number, so_far,
-    )
+    take_turn(alloc, steps, fragments, number, so_far)
+}
+
+/// Joins the get that seems best, if there is one that is not done and whose inputs are known.
+fn take_best<F: Fragment>(
+    alloc: Global,
+    steps: &Prepared,
+    fragments: &[F],
+    so_far: &mut SoFar,
+) -> Result<(), OutOfMemory>
+    requires runnable { AreRunnable (map F.shape fragments.now) steps.now.gets.now }
+    requires prepared { IsPrepared (IsRowOf (held_by (map F.rows fragments.now))) steps.now.gets.now
+        steps.now.arities.now steps.now.tables.now }
+    requires under_way { IsUnderWay (IsRowOf (held_by (map F.rows fragments.now))) steps.now.arities.now
+        steps.now.gets.now steps.now.equations.now steps.now.head.now so_far.old.done so_far.old.places so_far.old.rows.rows }
+    ensures { OnOk result (IsUnderWay (IsRowOf (held_by (map F.rows fragments.now)))
+        steps.now.arities.now steps.now.gets.now steps.now.equations.now steps.now.head.now so_far.new.done so_far.new.places so_far.new.rows.rows) }
+{
+    match next_get(alloc, steps, so_far)? {
+        Some(number) => take_if_ready(alloc, steps, fragments, number, so_far),
+        None => Ok(()),
+    }
 }
 
 /// Joins the get of the number, if it is not done, where all before it in the stated order are.
 fn take_next<F: Fragment>(
     alloc: Global,
-    gets: &Gets,
+    steps: &Prepared,
     fragments: &[F],
-    arities: &Places,
-    equations: &Equations,
-    head: &Sources,
     number: usize,
     so_far: &mut SoFar,
 ) -> Result<(), OutOfMemory>
-    requires runnable { AreRunnable (map F.shape fragments.now) gets.now }
-    requires arities { AreArities (IsRowOf (held_by (map F.rows fragments.now))) gets.now arities.now }
-    requires there { number < length gets.now }
+    requires runnable { AreRunnable (map F.shape fragments.now) steps.now.gets.now }
+    requires prepared { IsPrepared (IsRowOf (held_by (map F.rows fragments.now))) steps.now.gets.now
+        steps.now.arities.now steps.now.tables.now }
+    requires there { number < length steps.now.gets.now }
     requires before { (other : ℕ) → other < number → Contains so_far.old.done other }
-    requires under_way { IsUnderWay (IsRowOf (held_by (map F.rows fragments.now))) arities.now
-        gets.now equations.now head.now so_far.old.done so_far.old.places so_far.old.rows.rows }
+    requires under_way { IsUnderWay (IsRowOf (held_by (map F.rows fragments.now))) steps.now.arities.now
+        steps.now.gets.now steps.now.equations.now steps.now.head.now so_far.old.done so_far.old.places so_far.old.rows.rows }
     ensures before { OnOk result ((other : ℕ)
         → other < number + 1 → Contains so_far.new.done other) }
     ensures under_way { OnOk result (IsUnderWay (IsRowOf (held_by (map F.rows fragments.now)))
-        arities.now gets.now equations.now head.now so_far.new.done so_far.new.places so_far.new.rows.rows) }
+        steps.now.arities.now steps.now.gets.now steps.now.equations.now steps.now.head.now so_far.new.done so_far.new.places so_far.new.rows.rows) }
 {
     if is_in(&so_far.done, number) {
         return Ok(());
     }
-    take_turn(
-        alloc, gets, fragments, arities, equations, head, number, so_far,
-    )
+    take_turn(alloc, steps, fragments, number, so_far)
 }
 
-/// Joins the gets of the numbers, as far as the inputs of each are known, and then all others in the stated order.
+/// Joins the gets, each time the one that seems best, and then all that are left in the stated order.
 fn take_all<F: Fragment>(
     alloc: Global,
-    gets: &Gets,
+    steps: &Prepared,
     fragments: &[F],
-    arities: &Places,
-    equations: &Equations,
-    head: &Sources,
-    order: &Places,
     so_far: &mut SoFar,
 ) -> Result<(), OutOfMemory>
-    requires runnable { AreRunnable (map F.shape fragments.now) gets.now }
-    requires arities { AreArities (IsRowOf (held_by (map F.rows fragments.now))) gets.now arities.now }
-    requires under_way { IsUnderWay (IsRowOf (held_by (map F.rows fragments.now))) arities.now
-        gets.now equations.now head.now so_far.old.done so_far.old.places so_far.old.rows.rows }
+    requires runnable { AreRunnable (map F.shape fragments.now) steps.now.gets.now }
+    requires prepared { IsPrepared (IsRowOf (held_by (map F.rows fragments.now))) steps.now.gets.now
+        steps.now.arities.now steps.now.tables.now }
+    requires under_way { IsUnderWay (IsRowOf (held_by (map F.rows fragments.now))) steps.now.arities.now
+        steps.now.gets.now steps.now.equations.now steps.now.head.now so_far.old.done so_far.old.places so_far.old.rows.rows }
     ensures all { OnOk result ((number : ℕ)
-        → number < length gets.now → Contains so_far.new.done number) }
+        → number < length steps.now.gets.now → Contains so_far.new.done number) }
     ensures under_way { OnOk result (IsUnderWay (IsRowOf (held_by (map F.rows fragments.now)))
-        arities.now gets.now equations.now head.now so_far.new.done so_far.new.places so_far.new.rows.rows) }
+        steps.now.arities.now steps.now.gets.now steps.now.equations.now steps.now.head.now so_far.new.done so_far.new.places so_far.new.rows.rows) }
 {
-    'order: for number in order.items() {
-        take_if_ready(
-            alloc, gets, fragments, arities, equations, head, *number, so_far,
-        )?;
+    'turns: for _turn in 0..steps.gets.len() {
+        take_best(alloc, steps, fragments, so_far)?;
     }
-    'gets: for number in 0..gets.len() {
-        take_next(
-            alloc, gets, fragments, arities, equations, head, number, so_far,
-        )?;
+    'gets: for number in 0..steps.gets.len() {
+        take_next(alloc, steps, fragments, number, so_far)?;
     }
     Ok(())
 }
 
-/// The rows that the gets give together, joined in the order of these numbers, as far as the inputs of each are known,
-/// and of all others after them.
+/// The rows that the gets give together, in the slots that the head names.
 pub(crate) fn joined_rows<F: Fragment>(
     alloc: Global,
-    gets: &Gets,
+    steps: &Prepared,
     fragments: &[F],
-    arities: &Places,
-    equations: &Equations,
-    head: &Sources,
-    order: &Places,
 ) -> Result<SoFar, OutOfMemory>
-    requires runnable { AreRunnable (map F.shape fragments.now) gets.now }
-    requires arities { AreArities (IsRowOf (held_by (map F.rows fragments.now))) gets.now arities.now }
+    requires runnable { AreRunnable (map F.shape fragments.now) steps.now.gets.now }
+    requires prepared { IsPrepared (IsRowOf (held_by (map F.rows fragments.now))) steps.now.gets.now
+        steps.now.arities.now steps.now.tables.now }
     ensures all { IfOk result (λ it. (number : ℕ)
-        → number < length gets.now → Contains it.done number) }
+        → number < length steps.now.gets.now → Contains it.done number) }
     ensures under_way { IfOk result (λ it. IsUnderWay (IsRowOf (held_by (map F.rows fragments.now)))
-        arities.now gets.now equations.now head.now it.done it.places it.rows.rows) }
+        steps.now.arities.now steps.now.gets.now steps.now.equations.now steps.now.head.now it.done it.places it.rows.rows) }
 {
     let mut so_far = nothing_done(alloc)?;
-    take_all(
-        alloc,
-        gets,
-        fragments,
-        arities,
-        equations,
-        head,
-        order,
-        &mut so_far,
-    )?;
+    take_all(alloc, steps, fragments, &mut so_far)?;
     Ok(so_far)
 }

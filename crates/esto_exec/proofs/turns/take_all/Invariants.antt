@@ -3,10 +3,10 @@ use Rattle.esto_plan.specs.Rows.{IsRowOf}
 use Rattle.esto_exec.specs.Turns.{IsUnderWay}
 use Rattle.esto_exec.proofs.turns.take_all.Given as goal
 
-abbrev pub invariant-order : goal.invariant-order
-invariant-order g l = IsUnderWay (IsRowOf (λ number. slice_index_or (map g.F.Fragment.rows l.fragments) number [])) l.arities l.gets l.equations l.head
+abbrev pub invariant-turns : goal.invariant-turns
+invariant-turns g l = IsUnderWay (IsRowOf (λ number. slice_index_or (map g.F.Fragment.rows l.fragments) number [])) l.steps.arities.now l.steps.gets.now l.steps.equations.now l.steps.head.now
     l.so_far.done l.so_far.places l.so_far.rows.rows
 
 abbrev pub invariant-gets : goal.invariant-gets
-invariant-gets g l = IsUnderWay (IsRowOf (λ number. slice_index_or (map g.F.Fragment.rows l.fragments) number [])) l.arities l.gets l.equations l.head
+invariant-gets g l = IsUnderWay (IsRowOf (λ number. slice_index_or (map g.F.Fragment.rows l.fragments) number [])) l.steps.arities.now l.steps.gets.now l.steps.equations.now l.steps.head.now
     l.so_far.done l.so_far.places l.so_far.rows.rows × ((other : ℕ) → other < l.number → Contains l.so_far.done other)
