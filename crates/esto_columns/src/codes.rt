@@ -42,8 +42,8 @@ impl Codes {
         }
     }
 
-    /// The code of the text; a new text gets the next one. `NotUtf8` comes exactly where the bytes are not UTF-8.
-    pub fn intern(&mut self, text: &[u8]) -> Result<u64, TextError>
+    /// The code of the text, which is put into the set; a new text gets the next one.
+    fn add(&mut self, text: &[u8]) -> Result<u64, TextError>
         ensures found { IfOk result (λ code. slice_get self.new code ≡ Some text.now) }
         ensures grown { IfOk result (λ code. (self.new ≡ self.old)
             ⊎ ((self.new ≡ self.old ++ text.now ∷ []) × (code ≡ length self.old))) }
@@ -62,6 +62,21 @@ impl Codes {
             return Err(TextError::OutOfMemory);
         };
         Ok(number as u64)
+    }
+
+    /// The code of the text; a new text gets the next one. `NotUtf8` comes exactly where the bytes are not UTF-8.
+    pub fn intern(&mut self, text: &[u8]) -> Result<u64, TextError>
+        ensures found { IfOk result (λ code. slice_get self.new code ≡ Some text.now) }
+        ensures grown { IfOk result (λ code. (self.new ≡ self.old)
+            ⊎ ((self.new ≡ self.old ++ text.now ∷ []) × (code ≡ length self.old))) }
+        ensures fault { IfErr result (IsRightFault text.now) }
+        ensures utf8 { IfOk result (λ _. IsUtf8 text.now) }
+        ensures err { OnErr result (self.new ≡ self.old) }
+    {
+        match self.find(text) {
+            Some(code) => Ok(code),
+            None => self.add(text),
+        }
     }
 
     /// The code of the text, if it has one.

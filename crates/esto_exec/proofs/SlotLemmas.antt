@@ -21,10 +21,10 @@ put-same choice number row = ap (λ it. cond it row (choice number)) (eq-eqb num
 pub put-other : (choice : ℕ → List ℕ) (number : ℕ) (row : List ℕ) (other : ℕ) → (other ≡ number → ⊥) → put choice number row other ≡ choice other
 put-other choice number row other differs = ap (λ it. cond it row (choice other)) (ne_eqb other number differs)
 
-lt_is : (place arity : ℕ) → nat_lt place arity ≡ true → place < arity
+pub lt_is : (place arity : ℕ) → nat_lt place arity ≡ true → place < arity
 lt_is place arity is = grind (arith, nat_tests)
 
-lt_not : (place arity : ℕ) → nat_lt place arity ≡ false → arity ≤ place
+pub lt_not : (place arity : ℕ) → nat_lt place arity ≡ false → arity ≤ place
 lt_not place arity is = grind (arith, nat_tests)
 
 -- ---- the rows of gets one after another
@@ -33,12 +33,12 @@ abbrev pub cells_from : (ℕ → List ℕ) → ℕ → ℕ → List ℕ
 cells_from choice number zero = []
 cells_from choice number (suc count) = choice number ++ cells_from choice (number + 1) count
 
-front : {X : Type 0} (xs ys : List X) (place : ℕ) → place < length xs → slice_get (xs ++ ys) place ≡ slice_get xs place
+pub front : {X : Type 0} (xs ys : List X) (place : ℕ) → place < length xs → slice_get (xs ++ ys) place ≡ slice_get xs place
 front [] ys place below = absurd (omega (arith, below))
 front (x ∷ xs) ys zero below = refl
 front (x ∷ xs) ys (suc place) below = front xs ys place (omega (arith, below))
 
-back : {X : Type 0} (xs ys : List X) (place : ℕ) → length xs ≤ place → slice_get (xs ++ ys) place ≡ slice_get ys (place - length xs)
+pub back : {X : Type 0} (xs ys : List X) (place : ℕ) → length xs ≤ place → slice_get (xs ++ ys) place ≡ slice_get ys (place - length xs)
 back [] ys place past = ap (slice_get ys) (omega (arith))
 back (x ∷ xs) ys zero past = absurd (omega (arith, past))
 back (x ∷ xs) ys (suc place) past = back xs ys place (omega (arith, past)) ∙ ap (slice_get ys) (omega (arith))

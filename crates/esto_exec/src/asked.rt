@@ -97,8 +97,7 @@ fn ask<F: Fragment>(
     let Some(key) = codes_at(alloc, cells, sources)? else {
         return Ok(());
     };
-    let known = seen.has(key.items())?;
-    if known {
+    if seen.has(key.items()) {
         return Ok(());
     }
     seen.put(alloc, key.items())?;
@@ -149,7 +148,7 @@ fn ask_all<F: Fragment>(
         → Follows get.now cells row → Contains asked.new.rows row) }
 {
     let sources = sources_of(alloc, &get.inputs)?;
-    let mut seen = Seen::new(alloc, get.inputs.len())?;
+    let mut seen = Seen::new(alloc, get.inputs.len(), so_far.len())?;
     ask_each(alloc, get, fragment, so_far, &sources, &mut seen, asked)
 }
 

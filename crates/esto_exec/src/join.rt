@@ -246,7 +246,7 @@ pub(crate) fn joined(
     ensures { IfOk result (λ it. (row : List ℕ) → Contains it.rows row
         ↔ IsKept join.now.kept (IsJoin join.now.get so_far.now.rows rows.now.rows) row) }
 {
-    let mut joined = Seen::new(alloc, join.kept.len())?;
+    let mut joined = Seen::new(alloc, join.kept.len(), so_far.len())?;
     push_all_joined(alloc, join, so_far, rows, &mut joined)?;
     Ok(joined.into_rows())
 }

@@ -27,40 +27,35 @@ impl Model for Seen {
     ghost view = { λ it. it.rows };
 }
 
-/// Whether the row stands at the place of the rows. Rows are read into the list.
-fn is_at(
-    rows: &Rows,
-    place: usize,
-    row: &[u64],
-    read: &mut Values<u64>,
-) -> Result<bool, OutOfMemory>
-    ensures { IfOk result (λ is. IsTrue is → Contains rows.now.rows row.now) }
+/// Whether the row stands at the place of the rows.
+fn is_at(rows: &Rows, place: usize, row: &[u64]) -> bool
+    ensures { IsTrue result → Contains rows.now.rows row.now }
 {
-    if place >= rows.len() {
-        return Ok(false);
+    let arity = rows.arity();
+    if place >= rows.len() || row.len() != arity {
+        return false;
     }
-    read_row(rows, place, read)?;
-    Ok(read.items() == row)
+    'columns: for column in 0..arity {
+        if rows.column(column).item(place) != row[column] {
+            return false;
+        }
+    }
+    true
 }
 
 /// Whether the row is one of the rows, as far as a look at those of its bucket tells.
-fn is_among(
-    rows: &Rows,
-    index: &Index,
-    row: &[u64],
-    read: &mut Values<u64>,
-) -> Result<bool, OutOfMemory>
-    ensures { IfOk result (λ is. IsTrue is → Contains rows.now.rows row.now) }
+fn is_among(rows: &Rows, index: &Index, row: &[u64]) -> bool
+    ensures { IsTrue result → Contains rows.now.rows row.now }
 {
     let mut next = index.last_of(row);
     'places: while next > 0 {
         let place = next - 1;
-        if is_at(rows, place, row, read)? {
-            return Ok(true);
+        if is_at(rows, place, row) {
+            return true;
         }
         next = index.before(place);
     }
-    Ok(false)
+    false
 }
 
 /// Puts each of the rows into the index.
@@ -73,26 +68,25 @@ fn index_rows(rows: &Rows, index: &mut Index, read: &mut Values<u64>) -> Result<
 }
 
 impl Seen {
-    /// No rows of the arity.
-    pub(crate) fn new(alloc: Global, arity: usize) -> Result<Seen, OutOfMemory>
+    /// No rows of the arity, with room for so many.
+    pub(crate) fn new(alloc: Global, arity: usize, room: usize) -> Result<Seen, OutOfMemory>
         ensures { IfOk result (λ it. it ≡ record { arity = arity; rows = [] }) }
     {
         let rows = Rows::new(alloc, arity)?;
-        let index = Index::new(alloc, 1)?;
+        let index = Index::new(alloc, room)?;
         Ok(Seen {
             rows,
             index,
-            room: 1,
+            room,
             read: Values::new(alloc),
         })
     }
 
     /// Whether the row was seen, as far as a look at those of its bucket tells.
-    pub(crate) fn has(&mut self, row: &[u64]) -> Result<bool, OutOfMemory>
-        ensures same { self.new ≡ self.old }
-        ensures has { IfOk result (λ has. IsTrue has → Contains self.old.rows row.now) }
+    pub(crate) fn has(&self, row: &[u64]) -> bool
+        ensures { IsTrue result → Contains self.now.rows row.now }
     {
-        is_among(&self.rows, &self.index, row, &mut self.read)
+        is_among(&self.rows, &self.index, row)
     }
 
     /// Sees to it that there is room for one more row.
@@ -132,7 +126,7 @@ pub(crate) fn put_unseen(alloc: Global, seen: &mut Seen, row: &[u64]) -> Result<
     ensures arity { OnOk result (seen.new.arity ≡ seen.old.arity) }
     ensures rows { OnOk result (GainsOnly seen.old.rows seen.new.rows (λ it. row.now ≡ it)) }
 {
-    if seen.has(row)? {
+    if seen.has(row) {
         return Ok(());
     }
     seen.put(alloc, row)

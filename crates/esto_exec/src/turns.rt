@@ -11,8 +11,9 @@ ghost use Rattle.esto_exec.specs.Slots.{side_of, IsKnown};
 ghost use Rattle.esto_exec.specs.Turns.{source_in, link_in, links_of, slots_from, IsReady, AreArities, IsPrepared, IsUnderWay, kept_slots};
 
 use crate::asked::asked_rows;
-use crate::join::{Join, joined};
+use crate::join::Join;
 use crate::order::next_get;
+use crate::reads::joined_firsts;
 use crate::slots::{
     Equation, Equations, Side, Slot, Slots, first_of, is_in, is_known, kept_slots, needed_slots, side_of, source_in,
 };
@@ -177,11 +178,11 @@ fn join_fragment<F: Fragment>(
         ↔ IsKept join.now.kept (IsJoin join.now.get so_far.old.rows (F.rows fragment.now)) row) }
 {
     if join.get.inputs.is_empty() {
-        *so_far = joined(alloc, join, so_far, table)?;
+        *so_far = joined_firsts(alloc, join, so_far, table)?;
         return Ok(());
     }
     let asked = asked_rows(alloc, &join.get, fragment, so_far)?;
-    *so_far = joined(alloc, join, so_far, &asked)?;
+    *so_far = joined_firsts(alloc, join, so_far, &asked)?;
     Ok(())
 }
 

@@ -15,13 +15,13 @@ returns-in_default-clause-complete g c = λ answered row among follows.
     (NamesCodes c.args.cells.now c.args.sources.now) c.in_default.is c.in_ok-key.ensures
     (named_by c.args.get.now (g.F.Fragment.rows c.args.fragment.now) c.args.cells.now c.args.sources.now c.requires.sources row follows))
 
-pub returns-then-known-clause-complete : goal.returns-then-known-clause-complete
-returns-then-known-clause-complete g c =
+pub returns-then-has-clause-complete : goal.returns-then-has-clause-complete
+returns-then-has-clause-complete g c =
     seen_complete c.args.get.now (g.F.Fragment.rows c.args.fragment.now) c.args.cells.now c.args.sources.now c.requires.sources c.items.result.now
     (subst (NamesCodes c.args.cells.now c.args.sources.now) (sym c.items.ensures)
     (MatchOption-at_some (¬ ((codes : List ℕ) × NamesCodes c.args.cells.now c.args.sources.now codes))
     (NamesCodes c.args.cells.now c.args.sources.now) c.in-Some.key c.in-Some.is c.in_ok-key.ensures))
-    c.args.seen.now.rows c.args.asked.now.rows (c.in_ok-known.ensures.has c.if-known.true)
+    c.args.seen.now.rows c.args.asked.now.rows (c.has.ensures c.if-has.true)
 
 pub push_asked-requires-clause-key : goal.push_asked-requires-clause-key
 push_asked-requires-clause-key g c =
@@ -59,7 +59,6 @@ returns-clause-answered g c =
     refl
     c.args.get.now c.items-3.result.now refl c.args.seen.now.rows c.put.new.self.rows
     (inr (ap (λ (it : CodedRows). it.rows) c.in_ok-put.ensures
-    ∙ ap (λ (it : CodedRows). it.rows ++ c.items-2.result.now ∷ []) c.has.ensures.same
     ∙ ap (λ it. c.args.seen.now.rows ++ it ∷ []) (c.items-2.ensures ∙ sym c.items-3.ensures))))
     c.push_asked.ensures
 
