@@ -74,7 +74,11 @@ impl Codes {
         ensures err { OnErr result (self.new ≡ self.old) }
     {
         match self.find(text) {
-            Some(code) => Ok(code),
+            Some(code) => {
+                // the text is read so that it is known to be UTF-8
+                let _known = self.text(code);
+                Ok(code)
+            }
             None => self.add(text),
         }
     }

@@ -15,7 +15,8 @@ use crate::join::Join;
 use crate::order::next_get;
 use crate::reads::joined_firsts;
 use crate::slots::{
-    Equation, Equations, Side, Slot, Slots, first_of, is_in, is_known, kept_slots, needed_slots, side_of, source_in,
+    Equation, Equations, Side, Slot, Slots, first_of, is_in, is_known, kept_slots, needed_slots,
+    side_of, source_in,
 };
 use esto_columns::{Fragment, Rows};
 use esto_plan::{Get, Gets, Link, Links, Source, Sources};
