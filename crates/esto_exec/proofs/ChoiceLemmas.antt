@@ -5,7 +5,8 @@ use Rattle.std.proofs.lemmas.List.{map-append}
 use Rattle.std.proofs.lemmas.List.Elements.{Contains-append_left, Contains-push, Contains-push_cases}
 use Rattle.std.proofs.lemmas.Option.{same_Some}
 use Rattle.esto_semantics.specs.declared.fact.Fact.{Fact}
-use Rattle.esto_term.proofs.ListLemmas.{Contains-nil, Contains-one, Contains-head, Contains-map, Contains-map_from, map_agree, Contains-flat, Contains-flat_from}
+use Rattle.esto_term.proofs.ListLemmas.{Contains-nil, Contains-one, Contains-head, Contains-map, Contains-map_from, map_agree, Contains-flat}
+use Rattle.esto_term.proofs.ListLemmas.{Contains-flat_from}
 use Rattle.esto_plan.specs.declared.steps.Get.{Get}
 use Rattle.esto_plan.specs.declared.steps.Link.{Link}
 use Rattle.esto_plan.specs.Meaning.{code_at, IsMet, Follows}
@@ -18,7 +19,8 @@ use Rattle.esto_exec.specs.declared.slots.Side.{Side}
 use Rattle.esto_exec.specs.declared.slots.Side.TheVariants.{Constant, Held, Nothing}
 use Rattle.esto_exec.specs.declared.slots.Equation.{Equation}
 use Rattle.esto_exec.proofs.SlotLemmas.{put, put-same, put-other}
-use Rattle.esto_exec.proofs.TurnLemmas.{equal_numbers, numbers_equal, other_numbers, both_true, in_is, is_in-from, known_is, is_known-from, known_more, AreDoneLong}
+use Rattle.esto_exec.proofs.TurnLemmas.{equal_numbers, numbers_equal, other_numbers, both_true, in_is, is_in-from, known_is, is_known-from, known_more}
+use Rattle.esto_exec.proofs.TurnLemmas.{AreDoneLong}
 use Rattle.esto_exec.proofs.TurnLemmas.{source_in_reads, slots_read, slots_more, parts_split}
 
 -- ---- the links that an equation gives
@@ -187,7 +189,8 @@ module _ (Holds : Fact ℕ → Type 0) (arities : List ℕ) (gets : List Get) (e
         next_old n inside = put-other choice number row n (λ same. fresh (subst (Contains done) same inside))
 
         next_cells : map (slot_at next) places ≡ map Some cells
-        next_cells = map_agree (slot_at next) (slot_at choice) places (λ slot inside. ap (λ it. slice_get it slot.column) (next_old slot.get (slots.own slot inside)))
+        next_cells = map_agree (slot_at next) (slot_at choice) places (λ slot inside. ap (λ it. slice_get it slot.column) (next_old slot.get
+            (slots.own slot inside)))
             ∙ cells_are
 
         next_wide : map (slot_at next) wide ≡ map Some (cells ++ row)
@@ -218,7 +221,8 @@ module _ (Holds : Fact ℕ → Type 0) (arities : List ℕ) (gets : List Get) (e
                 side_agrees done choice next (side_of (take n arities) link.source) next_old (settled n own old own_at link linked) ∙ equal.2,
               )
           | inr same ↦ subst (λ m. AreEqual next (record { get = m; column = link.column }) (side_of (take m arities) link.source)) same (here (
-              let one : get ≡ own = same_Some get own (sym at ∙ ap (slice_get gets) same ∙ own_at) in subst (λ (it : Get). Contains it.inputs link) (sym one) linked))
+              let one : get ≡ own = same_Some get own (sym at ∙ ap (slice_get gets) same ∙ own_at) in subst (λ (it : Get). Contains it.inputs link)
+              (sym one) linked))
         ]
           where
             here : Contains get.inputs link → AreEqual next (record { get = number; column = link.column }) (side_of (take number arities) link.source)
@@ -249,7 +253,8 @@ module _ (Holds : Fact ℕ → Type 0) (arities : List ℕ) (gets : List Get) (e
         met_by equation among_all link there = follows.filters link (subst (λ them. Contains them link) (sym filters_are)
             (Contains-flat (links_of number all wide) equations equation link among_all there))
 
-        source_is : (side : Side) → IsKnown all side → ((slot : Slot) → side ≡ Held slot → Contains needed slot) → code_at (cells ++ row) (source_in wide side) ≡ side_at next side
+        source_is : (side : Side) → IsKnown all side → ((slot : Slot) → side ≡ Held slot → Contains needed slot)
+            → code_at (cells ++ row) (source_in wide side) ≡ side_at next side
         source_is side known is_needed = source_in_reads next needed arities all wide (cells ++ row) side wide_slots next_long next_wide known is_needed
 
         new_filters : (equation : Equation) → Contains equations equation → equation.slot.get ≡ number → IsKnown all equation.side
@@ -317,7 +322,8 @@ module _ (Holds : Fact ℕ → Type 0) (arities : List ℕ) (gets : List Get) (e
             let row_is = same_some parted.1 (choice number) (sym parted.4 ∙ row_read) in
             (parted.0, parted.3, parted.2 ∙ ap (λ row. parted.0 ++ row) row_is)
 
-        read : (side : Side) → IsKnown all side → ((slot : Slot) → side ≡ Held slot → Contains needed slot) → code_at both (source_in wide side) ≡ side_at choice side
+        read : (side : Side) → IsKnown all side → ((slot : Slot) → side ≡ Held slot → Contains needed slot)
+            → code_at both (source_in wide side) ≡ side_at choice side
         read side known is_needed = source_in_reads choice needed arities all wide both side wide_slots long both_are known is_needed
 
         inputs_met : (cells : List ℕ) → map (slot_at choice) places ≡ map Some cells → (link : Link) → Contains own_get.inputs link
@@ -329,7 +335,8 @@ module _ (Holds : Fact ℕ → Type 0) (arities : List ℕ) (gets : List Get) (e
             subst (IsMet cells (choice number)) found.2 (
               equal.0,
               equal.1,
-              source_in_reads choice needed arities done places cells side slots (choice_long done choice known_gets (choice_less done number choice is)) cells_are
+              source_in_reads choice needed arities done places cells side slots (choice_long done choice known_gets
+                  (choice_less done number choice is)) cells_are
                   (ready found.0 found.1) (λ slot is_slot. needs.inputs number get found.0 slot at found.1 fresh is_slot) ∙ equal.2,
             )
 
@@ -345,7 +352,8 @@ module _ (Holds : Fact ℕ → Type 0) (arities : List ℕ) (gets : List Get) (e
                     read (found.0).side own.known (λ slot is_slot. needs.sides found.0 slot found.1 (own_open found.0 own.get) is_slot) ∙ equal.2,
                   )
               | inr back ↦
-                  let known : IsKnown all (found.0).side = subst (IsKnown all) (sym back.side) (subst (Contains all) (sym back.get) (Contains-push done number)) in
+                  let known : IsKnown all (found.0).side = subst (IsKnown all) (sym back.side) (subst (Contains all) (sym back.get)
+                  (Contains-push done number)) in
                   let equal = is.filters found.0 found.1 back.inside known in
                   subst (IsMet both (choice number)) (sym back.is) (
                     equal.0,

@@ -1,6 +1,7 @@
 -- Rows that stand for others, which have the same codes where a join reads them.
-use Rattle.std.proofs.Common.{◌≡◌, ◌↔◌, ◌⊎◌, inl, inr, ℕ, ◌+◌, ◌-◌, ◌<◌, ◌≤◌, nat_lt, Bool, true, false, cond, List, [], ◌∷◌, ◌++◌, map, flat_map, length, get_or, take}
-use Rattle.std.proofs.Common.{Some, slice_get, Contains, refl, sym, ap, ◌∙◌, subst, arith}
+use Rattle.std.proofs.Common.{◌≡◌, ◌↔◌, ◌⊎◌, inl, inr, ℕ, ◌+◌, ◌-◌, ◌<◌, ◌≤◌, nat_lt, Bool, true, false, cond, List, [], ◌∷◌, ◌++◌, map, flat_map, length}
+use Rattle.std.proofs.Common.{get_or, take}
+use Rattle.std.proofs.Common.{slice_get, Contains, refl, sym, ap, ◌∙◌, subst, arith}
 use Rattle.std.proofs.lemmas.List.{take_all}
 use Rattle.std.proofs.lemmas.List.Elements.{Contains-append_left, Contains-append_right, Contains-push, Contains-push_cases}
 use Rattle.esto_term.proofs.ListLemmas.{Contains-nil, Contains-head, Contains-rest, Contains-cases, Contains-map, Contains-flat, map_agree}
@@ -8,7 +9,7 @@ use Rattle.esto_plan.specs.declared.steps.Get.{Get}
 use Rattle.esto_plan.specs.declared.steps.Link.{Link}
 use Rattle.esto_plan.specs.declared.steps.Source.{Source}
 use Rattle.esto_plan.specs.declared.steps.Source.TheVariants.{Code, Cell}
-use Rattle.esto_plan.specs.Meaning.{code_at, IsMet, Follows}
+use Rattle.esto_plan.specs.Meaning.{code_at, Follows}
 use Rattle.esto_exec.specs.Joined.{IsJoin, IsKept}
 use Rattle.esto_exec.specs.Named.{NamesCodes}
 use Rattle.esto_exec.specs.Reads.{own_cells, filter_cells, read_cells, AgreeOn, StandFor, AreStood}

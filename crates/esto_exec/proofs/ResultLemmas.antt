@@ -126,7 +126,8 @@ module _ (Holds : Fact ℕ → Type 0) where
       later : Goes Holds (get ∷ gets) number choice → Goes Holds gets (number + 1) choice
       later goes_on at own there =
           let next : number + suc at ≡ number + 1 + at = omega (arith) in
-          subst (λ n. Holds (record { relation = own.fragment; terms = choice n }) × Follows own (cells_from choice 0 n) (choice n)) next (goes_on (suc at) own there)
+          subst (λ n. Holds (record { relation = own.fragment; terms = choice n }) × Follows own (cells_from choice 0 n) (choice n)) next (goes_on
+          (suc at) own there)
 
 -- ---- equations
 
@@ -289,7 +290,8 @@ module _ (Holds : Fact ℕ → Type 0) (arities : List ℕ) (gets : List Get) (l
                 ∙ reads choice held (found.0 + 1) (omega (arith, below)) (found.2).source)
                 ∙ met.2,
           ) in
-          let shifted = subst (λ n. AreEqual choice (record { get = n; column = (found.2).column }) (side_of (take (n + 1) arities) (found.2).source)) number own in
+          let shifted = subst (λ n. AreEqual choice (record { get = n; column = (found.2).column }) (side_of (take (n + 1) arities)
+          (found.2).source)) number own in
           subst (λ (it : Equation). AreEqual choice it.slot it.side) (sym found.5) shifted;
     }
       where
@@ -323,7 +325,8 @@ module _ (Holds : Fact ℕ → Type 0) (arities : List ℕ) (gets : List Get) (l
           let number : 0 + at ≡ at = omega (arith) in
           ap (λ n. length (chosen n)) number ∙ own.2 ∙ same_Some own.0 arity (sym own.1 ∙ is)
 
-  pub parts_are_results : (needed : List Slot) (places : List Slot) (rows results : List (List ℕ)) (steps_head : List Source) (named : (n : ℕ) → Contains done n → n < length gets)
+  pub parts_are_results : (needed : List Slot) (places : List Slot) (rows results : List (List ℕ)) (steps_head : List Source) (named : (n : ℕ)
+      → Contains done n → n < length gets)
       → ((source : Source) (slot : Slot) → Contains steps_head source → side_of arities source ≡ Held slot → Contains needed slot)
       → AreSlots needed arities done places → AreParts Holds arities gets (equations_from arities 0 gets) done places (Contains rows)
       → ((row : List ℕ) → Contains results row
@@ -360,7 +363,8 @@ module _ (Holds : Fact ℕ → Type 0) (arities : List ℕ) (gets : List Get) (l
       by_end end (choice, _, goes, end_is) head_is =
           let is = goes_choice choice goes in
           let held = choice_held choice is in
-          let cells = cells_of arities done choice (done_long choice held) places (λ slot among. (slots.own slot among, λ arity at. slots.within slot arity among at)) in
+          let cells = cells_of arities done choice (done_long choice held) places (λ slot among.
+          (slots.own slot among, λ arity at. slots.within slot arity among at)) in
           let count : 0 + length gets ≡ length gets = omega (arith) in
           (projected row).1 (
             cells.0,

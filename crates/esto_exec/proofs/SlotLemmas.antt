@@ -64,7 +64,8 @@ side_reads choice number (arity ∷ rest) place long =
         → slice_get (choice number ++ cells_from choice (number + 1) (length rest)) place
         ≡ side_at choice (cond answer (Held (record { get = number; column = place })) (side_from (number + 1) rest (place - arity)))
     by later true is = front (choice number) (cells_from choice (number + 1) (length rest)) place (let less = lt_is place arity is in omega (arith, less, here))
-    by later false is = back (choice number) (cells_from choice (number + 1) (length rest)) place (let past = lt_not place arity is in omega (arith, past, here))
+    by later false is = back (choice number) (cells_from choice (number + 1) (length rest)) place (let past = lt_not place arity is in omega
+        (arith, past, here))
         ∙ ap (λ n. slice_get (cells_from choice (number + 1) (length rest)) (place - n)) here
         ∙ later
 

@@ -1,5 +1,6 @@
 -- A turn: one more get is joined.
-use Rattle.std.proofs.Common.{◌≡◌, ◌⊎◌, inl, inr, ℕ, zero, suc, ◌+◌, ◌-◌, ◌<◌, ◌≤◌, ◌==◌, ◌&&◌, ◌||◌, Bool, true, false, cond, List, [], ◌∷◌, ◌++◌, map, flat_map}
+use Rattle.std.proofs.Common.{◌≡◌, ◌⊎◌, inl, inr, ℕ, zero, suc, ◌+◌, ◌-◌, ◌<◌, ◌≤◌, ◌==◌, ◌&&◌, ◌||◌, Bool, true, false, cond, List, [], ◌∷◌, ◌++◌, map}
+use Rattle.std.proofs.Common.{flat_map}
 use Rattle.std.proofs.Common.{length, take, Option, Some, None, slice_get, Contains, refl, sym, ap, ◌∙◌, subst, arith}
 use Rattle.std.proofs.lemmas.Bool.Decides.{nat_tests}
 use Rattle.std.proofs.lemmas.Bool.{cases_order}
@@ -135,13 +136,15 @@ module _ (choice : ℕ → List ℕ) where
       → ((slot : Slot) → side ≡ Held slot → Contains needed slot)
       → code_at cells (source_in places side) ≡ side_at choice side
   source_in_reads needed arities done places cells (Constant code) slots long is known is_needed = refl
-  source_in_reads needed arities done places cells Nothing slots long is known is_needed = slice_get_past cells (length places) (let same = parts_long places cells is in omega (arith, same))
+  source_in_reads needed arities done places cells Nothing slots long is known is_needed = slice_get_past cells (length places)
+      (let same = parts_long places cells is in omega (arith, same))
   source_in_reads needed arities done places cells (Held slot) slots long is known is_needed = elim (place_reads places cells slot is) [
     | inl found ↦ found
     | inr (none, absent) ↦ none ∙ sym (by (long slot.get known) absent)
   ]
     where
-      by : ((arity : ℕ) × (slice_get arities slot.get ≡ Some arity) × (length (choice slot.get) ≡ arity)) → (Contains places slot → ⊥) → slot_at choice slot ≡ None
+      by : ((arity : ℕ) × (slice_get arities slot.get ≡ Some arity) × (length (choice slot.get) ≡ arity)) → (Contains places slot → ⊥)
+          → slot_at choice slot ≡ None
       by (arity, is_arity, same) absent = elim (below_or_past slot.column arity) [
         | inl below ↦ absurd (absent (slots.there slot arity (is_needed slot refl) known is_arity below))
         | inr past ↦ slice_get_past (choice slot.get) slot.column (omega (arith, past, same))
@@ -160,7 +163,8 @@ pub slots_read : (choice : ℕ → List ℕ) (number : ℕ) (before row : List �
     → map (slot_at choice) (slots_from number (length before) (length row)) ≡ map Some row
 slots_read choice number before [] is = refl
 slots_read choice number before (code ∷ row) is =
-    let first : slot_at choice (record { get = number; column = length before }) ≡ Some code = ap (λ it. slice_get it (length before)) is ∙ at_middle before code row in
+    let first : slot_at choice (record { get = number; column = length before }) ≡ Some code = ap (λ it. slice_get it (length before)) is
+    ∙ at_middle before code row in
     let rest = slots_read choice number (before ++ code ∷ []) row (is ∙ sym (append_assoc before (code ∷ []) row)) in
     let long = length-append before (code ∷ []) in
     (λ i. first i ∷ map (slot_at choice) (slots_from number (sym long i) (length row))) ∙ ap (λ them. Some code ∷ them) rest
@@ -171,17 +175,19 @@ slots_read choice number before (code ∷ row) is =
 
 slots_of_get : (number column count : ℕ) (slot : Slot) → Contains (slots_from number column count) slot → slot.get ≡ number
 slots_of_get number column zero slot inside = absurd (Contains-nil slot inside)
-slots_of_get number column (suc count) slot inside = elim (Contains-cases (record { get = number; column = column }) (slots_from number (column + 1) count) slot inside) [
-  | inl is ↦ sym (ap (λ (it : Slot). it.get) is)
-  | inr later ↦ slots_of_get number (column + 1) count slot later
-]
+slots_of_get number column (suc count) slot inside = elim (Contains-cases (record { get = number; column = column }) (slots_from number
+    (column + 1) count) slot inside) [
+      | inl is ↦ sym (ap (λ (it : Slot). it.get) is)
+      | inr later ↦ slots_of_get number (column + 1) count slot later
+    ]
 
 slots_within : (number column count : ℕ) (slot : Slot) → Contains (slots_from number column count) slot → slot.column < column + count
 slots_within number column zero slot inside = absurd (Contains-nil slot inside)
-slots_within number column (suc count) slot inside = elim (Contains-cases (record { get = number; column = column }) (slots_from number (column + 1) count) slot inside) [
-  | inl is ↦ let same = ap (λ (it : Slot). it.column) is in omega (arith, same)
-  | inr later ↦ let below = slots_within number (column + 1) count slot later in omega (arith, below)
-]
+slots_within number column (suc count) slot inside = elim (Contains-cases (record { get = number; column = column }) (slots_from number
+    (column + 1) count) slot inside) [
+      | inl is ↦ let same = ap (λ (it : Slot). it.column) is in omega (arith, same)
+      | inr later ↦ let below = slots_within number (column + 1) count slot later in omega (arith, below)
+    ]
 
 slots_have : (number column count : ℕ) (slot : Slot) → slot.get ≡ number → column ≤ slot.column → slot.column < column + count
     → Contains (slots_from number column count) slot
@@ -194,7 +200,8 @@ slots_have number column (suc count) slot is past below = elim (cases_order slot
       (slots_have number (column + 1) count slot is (omega (arith, over)) (omega (arith, below)))
 ]
 
-pub slots_more : (needed : List Slot) (arities done : List ℕ) (places : List Slot) (number arity : ℕ) → slice_get arities number ≡ Some arity → AreSlots needed arities done places
+pub slots_more : (needed : List Slot) (arities done : List ℕ) (places : List Slot) (number arity : ℕ) → slice_get arities number ≡ Some arity
+    → AreSlots needed arities done places
     → AreSlots needed arities (done ++ number ∷ []) (places ++ slots_from number 0 arity)
 slots_more needed arities done places number arity is slots = record {
   there = λ slot own is_needed inside own_is below. elim (Contains-push_cases done number slot.get inside) [
@@ -266,7 +273,8 @@ kept_needed needed (first ∷ rest) slot inside is_needed = elim (Contains-cases
   | inl is ↦ Contains-append_left (cond (is_among needed first) (first ∷ []) []) (kept_slots needed rest) slot
       (subst (λ b. Contains (cond b (first ∷ []) []) slot) (sym (among_is needed first (subst (Contains needed) (sym is) is_needed)))
       (subst (Contains (first ∷ [])) is (Contains-head first [])))
-  | inr later ↦ Contains-append_right (cond (is_among needed first) (first ∷ []) []) (kept_slots needed rest) slot (kept_needed needed rest slot later is_needed)
+  | inr later ↦ Contains-append_right (cond (is_among needed first) (first ∷ []) []) (kept_slots needed rest) slot
+      (kept_needed needed rest slot later is_needed)
 ]
 
 side_slot : (side : Side) (slot : Slot) → side ≡ Held slot → Contains (side_slots side) slot
@@ -370,7 +378,8 @@ module _ (arities : List ℕ) (gets : List Get) (equations : List Equation) (hea
 
     in_equations : (equation : Equation) (slot : Slot) → Contains equations equation → (Contains done equation.slot.get × IsKnown done equation.side → ⊥)
         → Contains (equation.slot ∷ side_slots equation.side) slot → Contains (needed_slots arities gets equations head done) slot
-    in_equations equation slot among undecided inside = in_links slot (Contains-append_left (equation_slots done equations) (input_slots arities done 0 gets) slot
+    in_equations equation slot among undecided inside = in_links slot (Contains-append_left (equation_slots done equations)
+        (input_slots arities done 0 gets) slot
         (Contains-flat (open_slots done) equations equation slot among
         (if_not (is_decided done equation) (equation.slot ∷ side_slots equation.side) slot (λ is. undecided (decided_is done equation is)) inside)))
 
@@ -388,5 +397,6 @@ module _ (arities : List ℕ) (gets : List Get) (equations : List Equation) (hea
 
     pub head_needed : (source : Source) (slot : Slot) → Contains head source → side_of arities source ≡ Held slot
         → Contains (needed_slots arities gets equations head done) slot
-    head_needed source slot inside side = Contains-append_right (equation_slots done equations ++ input_slots arities done 0 gets) (head_slots arities head) slot
+    head_needed source slot inside side = Contains-append_right (equation_slots done equations ++ input_slots arities done 0 gets)
+        (head_slots arities head) slot
         (Contains-flat (λ it. side_slots (side_of arities it)) head source slot inside (side_slot (side_of arities source) slot side))

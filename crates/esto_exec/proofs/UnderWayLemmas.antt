@@ -18,7 +18,8 @@ use Rattle.esto_plan.proofs.MeaningLemmas.{same_some}
 use Rattle.esto_exec.specs.Joined.{IsJoin, IsKept}
 use Rattle.esto_exec.specs.Named.{NamesCodes}
 use Rattle.esto_exec.specs.Slots.{IsChoice, side_of, IsKnown, equations_from, slot_at}
-use Rattle.esto_exec.specs.Turns.{AreSlots, needed_slots, kept_slots, source_in, link_in, links_of, slots_from, IsReady, AreArities, AreTables, IsUnderWay, AreParts}
+use Rattle.esto_exec.specs.Turns.{AreSlots, needed_slots, kept_slots, source_in, link_in, links_of, slots_from, IsReady, AreArities, AreTables, IsUnderWay}
+use Rattle.esto_exec.specs.Turns.{AreParts}
 use Rattle.esto_exec.specs.declared.slots.Slot.{Slot}
 use Rattle.esto_exec.specs.declared.slots.Side.TheVariants.{Held}
 use Rattle.esto_exec.specs.declared.slots.Equation.{Equation}
@@ -235,7 +236,8 @@ results_told Holds steps arities done places rows results head are all under hea
 
 pub links_in_columns : (places : List Slot) (arities : List ℕ) (links own : List Link) → own ≡ map (link_in places arities) links
     → map (λ (link : Link). link.column) own ≡ map (λ (link : Link). link.column) links
-links_in_columns places arities links own is = ap (map (λ (link : Link). link.column)) is ∙ map_then (link_in places arities) (λ (link : Link). link.column) links
+links_in_columns places arities links own is = ap (map (λ (link : Link). link.column)) is ∙ map_then (link_in places arities) (λ
+    (link : Link). link.column) links
 
 pub before_same : (done : List ℕ) (number : ℕ) → Contains done number → ((other : ℕ) → other < number → Contains done other)
     → (other : ℕ) → other < number + 1 → Contains done other

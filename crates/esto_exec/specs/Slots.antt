@@ -52,7 +52,8 @@ IsKnown done (Held slot) = Contains done slot.get
 IsKnown done Nothing = Unit {0}
 
 -- The choice has for each get that is done a row of its fragment, and meets what the links say of these rows alone.
-pub record IsChoice (Holds : Fact ℕ → Type 0) (arities : List ℕ) (gets : List Get) (equations : List Equation) (done : List ℕ) (choice : ℕ → List ℕ) : Type 0 where
+pub record IsChoice (Holds : Fact ℕ → Type 0) (arities : List ℕ) (gets : List Get) (equations : List Equation) (done : List ℕ) (choice : ℕ
+    → List ℕ) : Type 0 where
   pub held : (number : ℕ) (get : Get) → Contains done number → slice_get gets number ≡ Some get
       → Holds (record { relation = get.fragment; terms = choice number })
   pub inputs : (number : ℕ) (get : Get) (link : Link) → Contains done number → slice_get gets number ≡ Some get → Contains get.inputs link

@@ -1,5 +1,6 @@
 -- Joins in an order of our own: where cells stand in rows so far, and which links a get has there.
-use Rattle.std.specs.Prelude.{◌≡◌, ◌==◌, ◌&&◌, ◌||◌, ◌↔◌, ℕ, zero, suc, ◌+◌, ◌<◌, Bool, true, false, cond, List, [], ◌∷◌, ◌++◌, Some, length, map, flat_map, take, slice_get, Contains}
+use Rattle.std.specs.Prelude.{◌≡◌, ◌==◌, ◌&&◌, ◌||◌, ◌↔◌, ℕ, zero, suc, ◌+◌, ◌<◌, Bool, true, false, cond, List, [], ◌∷◌, ◌++◌, Some, length, map, flat_map}
+use Rattle.std.specs.Prelude.{take, slice_get, Contains}
 use Rattle.esto_semantics.specs.declared.fact.Fact.{Fact}
 use Rattle.esto_columns.specs.CodedRows.{CodedRows}
 use Rattle.esto_plan.specs.declared.steps.Get.{Get}

@@ -1,5 +1,5 @@
 //! Indexes of rows by the codes that sources name in them.
-ghost use Rattle.std.specs.Prelude.{◌≡◌, ◌+◌, ◌<◌, List, ℕ, length, take, IfOk, OnOk};
+ghost use Rattle.std.specs.Prelude.{◌+◌, ◌<◌, length, take, IfOk, OnOk};
 ghost use Rattle.esto_exec.specs.Indexed.{FindsRows};
 
 use crate::codes::{name_codes, read_row};

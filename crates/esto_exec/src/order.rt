@@ -204,7 +204,7 @@ pub(crate) fn next_get(
     if !linked.is_empty() {
         candidates = linked;
     }
-    if candidates.len() < 2 {
+    if candidates.len() < 2 || so_far.rows.len() == 0 {
         return Ok(candidates.items().first().copied());
     }
     fewest(alloc, steps, so_far, &candidates)

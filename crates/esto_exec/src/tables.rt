@@ -1,5 +1,5 @@
 //! The rows of the gets that have no inputs.
-ghost use Rattle.std.specs.Prelude.{◌≡◌, List, ℕ, length, map, Contains, IfOk};
+ghost use Rattle.std.specs.Prelude.{◌≡◌, List, length, map, IfOk};
 ghost use Rattle.esto_columns.specs.Asked.{IsAllowed};
 ghost use Rattle.esto_exec.specs.Runnable.{AreRunnable};
 ghost use Rattle.esto_exec.specs.Turns.{AreTables};

@@ -1,5 +1,5 @@
 //! Turns: one get after another is joined, in an order of our own.
-ghost use Rattle.std.specs.Prelude.{◌≡◌, ◌↔◌, ◌<◌, ◌+◌, ◌++◌, ◌∷◌, [], List, ℕ, length, map, flat_map, take, slice_get, Some, Contains, IfOk, OnOk, IsTrue};
+ghost use Rattle.std.specs.Prelude.{◌≡◌, ◌↔◌, ◌<◌, ◌+◌, ◌++◌, ◌∷◌, [], List, ℕ, length, map, flat_map, slice_get, Some, Contains, IfOk, OnOk, IsTrue};
 ghost use Rattle.esto_plan.specs.declared.steps.Get.{Get};
 ghost use Rattle.esto_plan.specs.declared.steps.Link.{Link};
 ghost use Rattle.esto_plan.specs.Rows.{IsRowOf, held_by};
@@ -8,7 +8,8 @@ ghost use Rattle.esto_exec.specs.Joined.{IsJoin, IsKept};
 ghost use Rattle.esto_exec.specs.declared.slots.Side.TheVariants.{Held};
 ghost use Rattle.esto_exec.specs.Runnable.{AreRunnable};
 ghost use Rattle.esto_exec.specs.Slots.{side_of, IsKnown};
-ghost use Rattle.esto_exec.specs.Turns.{source_in, link_in, links_of, slots_from, IsReady, AreArities, IsPrepared, IsUnderWay, kept_slots};
+ghost use Rattle.esto_exec.specs.SoFar.{IsSoFar};
+ghost use Rattle.esto_exec.specs.Turns.{source_in, link_in, links_of, slots_from, IsReady, AreArities, IsPrepared, kept_slots};
 
 use crate::asked::asked_rows;
 use crate::join::Join;
@@ -50,7 +51,8 @@ fn push_link(
     places: &Slots,
     equation: &Equation,
 ) -> Result<(), OutOfMemory>
-    ensures { OnOk result (links.new ≡ links.old ++ links_of number done.now places.now equation.now) }
+    ensures { OnOk result
+        (links.new ≡ links.old ++ links_of number done.now places.now equation.now) }
 {
     if equation.slot.get == number {
         if !is_known(done, &equation.side) {
@@ -154,7 +156,8 @@ pub(crate) fn head_in(
     arities: &Places,
     head: &Sources,
 ) -> Result<Sources, OutOfMemory>
-    ensures { IfOk result (λ it. it ≡ map (λ source. source_in places.now (side_of arities.now source)) head.now) }
+    ensures { IfOk result (λ it.
+        it ≡ map (λ source. source_in places.now (side_of arities.now source)) head.now) }
 {
     let mut sources = List::new(alloc);
     'sources: for source in head.items() {
@@ -174,7 +177,8 @@ fn join_fragment<F: Fragment>(
 ) -> Result<(), OutOfMemory>
     requires table { length join.now.get.inputs ≡ 0 → (row : List ℕ)
         → Contains table.now.rows row ↔ Contains (F.rows fragment.now) row }
-    requires allowed { IsAllowed (F.shape fragment.now) (map (λ link. link.column) join.now.get.inputs) }
+    requires allowed { IsAllowed (F.shape fragment.now)
+        (map (λ link. link.column) join.now.get.inputs) }
     ensures { OnOk result ((row : List ℕ) → Contains so_far.new.rows row
         ↔ IsKept join.now.kept (IsJoin join.now.get so_far.old.rows (F.rows fragment.now)) row) }
 {
@@ -260,11 +264,11 @@ fn take_turn<F: Fragment>(
     requires fresh { ¬ (Contains so_far.old.done number) }
     requires ready { (get : Get) → slice_get steps.now.gets.now number ≡ Some get
         → IsReady steps.now.arities.now so_far.old.done get number }
-    requires under_way { IsUnderWay (IsRowOf (held_by (map F.rows fragments.now))) steps.now.arities.now
-        steps.now.gets.now steps.now.equations.now steps.now.head.now so_far.old.done so_far.old.places so_far.old.rows.rows }
+    requires under_way { IsSoFar (IsRowOf (held_by (map F.rows fragments.now)))
+        steps.now so_far.old }
     ensures done { OnOk result (so_far.new.done ≡ so_far.old.done ++ number ∷ []) }
-    ensures under_way { OnOk result (IsUnderWay (IsRowOf (held_by (map F.rows fragments.now)))
-        steps.now.arities.now steps.now.gets.now steps.now.equations.now steps.now.head.now so_far.new.done so_far.new.places so_far.new.rows.rows) }
+    ensures under_way { OnOk result (IsSoFar (IsRowOf (held_by (map F.rows fragments.now)))
+        steps.now so_far.new) }
 {
     let get = steps.gets.item(number);
     let inputs = links_in(
@@ -311,10 +315,10 @@ fn take_if_ready<F: Fragment>(
     requires runnable { AreRunnable (map F.shape fragments.now) steps.now.gets.now }
     requires prepared { IsPrepared (IsRowOf (held_by (map F.rows fragments.now))) steps.now.gets.now
         steps.now.arities.now steps.now.tables.now }
-    requires under_way { IsUnderWay (IsRowOf (held_by (map F.rows fragments.now))) steps.now.arities.now
-        steps.now.gets.now steps.now.equations.now steps.now.head.now so_far.old.done so_far.old.places so_far.old.rows.rows }
-    ensures { OnOk result (IsUnderWay (IsRowOf (held_by (map F.rows fragments.now)))
-        steps.now.arities.now steps.now.gets.now steps.now.equations.now steps.now.head.now so_far.new.done so_far.new.places so_far.new.rows.rows) }
+    requires under_way { IsSoFar (IsRowOf (held_by (map F.rows fragments.now)))
+        steps.now so_far.old }
+    ensures { OnOk result (IsSoFar (IsRowOf (held_by (map F.rows fragments.now)))
+        steps.now so_far.new) }
 {
     if number >= steps.gets.len() || is_in(&so_far.done, number) {
         return Ok(());
@@ -339,10 +343,10 @@ fn take_best<F: Fragment>(
     requires runnable { AreRunnable (map F.shape fragments.now) steps.now.gets.now }
     requires prepared { IsPrepared (IsRowOf (held_by (map F.rows fragments.now))) steps.now.gets.now
         steps.now.arities.now steps.now.tables.now }
-    requires under_way { IsUnderWay (IsRowOf (held_by (map F.rows fragments.now))) steps.now.arities.now
-        steps.now.gets.now steps.now.equations.now steps.now.head.now so_far.old.done so_far.old.places so_far.old.rows.rows }
-    ensures { OnOk result (IsUnderWay (IsRowOf (held_by (map F.rows fragments.now)))
-        steps.now.arities.now steps.now.gets.now steps.now.equations.now steps.now.head.now so_far.new.done so_far.new.places so_far.new.rows.rows) }
+    requires under_way { IsSoFar (IsRowOf (held_by (map F.rows fragments.now)))
+        steps.now so_far.old }
+    ensures { OnOk result (IsSoFar (IsRowOf (held_by (map F.rows fragments.now)))
+        steps.now so_far.new) }
 {
     match next_get(alloc, steps, so_far)? {
         Some(number) => take_if_ready(alloc, steps, fragments, number, so_far),
@@ -363,12 +367,12 @@ fn take_next<F: Fragment>(
         steps.now.arities.now steps.now.tables.now }
     requires there { number < length steps.now.gets.now }
     requires before { (other : ℕ) → other < number → Contains so_far.old.done other }
-    requires under_way { IsUnderWay (IsRowOf (held_by (map F.rows fragments.now))) steps.now.arities.now
-        steps.now.gets.now steps.now.equations.now steps.now.head.now so_far.old.done so_far.old.places so_far.old.rows.rows }
+    requires under_way { IsSoFar (IsRowOf (held_by (map F.rows fragments.now)))
+        steps.now so_far.old }
     ensures before { OnOk result ((other : ℕ)
         → other < number + 1 → Contains so_far.new.done other) }
-    ensures under_way { OnOk result (IsUnderWay (IsRowOf (held_by (map F.rows fragments.now)))
-        steps.now.arities.now steps.now.gets.now steps.now.equations.now steps.now.head.now so_far.new.done so_far.new.places so_far.new.rows.rows) }
+    ensures under_way { OnOk result (IsSoFar (IsRowOf (held_by (map F.rows fragments.now)))
+        steps.now so_far.new) }
 {
     if is_in(&so_far.done, number) {
         return Ok(());
@@ -386,12 +390,12 @@ fn take_all<F: Fragment>(
     requires runnable { AreRunnable (map F.shape fragments.now) steps.now.gets.now }
     requires prepared { IsPrepared (IsRowOf (held_by (map F.rows fragments.now))) steps.now.gets.now
         steps.now.arities.now steps.now.tables.now }
-    requires under_way { IsUnderWay (IsRowOf (held_by (map F.rows fragments.now))) steps.now.arities.now
-        steps.now.gets.now steps.now.equations.now steps.now.head.now so_far.old.done so_far.old.places so_far.old.rows.rows }
+    requires under_way { IsSoFar (IsRowOf (held_by (map F.rows fragments.now)))
+        steps.now so_far.old }
     ensures all { OnOk result ((number : ℕ)
         → number < length steps.now.gets.now → Contains so_far.new.done number) }
-    ensures under_way { OnOk result (IsUnderWay (IsRowOf (held_by (map F.rows fragments.now)))
-        steps.now.arities.now steps.now.gets.now steps.now.equations.now steps.now.head.now so_far.new.done so_far.new.places so_far.new.rows.rows) }
+    ensures under_way { OnOk result (IsSoFar (IsRowOf (held_by (map F.rows fragments.now)))
+        steps.now so_far.new) }
 {
     'turns: for _turn in 0..steps.gets.len() {
         take_best(alloc, steps, fragments, so_far)?;
@@ -413,8 +417,8 @@ pub(crate) fn joined_rows<F: Fragment>(
         steps.now.arities.now steps.now.tables.now }
     ensures all { IfOk result (λ it. (number : ℕ)
         → number < length steps.now.gets.now → Contains it.done number) }
-    ensures under_way { IfOk result (λ it. IsUnderWay (IsRowOf (held_by (map F.rows fragments.now)))
-        steps.now.arities.now steps.now.gets.now steps.now.equations.now steps.now.head.now it.done it.places it.rows.rows) }
+    ensures under_way { IfOk result (λ it. IsSoFar (IsRowOf (held_by (map F.rows fragments.now)))
+        steps.now it) }
 {
     let mut so_far = nothing_done(alloc)?;
     take_all(alloc, steps, fragments, &mut so_far)?;

@@ -1,4 +1,4 @@
-use Rattle.std.proofs.Common.{◌≡◌, ℕ, List, length, map, refl, Contains, arith}
+use Rattle.std.proofs.Common.{ℕ, List, map, refl, Contains, arith}
 use Rattle.esto_plan.specs.declared.steps.Link.{Link}
 use Rattle.esto_plan.specs.declared.steps.Source.TheVariants.{Cell}
 use Rattle.esto_exec.proofs.NamedLemmas.{early_names}

@@ -22,5 +22,6 @@ returns-clause-rows c =
     (subst (Follows c.args.join.now.get c.items-cells.result.now) row_is (c.follows.ensures.0 c.if-not-follows.false)))
     both_are
     (subst (NamesCodes c.items-both.result.now c.args.join.now.kept) (sym c.items-2.ensures)
-    (names_true c.items-both.result.now c.args.join.now.kept c.name_codes.new.codes c.in_ok-name_codes.field-0 c.in_ok-name_codes.ensures c.if-not-branch.false)))
+    (names_true c.items-both.result.now c.args.join.now.kept c.name_codes.new.codes c.in_ok-name_codes.field-0 c.in_ok-name_codes.ensures
+    c.if-not-branch.false)))
     c.put_unseen.ensures.rows

@@ -10,7 +10,8 @@ places-init c = (
       walk_start (λ place. IsKept c.args.join.now.kept (IsFollowerAt c.args.join.now.get c.args.buffers.now.cells c.args.rows.now.rows place)) buckets bucket
       c.args.into.now.rows c.last_of-next.result
       (subst (LeadsOn buckets bucket (length buckets))
-      (sym (c.last_of-next.ensures ∙ ap (λ key. get_or c.args.index.now.last (bucket_of (length c.args.index.now.last) key) 0) c.items.ensures)) (are.last bucket))),
+      (sym (c.last_of-next.ensures ∙ ap (λ key. get_or c.args.index.now.last (bucket_of (length c.args.index.now.last) key) 0) c.items.ensures))
+      (are.last bucket))),
   refl,
   refl,
 )

@@ -1,4 +1,3 @@
-use Rattle.std.proofs.Common.{sym, ◌∙◌}
 use Rattle.esto_exec.proofs.RunLemmas.{join_asked}
 use Rattle.esto_exec.proofs.turns.join_fragment.Goals as goal
 

@@ -4,9 +4,11 @@ use Rattle.esto_exec.specs.Turns.{IsUnderWay}
 use Rattle.esto_exec.proofs.turns.take_all.Given as goal
 
 abbrev pub invariant-turns : goal.invariant-turns
-invariant-turns g l = IsUnderWay (IsRowOf (λ number. slice_index_or (map g.F.Fragment.rows l.fragments) number [])) l.steps.arities.now l.steps.gets.now l.steps.equations.now l.steps.head.now
+invariant-turns g l = IsUnderWay (IsRowOf (λ number. slice_index_or (map g.F.Fragment.rows l.fragments) number [])) l.steps.arities.now l.steps.gets.now
+    l.steps.equations.now l.steps.head.now
     l.so_far.done l.so_far.places l.so_far.rows.rows
 
 abbrev pub invariant-gets : goal.invariant-gets
-invariant-gets g l = IsUnderWay (IsRowOf (λ number. slice_index_or (map g.F.Fragment.rows l.fragments) number [])) l.steps.arities.now l.steps.gets.now l.steps.equations.now l.steps.head.now
+invariant-gets g l = IsUnderWay (IsRowOf (λ number. slice_index_or (map g.F.Fragment.rows l.fragments) number [])) l.steps.arities.now l.steps.gets.now
+    l.steps.equations.now l.steps.head.now
     l.so_far.done l.so_far.places l.so_far.rows.rows × ((other : ℕ) → other < l.number → Contains l.so_far.done other)

@@ -1,4 +1,4 @@
-use Rattle.std.proofs.Common.{◌<◌, Contains, [], map, length, get_or, sym, subst, ap, ◌∙◌, arith}
+use Rattle.std.proofs.Common.{◌<◌, [], map, length, get_or, sym, subst, ap, ◌∙◌, arith}
 use Rattle.std.proofs.lemmas.List.{length-map}
 use Rattle.std.proofs.lemmas.Result.{on_ok_weaker}
 use Rattle.esto_columns.specs.Asked.{IsAllowed}
@@ -9,7 +9,8 @@ use Rattle.esto_exec.proofs.UnderWayLemmas.{under_way_more, links_in_columns}
 use Rattle.esto_exec.proofs.turns.take_turn.Goals as goal
 
 pub bounds-fragments-get : goal.bounds-fragments-get
-bounds-fragments-get g c = fragment_there g.F.Fragment.shape g.F.Fragment.rows c.args.fragments.now c.args.steps.now.gets.now c.args.number c.item-get.result.now
+bounds-fragments-get g c = fragment_there g.F.Fragment.shape g.F.Fragment.rows c.args.fragments.now c.args.steps.now.gets.now c.args.number
+    c.item-get.result.now
     c.item-get.ensures c.requires.runnable
 
 pub offset_bounds-fragments-get : goal.offset_bounds-fragments-get
@@ -21,13 +22,16 @@ offset_bounds-fragments-get g c =
 pub follow-requires-clause-allowed : goal.follow-requires-clause-allowed
 follow-requires-clause-allowed g c = subst (IsAllowed (g.F.Fragment.shape c.index-fragments-get.result))
     (sym (links_in_columns c.args.so_far.now.places c.first_of.result.now c.item-get.result.now.inputs c.in_ok-inputs.inputs c.in_ok-inputs.ensures))
-    (fragment_allows g.F.Fragment.shape g.F.Fragment.rows c.args.fragments.now c.args.steps.now.gets.now c.args.number c.item-get.result.now c.index-fragments-get.result
+    (fragment_allows g.F.Fragment.shape g.F.Fragment.rows c.args.fragments.now c.args.steps.now.gets.now c.args.number c.item-get.result.now
+    c.index-fragments-get.result
     c.item-get.ensures c.requires.runnable c.index-fragments-get.is)
 
 pub returns-clause-under_way : goal.returns-clause-under_way
 returns-clause-under_way g c = on_ok_weaker c.follow.result
-    (λ kept. under_way_more (IsRowOf (λ number. get_or (map g.F.Fragment.rows c.args.fragments.now) number [])) c.args.steps.now.arities.now c.args.steps.now.gets.now
-    c.args.steps.now.equations.now c.args.steps.now.head.now c.args.so_far.now.done c.push.new.self c.args.so_far.now.places c.push_slots.new.places c.follow.new.places
+    (λ kept. under_way_more (IsRowOf (λ number. get_or (map g.F.Fragment.rows c.args.fragments.now) number [])) c.args.steps.now.arities.now
+    c.args.steps.now.gets.now
+    c.args.steps.now.equations.now c.args.steps.now.head.now c.args.so_far.now.done c.push.new.self c.args.so_far.now.places c.push_slots.new.places
+    c.follow.new.places
     c.in_ok-needed.needed c.args.number c.item-get.result.now
     (record { fragment = c.item-get.result.now.fragment; inputs = c.in_ok-inputs.inputs; filters = c.in_ok-filters.filters })
     c.args.so_far.now.rows.rows (g.F.Fragment.rows c.index-fragments-get.result) c.follow.new.so_far.rows
