@@ -2,7 +2,6 @@
 use Rattle.std.proofs.Common.{◌≡◌, ℕ, ◌+◌, ◌-◌, ◌<◌, ◌≤◌, ◌++◌, ◌↔◌, Bool, true, false, eqb, List, [], ◌∷◌, length, get_or, drop, All, Contains, Option, Some}
 use Rattle.std.proofs.Common.{None, refl, sym, ap, subst, ◌∙◌, inl, inr, arith}
 use Rattle.std.specs.List.{slice_get}
-use Rattle.std.specs.List.Sorted.{IsNonDecreasingBy}
 use Rattle.std.specs.Option.{IfSome, IfNone}
 use Rattle.std.specs.declared.cmp.Ordering.TheVariants.{Less, Equal, Greater}
 use Rattle.std.proofs.lemmas.Bool.Decides.{nat_tests}
@@ -21,8 +20,8 @@ use Rattle.esto_query.specs.Trails.{with_trail, Narrows, Excludes, Tries}
 use Rattle.esto_query.specs.Searches.{IsLeastFrom, Searched, Follows, first_from, rest_from}
 use Rattle.esto_query.specs.declared.trail.Binding.{Binding}
 use Rattle.esto_query.specs.declared.matches.Found.{Found}
-use Rattle.esto_query.specs.Indexes.{HasPlace, AreCandidates, AreFrom}
-use Rattle.esto_query.specs.declared.index.Entry.{Entry}
+use Rattle.esto_query.specs.Buckets.{IsRising}
+use Rattle.esto_query.specs.Indexes.{AreCandidates, AreFrom}
 use Rattle.esto_query.proofs.ValuationLemmas.{Keeps-map_of, Extends-map_of}
 use Rattle.esto_query.proofs.TrailLemmas.{Grew-same, Grew-then}
 use Rattle.esto_query.proofs.PlaceLemmas.{IsAtMost-nil, first_is_least, rest_is_at_most, IsAtMost-onto, IsAtMost-least}
@@ -79,60 +78,56 @@ module _ (atom : Fact Term) (rest facts : List (Fact Term)) (known : Assignment)
 
 -- ---- where the first places of all matches are among the candidates that are left
 
-pub record AreLeft (atom : Fact Term) (rest facts : List (Fact Term)) (known : Assignment) (from : List ℕ) (left : List Entry) : Type 0 where
+pub record AreLeft (atom : Fact Term) (rest facts : List (Fact Term)) (known : Assignment) (from : List ℕ) (left : List ℕ) : Type 0 where
   pub among : (m : Term → Term) (place : ℕ) (places : List ℕ) → Keeps Const m → Extends m known → IsMatch m (atom ∷ rest) facts (place ∷ places)
-      → IsAtMost from (place ∷ places) → HasPlace left place
+      → IsAtMost from (place ∷ places) → Contains left place
 
-pub AreLeft-first : (atom : Fact Term) (rest facts : List (Fact Term)) (known : Assignment) (from : List ℕ) (all found : List Entry)
+pub AreLeft-first : (atom : Fact Term) (rest facts : List (Fact Term)) (known : Assignment) (from : List ℕ) (all found : List ℕ)
     → AreCandidates facts atom known all → AreFrom (first_from from) all found → AreLeft atom rest facts known from found
 AreLeft-first atom rest facts known from all found served cut = record { among = among }
   where
     among : (m : Term → Term) (place : ℕ) (places : List ℕ) → Keeps Const m → Extends m known → IsMatch m (atom ∷ rest) facts (place ∷ places)
-        → IsAtMost from (place ∷ places) → HasPlace found place
+        → IsAtMost from (place ∷ places) → Contains found place
     among m place places keeps extends match after =
-        let has = served.complete m place keeps extends match.0 in
-        let least = first_is_least from place places after in (has.0, cut.complete has.0 has.1 (omega (arith, least, has.2)), has.2)
+        cut.complete place (served.complete m place keeps extends match.0) (first_is_least from place places after)
 
-module _ (atom : Fact Term) (rest facts : List (Fact Term)) (known : Assignment) (from : List ℕ) (found : List Entry)
-    (rising : IsNonDecreasingBy (λ (entry : Entry). entry.place) found) where
+module _ (atom : Fact Term) (rest facts : List (Fact Term)) (known : Assignment) (from : List ℕ) (found : List ℕ)
+    (rising : IsRising found) where
   module _ (i : ℕ) (left : AreLeft atom rest facts known from (drop i found)) where
     pub AreLeft-end : length found ≤ i → HasNoMatch (atom ∷ rest) facts known (IsAtMost from)
     AreLeft-end end m [] keeps extends match after = match
     AreLeft-end end m (place ∷ places) keeps extends match after =
-        let has = left.among m place places keeps extends match after in
-        Contains-nil has.0 (subst (λ es. Contains es has.0) (drop_all i found end) has.1)
+        Contains-nil place (subst (λ ps. Contains ps place) (drop_all i found end) (left.among m place places keeps extends match after))
 
-    module _ (entry : Entry) (within : i < length found) (read : entry ≡ get_or found i entry) where
-      next_left : drop i found ≡ entry ∷ drop (i + 1) found
-      next_left = drop-item found i entry within read
+    module _ (here : ℕ) (within : i < length found) (read : here ≡ get_or found i here) where
+      next_left : drop i found ≡ here ∷ drop (i + 1) found
+      next_left = drop-item found i here within read
 
-      pub AreLeft-next : NoneAt atom rest facts known from entry.place → AreLeft atom rest facts known from (drop (i + 1) found)
+      pub AreLeft-next : NoneAt atom rest facts known from here → AreLeft atom rest facts known from (drop (i + 1) found)
       AreLeft-next none = record { among = later }
         where
           later : (m : Term → Term) (place : ℕ) (places : List ℕ) → Keeps Const m → Extends m known → IsMatch m (atom ∷ rest) facts (place ∷ places)
-              → IsAtMost from (place ∷ places) → HasPlace (drop (i + 1) found) place
+              → IsAtMost from (place ∷ places) → Contains (drop (i + 1) found) place
           later m place places keeps extends match after =
               let has = left.among m place places keeps extends match after in
-              elim (Contains-cases entry (drop (i + 1) found) has.0 (subst (λ es. Contains es has.0) next_left has.1)) [
-                | inl same ↦
-                    let here : place ≡ entry.place = sym has.2 ∙ ap (λ (e : Entry). e.place) (sym same) in
-                    absurd (none m places keeps extends (subst (λ p. IsMatch m (atom ∷ rest) facts (p ∷ places)) here match)
-                    (subst (λ p. IsAtMost from (p ∷ places)) here after))
-                | inr more ↦ (has.0, more, has.2)
+              elim (Contains-cases here (drop (i + 1) found) place (subst (λ ps. Contains ps place) next_left has)) [
+                | inl same ↦ absurd (none m places keeps extends (subst (λ p. IsMatch m (atom ∷ rest) facts (p ∷ places)) (sym same) match)
+                    (subst (λ p. IsAtMost from (p ∷ places)) (sym same) after))
+                | inr more ↦ more
               ]
 
-      pub AreLeft-low : NoneBelow atom rest facts known from entry.place
+      pub AreLeft-low : NoneBelow atom rest facts known from here
       AreLeft-low = record { at_or_after = low }
         where
           low : (m : Term → Term) (place : ℕ) (places : List ℕ) → Keeps Const m → Extends m known → IsMatch m (atom ∷ rest) facts (place ∷ places)
-              → IsAtMost from (place ∷ places) → entry.place ≤ place
+              → IsAtMost from (place ∷ places) → here ≤ place
           low m place places keeps extends match after =
               let has = left.among m place places keeps extends match after in
-              let at : get_or found (i + has.1.0) has.0 ≡ has.0 = sym (get_or-drop i found has.1.0 has.0) ∙ has.1.2 in
-              let long : has.1.0 < length found - i = omega (arith, has.1.1, length-drop i found) in
-              let here : get_or found i has.0 ≡ entry = sym (get_or_read found i entry within read has.0) in
-              let up = rising i (i + has.1.0) has.0 (omega arith) (omega (arith, long)) in
-              omega (arith, up, ap (λ (e : Entry). e.place) at, ap (λ (e : Entry). e.place) here, has.2)
+              let at : get_or found (i + has.0) place ≡ place = sym (get_or-drop i found has.0 place) ∙ has.2 in
+              let long : has.0 < length found - i = omega (arith, has.1, length-drop i found) in
+              let own : get_or found i place ≡ here = sym (get_or_read found i here within read place) in
+              let up = rising i (i + has.0) place (omega arith) (omega (arith, long)) in
+              omega (arith, up, at, own)
 
 -- ---- what a search leaves
 

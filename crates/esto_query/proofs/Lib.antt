@@ -8,5 +8,8 @@ pub mod MatchLemmas
 pub mod LeastLemmas
 pub mod RowLemmas
 pub mod RowOrderLemmas
+pub mod BucketLemmas
+pub mod HashLemmas
 pub mod IndexLemmas
 pub mod MisfitLemmas
+pub mod ApartLemmas

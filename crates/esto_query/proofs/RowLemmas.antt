@@ -20,8 +20,7 @@ use Rattle.esto_query.specs.Valuations.{Assignment, Extends, map_of}
 use Rattle.esto_query.specs.Trails.{with_trail, Narrows, Excludes}
 use Rattle.esto_query.specs.Rows.{IsRow, IsKnown, AreKnown, IsAscending, Decides, Adds}
 use Rattle.esto_query.specs.Searches.{Searched}
-use Rattle.esto_query.specs.Indexes.{HasPlace, AreCandidates}
-use Rattle.esto_query.specs.declared.index.Entry.{Entry}
+use Rattle.esto_query.specs.Indexes.{AreCandidates}
 use Rattle.esto_query.specs.declared.trail.Binding.{Binding}
 use Rattle.esto_query.proofs.PlaceLemmas.{IsAtMost-nil}
 use Rattle.esto_query.proofs.MapLemmas.{image_values}
@@ -59,7 +58,7 @@ images_more m row place term image images more within at so_far is grown =
     grown ∙ ap (λ (l : List Term). l ++ image ∷ []) so_far ∙ ap (λ (it : Term). map m (take place row) ++ it ∷ []) is
     ∙ sym (map_push m (take place row) term) ∙ ap (map m) (sym (take-item row place term within at))
 
-IsRow-nil : (head : List Term) (facts : List (Fact Term)) (known : Assignment) (row : List Term) → AreKnown head [] known
+pub IsRow-nil : (head : List Term) (facts : List (Fact Term)) (known : Assignment) (row : List Term) → AreKnown head [] known
     → (row ≡ map (map_of known) head) ↔ IsRow head [] facts known row
 IsRow-nil head facts known row all = (
   λ e. (map_of known, Keeps-map_of known, Extends-map_of known, (λ atom inside. absurd (Contains-nil atom inside)), e),
@@ -193,13 +192,13 @@ module _ (old new : Assignment) (atom : Fact Term) (facts : List (Fact Term)) (p
 
 -- ---- the rows whose first atom goes to the place of one of the candidates seen
 
-pub record IsRowSeen (head : List Term) (atom : Fact Term) (rest facts : List (Fact Term)) (seen : List Entry) (known : Assignment)
+pub record IsRowSeen (head : List Term) (atom : Fact Term) (rest facts : List (Fact Term)) (seen : List ℕ) (known : Assignment)
     (row : List Term) : Type 0 where
   pub m : Term → Term
   pub keeps : Keeps Const m
   pub extends : Extends m known
   pub place : ℕ
-  pub among : HasPlace seen place
+  pub among : Contains seen place
   pub first : slice_get facts place ≡ Some (image m atom)
   pub others : Sends m rest facts
   pub is_image : row ≡ map m head
@@ -217,46 +216,46 @@ leaf_adds head facts known old new row all is adds =
     (λ other. let one = IsRow-nil head facts known other all in (λ e. one.0 (e ∙ is), λ r. one.1 r ∙ sym is)) adds
 
 module _ (head : List Term) (atom : Fact Term) (rest facts : List (Fact Term)) (known : Assignment) (old : List (List Term)) where
-  abbrev pub Seen : List Entry → List Term → Type 0
+  abbrev pub Seen : List ℕ → List Term → Type 0
   Seen seen row = IsRowSeen head atom rest facts seen known row
 
   pub none_seen : Adds old old (Seen [])
-  none_seen row = (λ there. inl there, λ either. elim either [ inl there ↦ there | inr s ↦ absurd (Contains-nil s.among.0 s.among.1) ])
+  none_seen row = (λ there. inl there, λ either. elim either [ inl there ↦ there | inr s ↦ absurd (Contains-nil s.place s.among) ])
 
-  with_among : (seen other : List Entry) (row : List Term) (s : Seen seen row) → HasPlace other s.place → Seen other row
+  with_among : (seen other : List ℕ) (row : List Term) (s : Seen seen row) → Contains other s.place → Seen other row
   with_among seen other row s among =
       record { m = s.m; keeps = s.keeps; extends = s.extends; place = s.place; among = among; first = s.first; others = s.others; is_image = s.is_image }
 
-  seen_more : (seen : List Entry) (entry : Entry) (row : List Term) → Seen seen row → Seen (seen ++ entry ∷ []) row
-  seen_more seen entry row s = with_among seen (seen ++ entry ∷ []) row s (s.among.0, Contains-append_left seen (entry ∷ []) s.among.0 s.among.1, s.among.2)
+  seen_more : (seen : List ℕ) (place : ℕ) (row : List Term) → Seen seen row → Seen (seen ++ place ∷ []) row
+  seen_more seen place row s = with_among seen (seen ++ place ∷ []) row s (Contains-append_left seen (place ∷ []) s.place s.among)
 
   -- the map sends the atom to the fact at this place
   abbrev pub Here : ℕ → (Term → Term) → Type 0
   Here place m = slice_get facts place ≡ Some (image m atom)
 
-  skip : (seen : List Entry) (entry : Entry) (now : List (List Term)) → Excludes known (Here entry.place) → Adds old now (Seen seen)
-      → Adds old now (Seen (seen ++ entry ∷ []))
-  skip seen entry now none = Adds-same old now (Seen seen) (Seen (seen ++ entry ∷ [])) (λ row. (
-    λ s. seen_more seen entry row s,
-    λ s. elim (Contains-push_cases seen entry s.among.0 s.among.1) [
-      | inl before ↦ with_among (seen ++ entry ∷ []) seen row s (s.among.0, before, s.among.2)
-      | inr same ↦ absurd (none s.m s.keeps s.extends (ap (λ (e : Entry). slice_get facts e.place) same ∙ ap (slice_get facts) s.among.2 ∙ s.first))
+  skip : (seen : List ℕ) (place : ℕ) (now : List (List Term)) → Excludes known (Here place) → Adds old now (Seen seen)
+      → Adds old now (Seen (seen ++ place ∷ []))
+  skip seen place now none = Adds-same old now (Seen seen) (Seen (seen ++ place ∷ [])) (λ row. (
+    λ s. seen_more seen place row s,
+    λ s. elim (Contains-push_cases seen place s.place s.among) [
+      | inl before ↦ with_among (seen ++ place ∷ []) seen row s before
+      | inr same ↦ absurd (none s.m s.keeps s.extends (ap (slice_get facts) same ∙ s.first))
     ],
   ))
 
-  next : (seen : List Entry) (entry : Entry) (mid : Assignment) (now new : List (List Term)) → Narrows known mid (Here entry.place)
-      → Adds now new (IsRow head rest facts mid) → Adds old now (Seen seen) → Adds old new (Seen (seen ++ entry ∷ []))
-  next seen entry mid now new step more before row = (
+  next : (seen : List ℕ) (place : ℕ) (mid : Assignment) (now new : List (List Term)) → Narrows known mid (Here place)
+      → Adds now new (IsRow head rest facts mid) → Adds old now (Seen seen) → Adds old new (Seen (seen ++ place ∷ []))
+  next seen place mid now new step more before row = (
     λ there. elim ((more row).0 there) [
-      | inl earlier ↦ elim ((before row).0 earlier) [ inl first ↦ inl first | inr s ↦ inr (seen_more seen entry row s) ]
+      | inl earlier ↦ elim ((before row).0 earlier) [ inl first ↦ inl first | inr s ↦ inr (seen_more seen place row s) ]
       | inr r ↦
           let n = (step r.0 r.1).0 r.2 in
           inr (record {
             m = r.0;
             keeps = r.1;
             extends = n.0;
-            place = entry.place;
-            among = (entry, Contains-push seen entry, refl);
+            place = place;
+            among = Contains-push seen place;
             first = n.1;
             others = r.3;
             is_image = r.4;
@@ -264,17 +263,17 @@ module _ (head : List Term) (atom : Fact Term) (rest facts : List (Fact Term)) (
     ],
     λ either. (more row).1 (elim either [
       | inl first ↦ inl ((before row).1 (inl first))
-      | inr s ↦ elim (Contains-push_cases seen entry s.among.0 s.among.1) [
-        | inl earlier ↦ inl ((before row).1 (inr (with_among (seen ++ entry ∷ []) seen row s (s.among.0, earlier, s.among.2))))
+      | inr s ↦ elim (Contains-push_cases seen place s.place s.among) [
+        | inl earlier ↦ inl ((before row).1 (inr (with_among (seen ++ place ∷ []) seen row s earlier)))
         | inr same ↦
-            let here : slice_get facts entry.place ≡ Some (image s.m atom) =
-            ap (λ (e : Entry). slice_get facts e.place) same ∙ ap (slice_get facts) s.among.2 ∙ s.first in
+            let here : slice_get facts place ≡ Some (image s.m atom) =
+            ap (slice_get facts) same ∙ s.first in
             inr (s.m, s.keeps, (step s.m s.keeps).1 (s.extends, here), s.others, s.is_image)
       ]
     ]),
   )
 
-  module _ (found : List Entry) (served : AreCandidates facts atom known found) where
+  module _ (found : List ℕ) (served : AreCandidates facts atom known found) where
     whole : (row : List Term) → Seen found row ↔ IsRow head (atom ∷ rest) facts known row
     whole row = (
       λ s. (
@@ -302,16 +301,16 @@ module _ (head : List Term) (atom : Fact Term) (rest facts : List (Fact Term)) (
     )
 
     module _ (i : ℕ) where
-      pub turn_skip : (entry : Entry) (now : List (List Term)) → i < length found → entry ≡ get_or found i entry → Excludes known (Here entry.place)
+      pub turn_skip : (place : ℕ) (now : List (List Term)) → i < length found → place ≡ get_or found i place → Excludes known (Here place)
           → Adds old now (Seen (take i found)) → Adds old now (Seen (take (i + 1) found))
-      turn_skip entry now within read none seen =
-          subst (λ es. Adds old now (Seen es)) (sym (take-item found i entry within read)) (skip (take i found) entry now none seen)
+      turn_skip place now within read none seen =
+          subst (λ es. Adds old now (Seen es)) (sym (take-item found i place within read)) (skip (take i found) place now none seen)
 
-      pub turn_next : (entry : Entry) (mid : Assignment) (now new : List (List Term)) → i < length found → entry ≡ get_or found i entry
-          → Narrows known mid (Here entry.place) → Adds now new (IsRow head rest facts mid) → Adds old now (Seen (take i found))
+      pub turn_next : (place : ℕ) (mid : Assignment) (now new : List (List Term)) → i < length found → place ≡ get_or found i place
+          → Narrows known mid (Here place) → Adds now new (IsRow head rest facts mid) → Adds old now (Seen (take i found))
           → Adds old new (Seen (take (i + 1) found))
-      turn_next entry mid now new within read step more seen =
-          subst (λ es. Adds old new (Seen es)) (sym (take-item found i entry within read)) (next (take i found) entry mid now new step more seen)
+      turn_next place mid now new within read step more seen =
+          subst (λ es. Adds old new (Seen es)) (sym (take-item found i place within read)) (next (take i found) place mid now new step more seen)
 
       pub end_adds : (now : List (List Term)) → length found ≤ i → Adds old now (Seen (take i found)) → Adds old now (IsRow head (atom ∷ rest) facts known)
       end_adds now end seen =
@@ -327,16 +326,23 @@ known_at_first query start kept term inside = by (kept.flat_head term inside) (k
     by (inl constant) (inr mentioned) = inl constant
     by (inr plain) (inr mentioned) = inr (plain.0, plain.1, inr mentioned)
 
-pub answers_are : (query : ConjunctiveQuery) (facts : List (Fact Term)) (old new kept : List (List Term)) (start : Assignment) → old ≡ []
-    → start ≡ empty {R = nat_cmp} → Adds old new (IsRow query.head query.body facts start) → ((row : List Term) → Contains kept row ↔ Contains new row)
-    → (row : List Term) → Contains kept row ↔ IsAnswerInto Const query (Contains facts) row
-answers_are query facts old new kept start none nothing adds same row =
+pub answers_added : (query : ConjunctiveQuery) (facts : List (Fact Term)) (old new : List (List Term)) (start : Assignment)
+    → start ≡ empty {R = nat_cmp} → Adds old new (IsRow query.head query.body facts start) → Adds old new (IsAnswerInto Const query (Contains facts))
+answers_added query facts old new start nothing adds =
     let extends : (m : Term → Term) → Extends m start =
     λ m variable term at. absurd (none-some term
-    (sym (get-empty nat_cmp variable) ∙ ap (λ (known : Assignment). get known variable) (sym nothing) ∙ at)) in (
-      λ there. elim ((adds row).0 ((same row).0 there)) [
-        | inl before ↦ absurd (Contains-nil row (subst (λ rows. Contains rows row) none before))
-        | inr r ↦ (r.0, r.1, r.3, r.4)
-      ],
-      λ answer. (same row).1 ((adds row).1 (inr (answer.0, answer.1, extends answer.0, answer.2, answer.3))),
-    )
+    (sym (get-empty nat_cmp variable) ∙ ap (λ (known : Assignment). get known variable) (sym nothing) ∙ at)) in
+    Adds-same old new (IsRow query.head query.body facts start) (IsAnswerInto Const query (Contains facts)) (λ row. (
+      λ r. (r.0, r.1, r.3, r.4),
+      λ answer. (answer.0, answer.1, extends answer.0, answer.2, answer.3),
+    )) adds
+
+pub answers_are : (Answers : List Term → Type 0) (old new kept : List (List Term)) → old ≡ [] → Adds old new Answers
+    → ((row : List Term) → Contains kept row ↔ Contains new row) → (row : List Term) → Contains kept row ↔ Answers row
+answers_are Answers old new kept none adds same row = (
+  λ there. elim ((adds row).0 ((same row).0 there)) [
+    | inl before ↦ absurd (Contains-nil row (subst (λ rows. Contains rows row) none before))
+    | inr answer ↦ answer
+  ],
+  λ answer. (same row).1 ((adds row).1 (inr answer)),
+)

@@ -1,63 +1,56 @@
--- An index of a list of facts: entries in order.
-use Rattle.std.specs.Prelude.{◌≡◌, ◌≢◌, ℕ, ◌+◌, ◌<◌, ◌≤◌, List, Some, length, slice_get, slice_index_or, Contains}
-use Rattle.std.specs.List.Sorted.{IsNonDecreasingBy}
-use Rattle.std.specs.declared.cmp.Ordering.TheVariants.{Less, Equal}
+-- An index of a list of facts: buckets of places, by relations and by terms in columns.
+use Rattle.std.specs.Prelude.{◌≡◌, ℕ, ◌+◌, ◌<◌, ◌≤◌, Bool, true, false, ◌||◌, List, [], Some, length, slice_get, slice_index_or, Contains}
 use Rattle.esto_term.specs.declared.term.Term.{Term}
 use Rattle.esto_term.specs.declared.term.Term.TheVariants.{Const}
 use Rattle.esto_semantics.specs.Facts.{image}
 use Rattle.esto_semantics.specs.Maps.{Keeps}
 use Rattle.esto_semantics.specs.declared.fact.Fact.{Fact}
+use Rattle.esto_query.specs.Buckets.{places_at, AreRising, IsRising}
+use Rattle.esto_query.specs.Hashes.{key_hash}
 use Rattle.esto_query.specs.Valuations.{Assignment, Extends}
-use Rattle.esto_query.specs.Keys.{FactKey, key_at, key_cmp, entry_cmp}
-use Rattle.esto_query.specs.declared.index.Entry.{Entry}
+use Rattle.esto_query.specs.declared.columns.Columns.{Columns}
+use Rattle.esto_query.specs.declared.index.Index.{Index}
 
--- The entry is that of the fact at a place, with the key of that number.
-pub record IsEntry (fact : Fact Term) (at key : ℕ) (entry : Entry) : Type 0 where
-  pub relation : entry.relation ≡ fact.relation
-  pub number : entry.column ≡ key
-  pub place : entry.place ≡ at
+-- Whether the column of the relation is marked.
+abbrev pub is_marked : List (List Bool) → ℕ → ℕ → Bool
+is_marked marked relation column = slice_index_or (slice_index_or marked relation []) column false
 
--- The list has such an entry.
-abbrev pub HasEntry : List Entry → Fact Term → ℕ → ℕ → Type 0
-HasEntry entries fact place number = (entry : Entry) × Contains entries entry × IsEntry fact place number entry
+-- Whether the column of the relation is one of the columns.
+abbrev pub is_among : Columns → ℕ → ℕ → Bool
+is_among columns relation column = columns.every || is_marked columns.marked.items relation column
 
--- The new list has the old entries, and those of the fact with keys of lower numbers.
-pub record AddsEntries (fact : Fact Term) (place bound : ℕ) (old new : List Entry) : Type 0 where
-  pub kept : (entry : Entry) → Contains old entry → Contains new entry
-  pub added : (number : ℕ) → number < bound → HasEntry new fact place number
+-- The term stands in the column of the fact at the place, and the column is one of the columns.
+pub record StandsIn (facts : List (Fact Term)) (columns : Columns) (place column : ℕ) (fact : Fact Term) (term : Term) : Type 0 where
+  pub there : slice_get facts place ≡ Some fact
+  pub own : slice_get fact.terms column ≡ Some term
+  pub among : is_among columns fact.relation column ≡ true
 
--- The entries of the facts at places below a number are there.
-abbrev pub AreListed : List (Fact Term) → ℕ → List Entry → Type 0
-AreListed facts bound entries =
-    (place number : ℕ) (fact : Fact Term) → place < bound → slice_get facts place ≡ Some fact → number < length fact.terms + 1
-    → HasEntry entries fact place number
+-- The new buckets have the places of the old, and the place by each of the first terms of the fact that stand in one of the columns.
+pub record AddsTerms (fact : Fact Term) (columns : Columns) (place bound : ℕ) (old new : List (List ℕ)) : Type 0 where
+  pub kept : (hash other : ℕ) → Contains (places_at old hash) other → Contains (places_at new hash) other
+  pub added : (column : ℕ) (term : Term) → column < bound → slice_get fact.terms column ≡ Some term → is_among columns fact.relation column ≡ true
+      → Contains (places_at new (key_hash fact.relation column term)) place
+  pub rising : AreRising old (place + 1) → AreRising new (place + 1)
 
--- No entry comes after a greater one.
-abbrev pub IsInOrder : List (Fact Term) → List Entry → Type 0
-IsInOrder facts index =
-    (i j : ℕ) (d : Entry) → i ≤ j → j < length index → entry_cmp facts (slice_index_or index j d) (slice_index_or index i d) ≢ Less
+-- The buckets have the place of each of the first facts by its relation, and the others by its term in each of the columns.
+pub record AreListed (facts : List (Fact Term)) (columns : Columns) (bound : ℕ) (relations terms : List (List ℕ)) : Type 0 where
+  pub by_relation : (place : ℕ) (fact : Fact Term) → place < bound → slice_get facts place ≡ Some fact → Contains (places_at relations fact.relation) place
+  pub by_term : (place column : ℕ) (fact : Fact Term) (term : Term) → place < bound → StandsIn facts columns place column fact term
+      → Contains (places_at terms (key_hash fact.relation column term)) place
+  pub relations_rise : AreRising relations bound
+  pub terms_rise : AreRising terms bound
 
--- The entries of all facts are there, in order.
-pub record IsIndex (facts : List (Fact Term)) (index : List Entry) : Type 0 where
-  pub listed : AreListed facts (length facts) index
-  pub in_order : IsInOrder facts index
-
--- One of the entries has that place.
-abbrev pub HasPlace : List Entry → ℕ → Type 0
-HasPlace entries place = (entry : Entry) × Contains entries entry × (entry.place ≡ place)
-
--- The range has each entry of the key that the index has, and the places of its entries rise.
-pub record IsRangeOf (facts : List (Fact Term)) (index : List Entry) (key : FactKey) (range : List Entry) : Type 0 where
-  pub complete : (entry : Entry) → Contains index entry → key_cmp (key_at facts entry) key ≡ Equal → Contains range entry
-  pub rising : IsNonDecreasingBy (λ (entry : Entry). entry.place) range
+-- The index has the places of all facts.
+abbrev pub IsIndex : List (Fact Term) → Index → Type 0
+IsIndex facts index = AreListed facts index.columns (length facts) index.relations index.terms
 
 -- Each place to which a map that extends the known valuation can send the atom is there, and the places rise.
-pub record AreCandidates (facts : List (Fact Term)) (atom : Fact Term) (known : Assignment) (entries : List Entry) : Type 0 where
-  pub complete : (m : Term → Term) (place : ℕ) → Keeps Const m → Extends m known → slice_get facts place ≡ Some (image m atom) → HasPlace entries place
-  pub rising : IsNonDecreasingBy (λ (entry : Entry). entry.place) entries
+pub record AreCandidates (facts : List (Fact Term)) (atom : Fact Term) (known : Assignment) (places : List ℕ) : Type 0 where
+  pub complete : (m : Term → Term) (place : ℕ) → Keeps Const m → Extends m known → slice_get facts place ≡ Some (image m atom) → Contains places place
+  pub rising : IsRising places
 
--- Each entry with a place at or after the given one is left; what is left has such places, and they rise.
-pub record AreFrom (least : ℕ) (entries left : List Entry) : Type 0 where
-  pub complete : (entry : Entry) → Contains entries entry → least ≤ entry.place → Contains left entry
-  pub within : (entry : Entry) → Contains left entry → least ≤ entry.place
-  pub rising : IsNonDecreasingBy (λ (entry : Entry). entry.place) left
+-- Each place at or after the given one is left; what is left are such places, and they rise.
+pub record AreFrom (least : ℕ) (places left : List ℕ) : Type 0 where
+  pub complete : (place : ℕ) → Contains places place → least ≤ place → Contains left place
+  pub within : (place : ℕ) → Contains left place → least ≤ place
+  pub rising : IsRising left

@@ -6,5 +6,6 @@ pub mod Matches
 pub mod Trails
 pub mod Searches
 pub mod Rows
-pub mod Keys
+pub mod Hashes
+pub mod Buckets
 pub mod Indexes

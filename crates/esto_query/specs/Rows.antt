@@ -1,5 +1,5 @@
 -- Rows of terms, and what a list of rows has.
-use Rattle.std.specs.Prelude.{◌≡◌, ◌⊎◌, ◌↔◌, ℕ, Bool, true, false, ◌<◌, ◌≤◌, List, IsSome, length, map, slice_index_or, Contains, AllPairs}
+use Rattle.std.specs.Prelude.{◌≡◌, ◌≢◌, ◌⊎◌, ◌↔◌, ℕ, Bool, true, false, ◌<◌, ◌≤◌, List, IsSome, length, map, slice_index_or, Contains, AllPairs}
 use Rattle.std.specs.FinMap.{get}
 use Rattle.std.specs.Cmp.Lexicographic.{slice_cmp}
 use Rattle.std.specs.declared.cmp.Ordering.{Ordering}
@@ -10,7 +10,9 @@ use Rattle.esto_term.specs.declared.term.Term.TheVariants.{Const, Plain}
 use Rattle.esto_semantics.specs.Facts.{Mentions}
 use Rattle.esto_semantics.specs.Maps.{IsConstant, Keeps, Sends}
 use Rattle.esto_semantics.specs.declared.fact.Fact.{Fact}
+use Rattle.esto_query.specs.Trails.{with_trail}
 use Rattle.esto_query.specs.Valuations.{Assignment, Extends}
+use Rattle.esto_query.specs.declared.trail.Binding.{Binding}
 
 -- The order of rows, term by term.
 abbrev pub row_cmp : List Term → List Term → Ordering
@@ -48,3 +50,15 @@ Adds {X} old new Property = (x : X) → Contains new x ↔ (Contains old x ⊎ P
 abbrev pub Decides : List (Fact Term) → List (Fact Term) → Assignment → Bool → Type 0
 Decides body facts known true = (m : Term → Term) × Keeps Const m × Extends m known × Sends m body facts
 Decides body facts known false = (m : Term → Term) → Keeps Const m → Extends m known → ¬ (Sends m body facts)
+
+-- Whether a map that keeps constants, extends the known valuation and sends the body to facts gives the two terms different values is there.
+abbrev pub TellsApart : Term → Term → List (Fact Term) → List (Fact Term) → Assignment → Bool → Type 0
+TellsApart left right body facts known true =
+    (m : Term → Term) × Keeps Const m × Extends m known × Sends m body facts × (m left ≢ m right)
+TellsApart left right body facts known false =
+    (m : Term → Term) → Keeps Const m → Extends m known → Sends m body facts → m left ≡ m right
+
+-- The same of the start with a trail, which stays where there is no such map.
+abbrev pub SearchedApart : Assignment → Term → Term → List (Fact Term) → List (Fact Term) → List Binding → List Binding → Bool → Type 0
+SearchedApart start left right body facts old new told =
+    TellsApart left right body facts (with_trail start old) told × (told ≡ false → new ≡ old)

@@ -1,142 +1,138 @@
 //! The index of a list of facts.
-ghost use Rattle.std.specs.Prelude.{◌≡◌, ◌+◌, ◌⊎◌, length, IfOk, OnOk, IfSome, MatchOption};
-ghost use Rattle.std.specs.List.Sorted.{IsNonDecreasingBy};
+ghost use Rattle.std.specs.Prelude.{◌≡◌, ◌<◌, ◌+◌, ℕ, List, length, slice_get, Some, IfOk, OnOk, IfSome};
 ghost use Rattle.esto_term.specs.declared.term.Term.{Term};
 ghost use Rattle.esto_term.specs.declared.term.Term.TheVariants.{Const};
 ghost use Rattle.esto_semantics.specs.Maps.{Keeps};
+ghost use Rattle.esto_semantics.specs.declared.fact.Fact.{Fact};
+ghost use Rattle.esto_query.specs.Buckets.{AreRising, IsRising};
 ghost use Rattle.esto_query.specs.Valuations.{Extends};
 ghost use Rattle.esto_query.specs.Trails.{with_trail};
-ghost use Rattle.esto_query.specs.Keys.{key_of, key_at, key_cmp, entry_cmp, key_terms, entry_terms};
-ghost use Rattle.esto_query.specs.Indexes.{AddsEntries, AreListed, IsInOrder, IsIndex, IsRangeOf, AreCandidates, AreFrom};
+ghost use Rattle.esto_query.specs.Indexes.{AddsTerms, AreListed, IsIndex, AreCandidates, AreFrom};
 
+use crate::buckets::Buckets;
+use crate::columns::{Columns, is_among};
+use crate::hash::key_hash;
 use crate::trail::{Binding, value};
 use crate::valuation::Valuation;
 use esto_semantics::Atom;
-use esto_term::{OutOfMemory, Term, compare_terms};
+use esto_term::{OutOfMemory, Term};
 use std::alloc::Global;
-use std::cmp::Ordering;
-use std::slice::from_ref;
 
-/// What facts are found by: a relation, and 0 with no term, or one more than a column with the term there.
-#[derive(Clone, Copy)]
-pub struct Key<'a> {
-    pub relation: usize,
-    pub column: usize,
-    pub terms: &'a [Term],
+/// The most buckets by relations. More relations share them.
+const MOST_RELATIONS: usize = 2048;
+
+/// The places of a list of facts, in buckets: each place by the fact's relation, and by its term in each of the columns.
+#[derive(Drop)]
+pub struct Index {
+    pub columns: Columns,
+    pub relations: Buckets,
+    pub terms: Buckets,
 }
 
-/// The place of a fact, its relation, and 0 or one more than one of its columns. It names no term, so it stays right
-/// where facts are added after this one.
-#[derive(Clone, Copy)]
-pub struct Entry {
-    pub relation: usize,
-    pub column: usize,
-    pub place: usize,
-}
-
-/// The order of keys.
-fn compare_keys(key: &Key, other: &Key) -> Ordering
-    ensures { result ≡ key_cmp (key_of key.now) (key_of other.now) }
+/// Puts the place of a fact into the bucket of its term in the column, if that is one of the columns.
+fn add_term(
+    columns: &Columns,
+    fact: &Atom,
+    place: usize,
+    column: usize,
+    terms: &mut Buckets,
+) -> Result<(), OutOfMemory>
+    requires { column < length fact.now.terms }
+    ensures { OnOk result ((old : List (List ℕ))
+        → AddsTerms fact.now columns.now place column old terms.old
+        → AddsTerms fact.now columns.now place (column + 1) old terms.new) }
 {
-    let order = key
-        .relation
-        .cmp(&other.relation)
-        .then(key.column.cmp(&other.column));
-    match order {
-        Ordering::Less => Ordering::Less,
-        Ordering::Equal => compare_terms(key.terms, other.terms),
-        Ordering::Greater => Ordering::Greater,
+    if !is_among(columns, fact.relation, column) {
+        return Ok(());
     }
+    let hash = key_hash(fact.relation, column, fact.terms.item(column));
+    terms.put(hash, place)
 }
 
-/// The terms of the key with that number: none, or the term of a column.
-fn key_terms(terms: &[Term], column: usize) -> &[Term]
-    ensures { result.now ≡ key_terms terms.now column }
+/// Puts the place of a fact into the buckets of its terms in the columns.
+fn add_terms(
+    columns: &Columns,
+    fact: &Atom,
+    place: usize,
+    terms: &mut Buckets,
+) -> Result<(), OutOfMemory>
+    ensures { OnOk result (AddsTerms fact.now columns.now place (length fact.now.terms)
+        terms.old terms.new) }
 {
-    if column == 0 || column > terms.len() {
-        &[]
-    } else {
-        from_ref(&terms[column - 1])
-    }
-}
-
-/// The terms of the key by which the entry is found.
-fn entry_terms<'a>(facts: &'a [Atom], entry: &Entry) -> &'a [Term]
-    ensures { result.now ≡ entry_terms facts.now entry.now }
-{
-    if entry.column == 0 || entry.place >= facts.len() {
-        return &[];
-    }
-    key_terms(facts[entry.place].terms.items(), entry.column)
-}
-
-/// The key by which the entry is found.
-fn key_at<'a>(facts: &'a [Atom], entry: &Entry) -> Key<'a>
-    ensures { key_of result ≡ key_at facts.now entry.now }
-{
-    Key {
-        relation: entry.relation,
-        column: entry.column,
-        terms: entry_terms(facts, entry),
-    }
-}
-
-/// The order of entries: by key, and then by place.
-fn compare_entries(facts: &[Atom], entry: &Entry, other: &Entry) -> Ordering
-    ensures { result ≡ entry_cmp facts.now entry.now other.now }
-{
-    compare_keys(&key_at(facts, entry), &key_at(facts, other)).then(entry.place.cmp(&other.place))
-}
-
-/// Adds the entries of a fact.
-fn add_entries(fact: &Atom, place: usize, entries: &mut Vec<Entry>) -> Result<(), OutOfMemory>
-    ensures { OnOk result
-        (AddsEntries fact.now place (length fact.now.terms + 1)
-        entries.old.items entries.new.items) }
-{
-    let terms = fact.terms.items();
-    for column in 0..terms.len() + 1 {
-        let entry = Entry {
-            relation: fact.relation,
-            column,
-            place,
-        };
-        let Ok(()) = entries.push(entry) else {
-            return Err(OutOfMemory);
-        };
+    'columns: for column in 0..fact.terms.len() {
+        add_term(columns, fact, place, column, terms)?;
     }
     Ok(())
 }
 
-/// The entries of the facts.
-fn entries_of(alloc: Global, facts: &[Atom]) -> Result<Vec<Entry>, OutOfMemory>
-    ensures { IfOk result (λ entries. AreListed facts.now (length facts.now) entries.items) }
+/// Puts the place of a fact into its buckets.
+fn add_fact(
+    columns: &Columns,
+    fact: &Atom,
+    place: usize,
+    relations: &mut Buckets,
+    terms: &mut Buckets,
+) -> Result<(), OutOfMemory>
+    ensures { OnOk result ((facts : List (Fact Term))
+        → slice_get facts place ≡ Some fact.now
+        → AreListed facts columns.now place relations.old terms.old
+        → AreListed facts columns.now (place + 1) relations.new terms.new) }
 {
-    let mut entries = Vec::new(alloc);
-    for place in 0..facts.len() {
-        add_entries(&facts[place], place, &mut entries)?;
+    relations.put(fact.relation as u64, place)?;
+    add_terms(columns, fact, place, terms)?;
+    Ok(())
+}
+
+/// Puts the places of the facts into buckets, which are empty.
+fn add_facts(
+    columns: &Columns,
+    facts: &[Atom],
+    relations: &mut Buckets,
+    terms: &mut Buckets,
+) -> Result<(), OutOfMemory>
+    requires no_relation { AreRising relations.old 0 }
+    requires no_term { AreRising terms.old 0 }
+    ensures { OnOk result (AreListed facts.now columns.now (length facts.now)
+        relations.new terms.new) }
+{
+    'facts: for place in 0..facts.len() {
+        add_fact(columns, &facts[place], place, relations, terms)?;
     }
-    Ok(entries)
+    Ok(())
 }
 
-/// A range of the index with each entry of a key, by rising place.
-fn range_of<'b>(facts: &[Atom], index: &'b [Entry], key: &Key) -> &'b [Entry]
-    requires { IsInOrder facts.now index.now }
-    ensures { IsRangeOf facts.now index.now (key_of key.now) result.now }
-{
-    let low = index.partition_point(|entry| compare_keys(&key_at(facts, entry), key).is_lt());
-    let from = &index[low..];
-    let count = from.partition_point(|entry| compare_keys(key, &key_at(facts, entry)).is_ge());
-    &from[..count]
+/// How many terms of the fact stand in one of the columns.
+fn count_in(columns: &Columns, fact: &Atom) -> usize {
+    let mut count: usize = 0;
+    'columns: for column in 0..fact.terms.len() {
+        if is_among(columns, fact.relation, column) {
+            count = count.saturating_add(1);
+        }
+    }
+    count
 }
 
-/// The entries with a place at or after the given one.
-pub fn entries_from(entries: &[Entry], least: usize) -> &[Entry]
-    requires { IsNonDecreasingBy (λ entry. entry.place) entries.now }
-    ensures { AreFrom least entries.now result.now }
+/// How many terms of the facts stand in one of the columns.
+fn count_terms(columns: &Columns, facts: &[Atom]) -> usize {
+    let mut count: usize = 0;
+    'facts: for fact in facts {
+        count = count.saturating_add(count_in(columns, fact));
+    }
+    count
+}
+
+/// The index of the facts by the columns.
+pub fn index_of(alloc: Global, columns: Columns, facts: &[Atom]) -> Result<Index, OutOfMemory>
+    ensures { IfOk result (IsIndex facts.now) }
 {
-    let low = entries.partition_point(|entry| entry.place < least);
-    &entries[low..]
+    let mut relations = Buckets::new(alloc, facts.len().min(MOST_RELATIONS))?;
+    let mut terms = Buckets::new(alloc, count_terms(&columns, facts))?;
+    add_facts(&columns, facts, &mut relations, &mut terms)?;
+    Ok(Index {
+        columns,
+        relations,
+        terms,
+    })
 }
 
 /// The term that each map which extends the trail sends this one to.
@@ -155,57 +151,59 @@ fn bound_to<'b, 'a: 'b>(
     }
 }
 
-/// The index of the facts: their entries, sorted by relation, column, the term there, and the fact's place.
-pub fn index_of(alloc: Global, facts: &[Atom]) -> Result<Vec<Entry>, OutOfMemory>
-    ensures { IfOk result (λ index. IsIndex facts.now index.items) }
+/// The places of the bucket of the term's value in the column, if there are fewer than the given ones, which are
+/// candidates too.
+fn fewer_by<'b, 'c, 'a: 'c>(
+    start: &'c Valuation,
+    facts: &[Atom],
+    index: &'b Index,
+    trail: &'c [Binding<'a>],
+    atom: &'c Atom,
+    column: usize,
+    best: &'b [usize],
+) -> &'b [usize]
+    requires index { IsIndex facts.now index.now }
+    requires within { column < length atom.now.terms }
+    requires best { AreCandidates facts.now atom.now (with_trail start.now trail.now) best.now }
+    ensures { AreCandidates facts.now atom.now (with_trail start.now trail.now) result.now }
 {
-    let mut entries = entries_of(alloc, facts)?;
-    entries.sort_by(|entry, other| compare_entries(facts, entry, other))?;
-    Ok(entries)
-}
-
-/// One of the lists, where there are two: the shorter one, which is gone through sooner.
-fn shorter<'b>(best: Option<&'b [Entry]>, found: &'b [Entry]) -> &'b [Entry]
-    ensures { MatchOption best.entry (result.now ≡ found.now) (λ entries.
-        (result.now ≡ entries.now) ⊎ (result.now ≡ found.now)) }
-{
-    match best {
-        Some(entries) if entries.len() <= found.len() => entries,
-        _ => found,
+    if best.len() < 2 || !is_among(&index.columns, atom.relation, column) {
+        return best;
     }
+    let Some(bound) = bound_to(start, trail, atom.terms.item(column)) else {
+        return best;
+    };
+    let found = index.terms.at(key_hash(atom.relation, column, bound));
+    if best.len() <= found.len() {
+        return best;
+    }
+    found
 }
 
-/// The entries of the places to which the atom can go: those of the one of its bound columns that has fewest, or of
-/// its relation where no column is bound.
+/// The places to which the atom can go: those of its relation, or fewer where the index finds it by a column that is
+/// bound.
 pub fn places_for<'b, 'c, 'a: 'c>(
     start: &'c Valuation,
     facts: &[Atom],
-    index: &'b [Entry],
+    index: &'b Index,
     trail: &'c [Binding<'a>],
     atom: &'c Atom,
-) -> &'b [Entry]
+) -> &'b [usize]
     requires { IsIndex facts.now index.now }
     ensures { AreCandidates facts.now atom.now (with_trail start.now trail.now) result.now }
 {
-    let mut best = None;
-    let terms = atom.terms.items();
-    for column in 0..terms.len() {
-        if let Some(bound) = bound_to(start, trail, &terms[column]) {
-            let key = Key {
-                relation: atom.relation,
-                column: column + 1,
-                terms: from_ref(bound),
-            };
-            best = Some(shorter(best, range_of(facts, index, &key)));
-        }
+    let mut best = index.relations.at(atom.relation as u64);
+    'columns: for column in 0..atom.terms.len() {
+        best = fewer_by(start, facts, index, trail, atom, column, best);
     }
-    if let Some(entries) = best {
-        return entries;
-    }
-    let key = Key {
-        relation: atom.relation,
-        column: 0,
-        terms: &[],
-    };
-    range_of(facts, index, &key)
+    best
+}
+
+/// The places at or after the given one.
+pub fn places_from(places: &[usize], least: usize) -> &[usize]
+    requires { IsRising places.now }
+    ensures { AreFrom least places.now result.now }
+{
+    let low = places.partition_point(|place| *place < least);
+    &places[low..]
 }

@@ -6,7 +6,8 @@ ghost use Rattle.esto_semantics.specs.Maps.{IsFlat};
 ghost use Rattle.esto_query.specs.Trails.{with_trail, Tries};
 ghost use Rattle.esto_query.specs.Indexes.{AreCandidates};
 
-use crate::index::{Entry, index_of, places_for};
+use crate::columns::Columns;
+use crate::index::{Index, index_of, places_for};
 use crate::trail::{Binding, bind_atom};
 use crate::valuation::Valuation;
 use esto_semantics::{Atom, Facts};
@@ -19,7 +20,7 @@ use std::marker::Model;
 #[derive(Drop)]
 pub struct IndexedFacts<'a> {
     facts: &'a [Atom],
-    index: Vec<Entry>,
+    index: Index,
 }
 
 impl<'a> Model for IndexedFacts<'a> {
@@ -36,16 +37,27 @@ impl<'a> Model for IndexedFacts<'a> {
 
     ghost view = { λ it. it.facts.now };
 
-    ghost invariant = { λ it. IsIndex it.facts.now it.index.items };
+    ghost invariant = { λ it. IsIndex it.facts.now it.index };
 }
 
 impl<'a> IndexedFacts<'a> {
-    /// The facts with their index.
+    /// The facts with their index by each column.
     pub fn of(alloc: Global, facts: &'a Facts) -> Result<IndexedFacts<'a>, OutOfMemory>
         ensures { IfOk result (λ indexed. indexed ≡ facts.now) }
     {
+        IndexedFacts::by(alloc, Columns::every(alloc), facts)
+    }
+
+    /// The facts with their index by these columns.
+    pub fn by(
+        alloc: Global,
+        columns: Columns,
+        facts: &'a Facts,
+    ) -> Result<IndexedFacts<'a>, OutOfMemory>
+        ensures { IfOk result (λ indexed. indexed ≡ facts.now) }
+    {
         let facts = facts.items();
-        let index = index_of(alloc, facts)?;
+        let index = index_of(alloc, columns, facts)?;
         Ok(IndexedFacts { facts, index })
     }
 
@@ -57,13 +69,13 @@ impl<'a> IndexedFacts<'a> {
     }
 }
 
-/// The entries of the places to which the atom can go.
+/// The places to which the atom can go.
 pub fn candidates<'b>(
     start: &Valuation,
     facts: &'b IndexedFacts,
     trail: &[Binding],
     atom: &Atom,
-) -> &'b [Entry]
+) -> &'b [usize]
     ensures { AreCandidates facts.now atom.now (with_trail start.now trail.now) result.now }
 {
     places_for(start, facts.facts, &facts.index, trail, atom)

@@ -3,7 +3,11 @@
 #![tactic(auto)]
 
 mod answer;
+mod apart;
 mod body;
+mod buckets;
+mod columns;
+mod hash;
 mod index;
 mod indexed;
 mod make;
@@ -16,7 +20,9 @@ mod valuation;
 
 pub use answer::{answers, in_order};
 pub use body::{first_misfit, mentions, missing_variable};
+pub use columns::Columns;
 pub use esto_semantics::{Atom, Atoms, Facts};
+pub use hash::row_hash;
 pub use indexed::IndexedFacts;
 pub use make::{MAX_ATOMS, QueryFault, make_query};
 pub use matches::{Found, first_match, matches_send, next_match};

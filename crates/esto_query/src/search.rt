@@ -3,7 +3,7 @@ ghost use Rattle.std.specs.Prelude.{◌≡◌, IfOk};
 ghost use Rattle.esto_semantics.specs.Maps.{AreFlat};
 ghost use Rattle.esto_query.specs.Searches.{Searched, first_from, rest_from};
 
-use crate::index::entries_from;
+use crate::index::places_from;
 use crate::indexed::{IndexedFacts, bind_place, candidates};
 use crate::trail::Binding;
 use crate::valuation::Valuation;
@@ -50,9 +50,9 @@ pub fn search<'a>(
     let mark = trail.len();
     let depth = places.len();
     let found = candidates(start, facts, trail, atom);
-    let left = entries_from(found, least_first(from));
-    for entry in left {
-        let place = entry.place;
+    let left = places_from(found, least_first(from));
+    'places: for place in left {
+        let place = *place;
         if bind_place(start, facts, trail, atom, place)? {
             places.push(place)?;
             if search(start, rest, facts, from_after(from, place), trail, places)? {

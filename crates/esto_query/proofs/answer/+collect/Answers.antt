@@ -1,10 +1,10 @@
 use Rattle.std.proofs.Common.{length, ◌≡◌, ◌∷◌, [], refl, ap, subst, arith}
 use Rattle.std.proofs.lemmas.List.{nil_from_length}
+use Rattle.esto_query.proofs.IndexLemmas.{place_at, place_read}
 use Rattle.std.proofs.lemmas.Result.{on_ok_weaker}
 use Rattle.esto_semantics.specs.Maps.{AreFlat}
 use Rattle.esto_query.specs.Trails.{with_trail}
 use Rattle.esto_query.specs.Rows.{AreKnown}
-use Rattle.esto_query.proofs.IndexLemmas.{entry_at, entry_read}
 use Rattle.esto_query.proofs.TrailLemmas.{undone}
 use Rattle.esto_query.proofs.LeastLemmas.{flat_first, flat_rest}
 use Rattle.esto_query.proofs.RowLemmas.{leaf_adds, none_seen, end_adds, AreKnown-next, turn_skip, turn_next}
@@ -50,8 +50,8 @@ collect-returns-clause-adds t c =
     let split : c.args.body.now ≡ c.in-Some.atom.now ∷ c.in-Some.rest.now = c.in-Some.ensures.cases.0 in
     rw split c.collect_each.ensures.adds
 
-pub collect_each-loop-entry-init : goal.collect_each-loop-entry-init
-collect_each-loop-entry-init t c = record {
+pub collect_each-places-init : goal.collect_each-places-init
+collect_each-places-init t c = record {
   trail = refl;
   adds = none_seen c.args.head.now c.args.atom.now c.args.rest.now c.args.facts.now (with_trail c.args.start.now c.args.trail.now.items)
       c.args.rows.now.items;
@@ -63,51 +63,51 @@ collect_each-bind_place-requires t c = flat_first c.args.atom.now c.args.rest.no
 pub collect_each-collect-requires : goal.collect_each-collect-requires
 collect_each-collect-requires t c =
     let tried = rw c.in-Ok-true.field-0-test at c.in-Ok-true.ensures in
-    let known = rw (← c.loop-entry.invariant.trail) at c.requires.known in (
+    let known = rw (← c.places.invariant.trail) at c.requires.known in (
       omega arith,
       (
         flat_rest c.args.atom.now c.args.rest.now c.requires.flat,
-        AreKnown-next (with_trail c.args.start.now c.loop-entry.trail.items)
+        AreKnown-next (with_trail c.args.start.now c.places.trail.items)
             (with_trail c.args.start.now c.bind_place.new.trail.items) c.args.atom.now c.args.facts.now
-            (entry_at c.candidates-found.result.now c.loop-entry.entry-index).place c.args.rest.now tried.1 c.args.head.now
+            (place_at c.candidates-found.result.now c.places.place-index) c.args.rest.now tried.1 c.args.head.now
             known,
       ),
     )
 
-pub collect_each-loop-entry-preserved : goal.collect_each-loop-entry-preserved
-collect_each-loop-entry-preserved t c =
+pub collect_each-places-preserved : goal.collect_each-places-preserved
+collect_each-places-preserved t c =
     let serves = rw c.deref.ensures.value at c.candidates-found.ensures in
-    let tried = rw (c.in-Ok-true.field-0-test, c.loop-entry.invariant.trail) at c.in-Ok-true.ensures in
+    let tried = rw (c.in-Ok-true.field-0-test, c.places.invariant.trail) at c.in-Ok-true.ensures in
     let grown = rw c.in-Ok-true.field-0-test at c.in-Ok-true.ensures in
     record {
-      trail = undone _ _ _ _ _ _ (omega (arith, c.args.trail.now.ok.0, c.len-mark.ensures)) c.loop-entry.invariant.trail grown.0
+      trail = undone _ _ _ _ _ _ (omega (arith, c.args.trail.now.ok.0, c.len-mark.ensures)) c.places.invariant.trail grown.0
           c.in-Ok.ensures.trail c.truncate.ensures.items;
       adds = turn_next c.args.head.now c.args.atom.now c.args.rest.now c.args.facts.now
-          (with_trail c.args.start.now c.args.trail.now.items) c.args.rows.now.items c.candidates-found.result.now serves c.loop-entry.entry-index
-          (entry_at c.candidates-found.result.now c.loop-entry.entry-index)
-          (with_trail c.args.start.now c.bind_place.new.trail.items) c.loop-entry.rows.items _ c.loop-entry-test.true
-          (entry_read c.candidates-found.result.now c.loop-entry.entry-index c.loop-entry-test.true) tried.1 c.in-Ok.ensures.adds
-          c.loop-entry.invariant.adds;
+          (with_trail c.args.start.now c.args.trail.now.items) c.args.rows.now.items c.candidates-found.result.now serves c.places.place-index
+          (place_at c.candidates-found.result.now c.places.place-index)
+          (with_trail c.args.start.now c.bind_place.new.trail.items) c.places.rows.items _ c.places-test.true
+          (place_read c.candidates-found.result.now c.places.place-index c.places-test.true) tried.1 c.in-Ok.ensures.adds
+          c.places.invariant.adds;
     }
 
-pub collect_each-loop-entry-preserved-in-Ok-false : goal.collect_each-loop-entry-preserved-in-Ok-false
-collect_each-loop-entry-preserved-in-Ok-false t c =
+pub collect_each-places-preserved-in-Ok-false : goal.collect_each-places-preserved-in-Ok-false
+collect_each-places-preserved-in-Ok-false t c =
     let serves = rw c.deref.ensures.value at c.candidates-found.ensures in
-    let tried = rw (c.in-Ok-false.field-0-test, c.loop-entry.invariant.trail) at c.in-Ok-false.ensures in
+    let tried = rw (c.in-Ok-false.field-0-test, c.places.invariant.trail) at c.in-Ok-false.ensures in
     record {
       trail = tried.0;
       adds = turn_skip c.args.head.now c.args.atom.now c.args.rest.now c.args.facts.now
-          (with_trail c.args.start.now c.args.trail.now.items) c.args.rows.now.items c.candidates-found.result.now serves c.loop-entry.entry-index
-          (entry_at c.candidates-found.result.now c.loop-entry.entry-index) c.loop-entry.rows.items c.loop-entry-test.true
-          (entry_read c.candidates-found.result.now c.loop-entry.entry-index c.loop-entry-test.true) tried.1 c.loop-entry.invariant.adds;
+          (with_trail c.args.start.now c.args.trail.now.items) c.args.rows.now.items c.candidates-found.result.now serves c.places.place-index
+          (place_at c.candidates-found.result.now c.places.place-index) c.places.rows.items c.places-test.true
+          (place_read c.candidates-found.result.now c.places.place-index c.places-test.true) tried.1 c.places.invariant.adds;
     }
 
 pub collect_each-returns-clause-trail : goal.collect_each-returns-clause-trail
-collect_each-returns-clause-trail t c = c.loop-entry.invariant.trail
+collect_each-returns-clause-trail t c = c.places.invariant.trail
 
 pub collect_each-returns-clause-adds : goal.collect_each-returns-clause-adds
 collect_each-returns-clause-adds t c =
     let serves = rw c.deref.ensures.value at c.candidates-found.ensures in
     end_adds c.args.head.now c.args.atom.now c.args.rest.now c.args.facts.now
-    (with_trail c.args.start.now c.args.trail.now.items) c.args.rows.now.items c.candidates-found.result.now serves c.loop-entry.entry-index
-    c.loop-entry.rows.items c.loop-entry-test.false c.loop-entry.invariant.adds
+    (with_trail c.args.start.now c.args.trail.now.items) c.args.rows.now.items c.candidates-found.result.now serves c.places.place-index
+    c.places.rows.items c.places-test.false c.places.invariant.adds

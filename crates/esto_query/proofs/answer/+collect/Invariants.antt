@@ -10,8 +10,8 @@ decreases-collect l = 2 * length l.body.now
 abbrev pub decreases-collect_each : goal.decreases-collect_each
 decreases-collect_each l = 2 * length l.rest.now + 1
 
-abbrev pub invariant-collect_each-loop-entry : goal.invariant-collect_each-loop-entry
-invariant-collect_each-loop-entry l = record {
+abbrev pub invariant-collect_each-places : goal.invariant-collect_each-places
+invariant-collect_each-places l = record {
   trail : l.trail.items ≡ l.fn.trail.items;
-  adds : Adds l.fn.rows.items l.rows.items (IsRowSeen l.head l.atom l.rest l.facts (take l.entry-index l.found) (with_trail l.start l.fn.trail.items));
+  adds : Adds l.fn.rows.items l.rows.items (IsRowSeen l.head l.atom l.rest l.facts (take l.place-index l.found) (with_trail l.start l.fn.trail.items));
 }

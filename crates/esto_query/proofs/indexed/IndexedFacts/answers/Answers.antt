@@ -1,27 +1,15 @@
-use Rattle.std.proofs.Common.{◌∙◌, ap}
+use Rattle.std.proofs.Common.{Contains}
 use Rattle.std.proofs.lemmas.Result.{IfOk-weaker}
+use Rattle.esto_semantics.specs.Queries.{IsAnswerInto}
+use Rattle.esto_term.specs.declared.term.Term.TheVariants.{Const}
 use Rattle.esto_query.specs.Making.{query_of}
-use Rattle.esto_query.specs.Trails.{with_trail}
-use Rattle.esto_query.proofs.SoundLemmas.{sound_of}
-use Rattle.esto_query.proofs.RowLemmas.{known_at_first, answers_are}
+use Rattle.esto_query.proofs.RowLemmas.{answers_are}
 use Rattle.esto_query.proofs.indexed.IndexedFacts.answers.Goals as goal
 
-pub collect-requires-clause-flat : goal.collect-requires-clause-flat
-collect-requires-clause-flat c =
-    let kept = sound_of c.args.query.now.head c.args.query.now.body c.args.query.now.names c.args.query.now.sound in
-    rw c.items-body.ensures kept.query.flat_body
-
-pub collect-requires-clause-known : goal.collect-requires-clause-known
-collect-requires-clause-known c =
-    let kept = sound_of c.args.query.now.head c.args.query.now.body c.args.query.now.names c.args.query.now.sound in
-    rw (c.items-head.ensures, c.items-body.ensures) (known_at_first (query_of c.args.query.now) _ kept.query)
-
 pub returns-clause-rows : goal.returns-clause-rows
-returns-clause-rows c =
-    let adds = rw (c.items-head.ensures, c.items-body.ensures) at c.in_ok-collect.ensures.adds in
-    IfOk-weaker c.in_order.result _ _ (λ kept. answers_are (query_of c.args.query.now) c.args.self.now c.new-rows.result.items c.collect.new.rows.items kept
-    (with_trail c.new-start.result c.new-trail.result.items) c.new-rows.ensures.items
-    (ap (with_trail c.new-start.result) c.new-trail.ensures.items ∙ c.new-start.ensures) adds) c.in_order.ensures.rows
+returns-clause-rows c = IfOk-weaker c.in_order.result _ _
+    (λ kept. answers_are (IsAnswerInto Const (query_of c.args.query.now) (Contains c.args.self.now)) c.new-rows.result.items c.add_answers.new.rows.items kept
+    c.new-rows.ensures.items c.in_ok-add_answers.ensures) c.in_order.ensures.rows
 
 pub returns-clause-ascending : goal.returns-clause-ascending
 returns-clause-ascending c = c.in_order.ensures.ascending
