@@ -3,3 +3,4 @@ pub mod MakingLemmas
 pub mod RankLemmas
 pub mod MeetingLemmas
 pub mod EncodingLemmas
+pub mod EqualityLemmas

@@ -1,5 +1,5 @@
 //! Active matches of rules, and whether facts meet rules.
-ghost use Rattle.std.specs.Prelude.{◌≡◌, IfOk, MatchOption};
+ghost use Rattle.std.specs.Prelude.{◌≡◌, IfOk, IsTrue, MatchOption};
 ghost use Rattle.std.specs.FinMap as map;
 ghost use Rattle.esto_query.specs.Valuations.{map_of};
 ghost use Rattle.esto_constraint.specs.Constraints.{rule_of, rules_of};
@@ -7,8 +7,9 @@ ghost use Rattle.esto_semantics.specs.Rules.{body_of};
 ghost use Rattle.esto_constraint.specs.Matches.{HasExtension, Holds, IsMet, AreMet, IsLeastActive, IsFirstBroken, LeastActiveIsLeast};
 ghost use Rattle.esto_constraint.specs.Tests.{IsOver, Tells};
 
+use crate::make::rules_are_sound;
 use crate::rule::{Constraint, Egd, Rules, Tgd};
-use esto_query::{Found, IndexedFacts, Valuation};
+use esto_query::{Columns, Found, IndexedFacts, Valuation};
 use esto_semantics::{Atoms, Facts};
 use esto_term::{OutOfMemory, Term};
 use std::alloc::Global;
@@ -117,6 +118,26 @@ fn least_active(
     Ok(None)
 }
 
+/// Whether the facts meet an equality rule. No copy is made of a match, so this is told sooner than the least active one is
+/// found. False is answered for rules of other kinds.
+fn is_met_equality(
+    alloc: Global,
+    rule: &Constraint,
+    facts: &IndexedFacts,
+) -> Result<bool, OutOfMemory>
+    ensures { IfOk result (λ it. IsTrue it → IsMet facts.now (rule_of rule.now)) }
+{
+    rules_are_sound();
+    match rule {
+        Constraint::Tuple(_) => Ok(false),
+        Constraint::Equal(rule) => {
+            let told = facts.tells_apart(alloc, &rule.left, &rule.right, &rule.body)?;
+            Ok(!told)
+        }
+        Constraint::Never(_) => Ok(false),
+    }
+}
+
 /// The least active match of the rule in the facts, by the list of places: the least match of its body that has no
 /// extension to the head, or that makes the two sides different, or of a denial the least match. None comes exactly
 /// where the facts meet the rule.
@@ -128,8 +149,32 @@ pub fn active_in(
     ensures { IfOk result (λ outcome. MatchOption outcome (IsMet facts.now (rule_of rule.now))
         (λ found. IsLeastActive (rule_of rule.now) facts.now found.valuation found.places)) }
 {
+    if is_met_equality(alloc, rule, facts)? {
+        return Ok(None);
+    }
     let start = Valuation::new(alloc);
     least_active(alloc, rule, facts, &start)
+}
+
+/// Adds the columns by which the rule's matches and their extensions are found.
+fn add_columns(alloc: Global, columns: &mut Columns, rule: &Constraint) -> Result<(), OutOfMemory> {
+    columns.add_asked(alloc, &[], body_of(rule).items())?;
+    match rule {
+        Constraint::Tuple(rule) => {
+            columns.add_asked(alloc, rule.body.items(), rule.head.items())
+        }
+        Constraint::Equal(_) => Ok(()),
+        Constraint::Never(_) => Ok(()),
+    }
+}
+
+/// The columns by which the rules' matches and their extensions are found.
+fn columns_of(alloc: Global, rules: &Rules) -> Result<Columns, OutOfMemory> {
+    let mut columns = Columns::none(alloc);
+    'rules: for rule in rules.items() {
+        add_columns(alloc, &mut columns, rule)?;
+    }
+    Ok(columns)
 }
 
 /// The least active match of the rule in the facts, by the list of places: the least match of its body that has no
@@ -139,7 +184,9 @@ pub fn active(alloc: Global, rule: &Constraint, facts: &Facts) -> Result<Option<
     ensures { IfOk result (λ outcome. MatchOption outcome (IsMet facts.now (rule_of rule.now))
         (λ found. IsLeastActive (rule_of rule.now) facts.now found.valuation found.places)) }
 {
-    let indexed = IndexedFacts::of(alloc, facts)?;
+    let mut columns = Columns::none(alloc);
+    add_columns(alloc, &mut columns, rule)?;
+    let indexed = IndexedFacts::by(alloc, columns, facts)?;
     active_in(alloc, rule, &indexed)
 }
 
@@ -173,7 +220,8 @@ pub fn meets(alloc: Global, rules: &Rules, facts: &Facts) -> Result<Option<Broke
         (λ broken. IsFirstBroken (rules_of rules.now) facts.now broken.rule
         broken.found.valuation broken.found.places)) }
 {
-    let indexed = IndexedFacts::of(alloc, facts)?;
+    let columns = columns_of(alloc, rules)?;
+    let indexed = IndexedFacts::by(alloc, columns, facts)?;
     first_broken(alloc, rules, &indexed)
 }
 
