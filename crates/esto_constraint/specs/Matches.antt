@@ -5,18 +5,11 @@ use Rattle.esto_term.specs.declared.term.Term.{Term}
 use Rattle.esto_term.specs.declared.term.Term.TheVariants.{Const}
 use Rattle.esto_semantics.specs.Maps.{Keeps}
 use Rattle.esto_semantics.specs.Matches.{IsMatch, IsAtMost, IsActive}
-use Rattle.esto_semantics.specs.Rules.{Rule, tuple, body_of, Concludes, MeetsInto}
+use Rattle.esto_semantics.specs.Rules.{Rule, body_of, MeetsInto}
 use Rattle.esto_semantics.specs.declared.fact.Fact.{Fact}
+pub use Rattle.esto_query.specs.Active.{Holds}
 use Rattle.esto_query.specs.Valuations.{Assignment, Extends, map_of}
 use Rattle.esto_query.specs.Matches.{IsFound}
-
--- Under a map that sends the rule's body to facts, read over terms, the rule's conclusion is so.
-abbrev pub Holds : List (Fact Term) → Rule → (Term → Term) → Type 0
-Holds facts rule m = Concludes Const ◌≡◌ (Contains facts) rule m
-
--- The map of the body to facts has an extension to the head: some map that agrees with it on the body sends the head to facts.
-abbrev pub HasExtension : List (Fact Term) → List (Fact Term) → List (Fact Term) → (Term → Term) → Type 0
-HasExtension body head facts m = Holds facts (tuple body head) m
 
 -- The facts, read over terms, meet the rule.
 abbrev pub IsMet : List (Fact Term) → Rule → Type 0

@@ -1,15 +1,15 @@
 //! Active matches of rules, and whether facts meet rules.
-ghost use Rattle.std.specs.Prelude.{◌≡◌, IfOk, IsTrue, MatchOption};
+ghost use Rattle.std.specs.Prelude.{◌≡◌, IfOk, MatchOption};
 ghost use Rattle.std.specs.FinMap as map;
+ghost use Rattle.esto_query.specs.Active.{IsAimed, rule_of as rule_of_lent};
 ghost use Rattle.esto_query.specs.Valuations.{map_of};
-ghost use Rattle.esto_constraint.specs.Constraints.{rule_of, rules_of};
+ghost use Rattle.esto_semantics.specs.Maps.{AreFlat};
 ghost use Rattle.esto_semantics.specs.Rules.{body_of};
-ghost use Rattle.esto_constraint.specs.Matches.{HasExtension, Holds, IsMet, AreMet, IsLeastActive, IsFirstBroken, LeastActiveIsLeast};
-ghost use Rattle.esto_constraint.specs.Tests.{IsOver, Tells};
+ghost use Rattle.esto_constraint.specs.Constraints.{rule_of, rules_of};
+ghost use Rattle.esto_constraint.specs.Matches.{IsMet, AreMet, IsLeastActive, IsFirstBroken, LeastActiveIsLeast};
 
-use crate::make::rules_are_sound;
-use crate::rule::{Constraint, Egd, Rules, Tgd};
-use esto_query::{Columns, Found, IndexedFacts, Valuation};
+use crate::rule::{Constraint, Rules};
+use esto_query::{Columns, Conclusion, Found, IndexedFacts, LentRule, Valuation};
 use esto_semantics::{Atoms, Facts};
 use esto_term::{OutOfMemory, Term};
 use std::alloc::Global;
@@ -46,95 +46,26 @@ pub fn value_of<'a>(valuation: &'a Valuation, term: &'a Term) -> &'a Term
     }
 }
 
-/// Whether a match of the body has no extension to the head.
-fn lacks_extension(
-    alloc: Global,
-    rule: &Tgd,
-    facts: &IndexedFacts,
-    valuation: &Valuation,
-) -> Result<bool, OutOfMemory>
-    requires { IsOver rule.now.body valuation.now }
-    ensures { IfOk result (λ it.
-        Tells valuation.now (HasExtension rule.now.body rule.now.head facts.now) it) }
-{
-    let extension = facts.first_match(alloc, &rule.head, valuation)?;
-    Ok(extension.is_none())
-}
-
-/// Whether a match of the body makes the two sides different.
-fn tells_apart(rule: &Egd, valuation: &Valuation) -> bool
-    requires { IsOver rule.now.body valuation.now }
-    ensures { Tells valuation.now (λ m. m rule.now.left ≡ m rule.now.right) result }
-{
-    let left = value_of(valuation, &rule.left);
-    let right = value_of(valuation, &rule.right);
-    !left.equal(right)
-}
-
-/// Whether a match of the body is active. Under a denial each is.
-fn is_active(
-    alloc: Global,
-    rule: &Constraint,
-    facts: &IndexedFacts,
-    valuation: &Valuation,
-) -> Result<bool, OutOfMemory>
-    requires { IsOver (body_of (rule_of rule.now)) valuation.now }
-    ensures { IfOk result (λ it. Tells valuation.now (Holds facts.now (rule_of rule.now)) it) }
+/// The rule, lent to a search for active matches.
+fn lent(rule: &Constraint) -> LentRule<'_>
+    ensures same { rule_of_lent result ≡ rule_of rule.now }
+    ensures body { result.body.now ≡ body_of (rule_of rule.now) }
+    ensures flat { AreFlat result.body.now }
+    ensures aimed { IsAimed result result.body.now map.empty }
 {
     match rule {
-        Constraint::Tuple(rule) => {
-            let lacks = lacks_extension(alloc, rule, facts, valuation)?;
-            Ok(lacks)
-        }
-        Constraint::Equal(rule) => Ok(tells_apart(rule, valuation)),
-        Constraint::Never(_) => Ok(true),
-    }
-}
-
-/// The least active match of the rule, by a look at each match of its body in order.
-fn least_active(
-    alloc: Global,
-    rule: &Constraint,
-    facts: &IndexedFacts,
-    start: &Valuation,
-) -> Result<Option<Found>, OutOfMemory>
-    requires { start.now ≡ map.empty }
-    ensures { IfOk result (λ outcome. MatchOption outcome (IsMet facts.now (rule_of rule.now))
-        (λ found. IsLeastActive (rule_of rule.now) facts.now found.valuation found.places)) }
-{
-    let body = body_of(rule);
-    let mut candidate = facts.first_match(alloc, body, start)?;
-    'matches: while let Some(found) = candidate {
-        match is_active(alloc, rule, facts, &found.valuation) {
-            Ok(true) => return Ok(Some(found)),
-            Ok(false) => {}
-            Err(error) => return Err(error),
-        }
-        match facts.next_match(alloc, body, start, &found) {
-            Ok(next) => candidate = next,
-            Err(error) => return Err(error),
-        }
-    }
-    Ok(None)
-}
-
-/// Whether the facts meet an equality rule. No copy is made of a match, so this is told sooner than the least active one is
-/// found. False is answered for rules of other kinds.
-fn is_met_equality(
-    alloc: Global,
-    rule: &Constraint,
-    facts: &IndexedFacts,
-) -> Result<bool, OutOfMemory>
-    ensures { IfOk result (λ it. IsTrue it → IsMet facts.now (rule_of rule.now)) }
-{
-    rules_are_sound();
-    match rule {
-        Constraint::Tuple(_) => Ok(false),
-        Constraint::Equal(rule) => {
-            let told = facts.tells_apart(alloc, &rule.left, &rule.right, &rule.body)?;
-            Ok(!told)
-        }
-        Constraint::Never(_) => Ok(false),
+        Constraint::Tuple(rule) => LentRule {
+            body: rule.body.items(),
+            conclusion: Conclusion::Extends(rule.head.items()),
+        },
+        Constraint::Equal(rule) => LentRule {
+            body: rule.body.items(),
+            conclusion: Conclusion::Equals(&rule.left, &rule.right),
+        },
+        Constraint::Never(rule) => LentRule {
+            body: rule.body.items(),
+            conclusion: Conclusion::Never,
+        },
     }
 }
 
@@ -149,11 +80,8 @@ pub fn active_in(
     ensures { IfOk result (λ outcome. MatchOption outcome (IsMet facts.now (rule_of rule.now))
         (λ found. IsLeastActive (rule_of rule.now) facts.now found.valuation found.places)) }
 {
-    if is_met_equality(alloc, rule, facts)? {
-        return Ok(None);
-    }
-    let start = Valuation::new(alloc);
-    least_active(alloc, rule, facts, &start)
+    let lent = lent(rule);
+    facts.least_active(alloc, &lent)
 }
 
 /// Adds the columns by which the rule's matches and their extensions are found.

@@ -12,4 +12,6 @@ pub mod BucketLemmas
 pub mod HashLemmas
 pub mod IndexLemmas
 pub mod MisfitLemmas
-pub mod ApartLemmas
+pub mod OrderLemmas
+pub mod ActiveLemmas
+pub mod LeastActiveLemmas

@@ -203,7 +203,7 @@ pub record IsRowSeen (head : List Term) (atom : Fact Term) (rest facts : List (F
   pub others : Sends m rest facts
   pub is_image : row ≡ map m head
 
-Adds-same : {X : Type 0} (old new : List X) (P Q : X → Type 0) → ((x : X) → P x ↔ Q x) → Adds old new P → Adds old new Q
+pub Adds-same : {X : Type 0} (old new : List X) (P Q : X → Type 0) → ((x : X) → P x ↔ Q x) → Adds old new P → Adds old new Q
 Adds-same old new P Q same adds x = (
   λ there. elim ((adds x).0 there) [ inl before ↦ inl before | inr p ↦ inr ((same x).0 p) ],
   λ either. (adds x).1 (elim either [ inl before ↦ inl before | inr q ↦ inr ((same x).1 q) ]),

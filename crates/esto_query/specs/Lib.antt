@@ -9,3 +9,5 @@ pub mod Rows
 pub mod Hashes
 pub mod Buckets
 pub mod Indexes
+pub mod Orders
+pub mod Active

@@ -50,15 +50,3 @@ Adds {X} old new Property = (x : X) → Contains new x ↔ (Contains old x ⊎ P
 abbrev pub Decides : List (Fact Term) → List (Fact Term) → Assignment → Bool → Type 0
 Decides body facts known true = (m : Term → Term) × Keeps Const m × Extends m known × Sends m body facts
 Decides body facts known false = (m : Term → Term) → Keeps Const m → Extends m known → ¬ (Sends m body facts)
-
--- Whether a map that keeps constants, extends the known valuation and sends the body to facts gives the two terms different values is there.
-abbrev pub TellsApart : Term → Term → List (Fact Term) → List (Fact Term) → Assignment → Bool → Type 0
-TellsApart left right body facts known true =
-    (m : Term → Term) × Keeps Const m × Extends m known × Sends m body facts × (m left ≢ m right)
-TellsApart left right body facts known false =
-    (m : Term → Term) → Keeps Const m → Extends m known → Sends m body facts → m left ≡ m right
-
--- The same of the start with a trail, which stays where there is no such map.
-abbrev pub SearchedApart : Assignment → Term → Term → List (Fact Term) → List (Fact Term) → List Binding → List Binding → Bool → Type 0
-SearchedApart start left right body facts old new told =
-    TellsApart left right body facts (with_trail start old) told × (told ≡ false → new ≡ old)

@@ -72,25 +72,28 @@ fn mark(
     mark_in(row, column)
 }
 
-/// Whether the term has a value as soon as the variables of the atoms have theirs.
-fn is_asked(seen: &[Atom], before: &[Atom], term: &Term) -> bool {
+/// Whether a search may ask by the term in an atom, where each of these atoms may come before it.
+fn is_asked(seen: &[Atom], before: &[Atom], after: &[Atom], term: &Term) -> bool {
     match term {
         Term::Const(_) => true,
-        Term::Plain(_) => mentions(before, term) || mentions(seen, term),
+        Term::Plain(_) => {
+            mentions(before, term) || mentions(after, term) || mentions(seen, term)
+        }
         Term::Made(_, _, _) => false,
     }
 }
 
-/// Marks the columns of the atom that are asked for where the variables of the atoms have their values.
+/// Marks the columns of the atom that are asked for, where each of the other atoms may come before it.
 fn mark_atom(
     alloc: Global,
     marked: &mut Vec<Values<bool>>,
     seen: &[Atom],
     before: &[Atom],
     atom: &Atom,
+    after: &[Atom],
 ) -> Result<(), OutOfMemory> {
     'terms: for (column, term) in atom.terms.items().iter().enumerate() {
-        if is_asked(seen, before, term) {
+        if is_asked(seen, before, after, term) {
             mark(alloc, marked, atom.relation, column)?;
         }
     }
@@ -114,8 +117,8 @@ impl Columns {
         }
     }
 
-    /// Adds the columns by which a search for matches of the body asks, where the variables of the seen atoms have their
-    /// values already.
+    /// Adds the columns by which a search for matches of the body may ask, in whichever order it takes the atoms, where the
+    /// variables of the seen atoms have their values already.
     pub fn add_asked(
         &mut self,
         alloc: Global,
@@ -123,7 +126,14 @@ impl Columns {
         body: &[Atom],
     ) -> Result<(), OutOfMemory> {
         'atoms: for (place, atom) in body.iter().enumerate() {
-            mark_atom(alloc, &mut self.marked, seen, &body[..place], atom)?;
+            mark_atom(
+                alloc,
+                &mut self.marked,
+                seen,
+                &body[..place],
+                atom,
+                &body[place + 1..],
+            )?;
         }
         Ok(())
     }

@@ -2,14 +2,16 @@
 //! `answers`.
 #![tactic(auto)]
 
+mod active;
 mod answer;
-mod apart;
 mod body;
 mod buckets;
 mod columns;
 mod hash;
 mod index;
 mod indexed;
+mod least;
+mod left;
 mod make;
 mod matches;
 mod query;
@@ -18,6 +20,7 @@ mod search;
 mod trail;
 mod valuation;
 
+pub use active::{Conclusion, LentRule};
 pub use answer::{answers, in_order};
 pub use body::{first_misfit, mentions, missing_variable};
 pub use columns::Columns;

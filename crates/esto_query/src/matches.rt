@@ -33,7 +33,11 @@ impl Replicate for Found {
 }
 
 /// The start with the bindings of the trail.
-fn extended(alloc: Global, start: &Valuation, trail: &[Binding]) -> Result<Valuation, OutOfMemory>
+pub(crate) fn extended(
+    alloc: Global,
+    start: &Valuation,
+    trail: &[Binding],
+) -> Result<Valuation, OutOfMemory>
     ensures { IfOk result (λ valuation. valuation ≡ with_trail start.now trail.now) }
 {
     let mut valuation = start.copy(alloc)?;
