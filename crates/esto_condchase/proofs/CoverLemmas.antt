@@ -14,7 +14,8 @@ use Rattle.esto_world_laws.specs.declared.entry.Claim.TheVariants.{Fact as State
 use Rattle.esto_world_laws.specs.declared.entry.Reason.{Reason}
 use Rattle.esto_world_laws.specs.declared.entry.Entry.{Entry}
 use Rattle.esto_world_laws.proofs.GrowLemmas.{InWorld-more, InWorld-within, IsCovered-more, AreDerived-push}
-use Rattle.esto_condchase.specs.Rounds.{CoversClaim, IsAdded, IsTrivial, IsThere, Grows}
+use Rattle.esto_condchase.specs.Rounds.{IsAdded, IsTrivial, IsThere, Grows}
+use Rattle.esto_known.specs.Indexes.{CoversClaim}
 
 -- ---- covered
 
@@ -67,6 +68,12 @@ module _ (entries more : List Entry) (product : List Bool) where
   pub covered_right : (claim : Claim) → CoversClaim more claim product → IsCovered (InWorld (entries ++ more) product) claim
   covered_right claim covers = IsCovered-more (InWorld-more more (entries ++ more) product (λ entry inside. Contains-append_right entries more entry inside))
       claim (covers_covered more claim product covers)
+
+-- what is covered in the world of a product is there for it
+pub covered_there : (entries : List Entry) (claim : Claim) (own product : List Bool) → own ≡ product → IsCovered (InWorld entries own) claim
+    → IsThere entries claim product
+covered_there entries claim own product same covered atoms within =
+    IsCovered-more (InWorld-within entries product atoms within) claim (subst (λ it. IsCovered (InWorld entries it) claim) same covered)
 
 -- ---- growth
 

@@ -3,6 +3,7 @@ pub mod CoverLemmas
 pub mod WayLemmas
 pub mod RoundLemmas
 pub mod LoopLemmas
-pub mod VisitLemmas
-pub mod MatchingLemmas
+pub mod SumLemmas
+pub mod KnownLemmas
+pub mod ReachLemmas
 pub mod NewsLemmas

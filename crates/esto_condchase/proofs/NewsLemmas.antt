@@ -11,12 +11,22 @@ use Rattle.esto_semantics.specs.Rules.{Rule, IsRule, AreRules, tuple, equality, 
 use Rattle.esto_semantics.specs.declared.fact.Fact.{Fact}
 use Rattle.esto_world_laws.specs.Matches.{AreChosen, Touching, match_map}
 use Rattle.esto_world_laws.specs.Worlds.{InWorld}
-use Rattle.esto_world_laws.specs.Steps.{AreAnswered}
+use Rattle.esto_world_laws.specs.Steps.{AreAnswered, AreJoined}
 use Rattle.esto_world_laws.specs.declared.entry.Claim.TheVariants.{Fact as Stated, Same}
 use Rattle.esto_world_laws.specs.declared.entry.Entry.{Entry}
-use Rattle.esto_world_laws.proofs.GrowLemmas.{InWorld-more, IsCovered-more}
-use Rattle.esto_condchase.specs.News.{IsApart, IsSettled}
-use Rattle.esto_condchase.specs.Rounds.{IsRuleAnswered}
+use Rattle.std.proofs.lemmas.List.Elements.{Contains-append_cases, Contains-append_right, Contains-push, Contains-push_cases}
+use Rattle.std.proofs.Common.{Bool}
+use Rattle.std.specs.List.{AllZip}
+use Rattle.esto_term.proofs.ListLemmas.{Contains-head, Contains-rest}
+use Rattle.esto_term.proofs.PlaceLemmas.{Contains-take, take-item}
+use Rattle.esto_semantics.specs.Sets.{Within}
+use Rattle.esto_world_laws.specs.Derived.{Claims, IsNamed}
+use Rattle.esto_world_laws.specs.Matches.{IsDirectMatch}
+use Rattle.esto_world_laws.specs.declared.entry.Claim.{Claim}
+use Rattle.esto_world_laws.proofs.LinkLemmas.{Touching-more}
+use Rattle.esto_condchase.specs.Ways.{AgreeOn, AreFound, AreCounted, IsFound}
+use Rattle.esto_condchase.specs.declared.ways.Way.{Way}
+use Rattle.esto_condchase.specs.News.{IsApart, IsSettled, AreFoundAnew, IsOldWay, AreNewOf}
 
 -- each entry from a place on, and before another, is apart from the body
 abbrev pub AreApartBelow : List Entry → ℕ → List (Fact Term) → ℕ → Type 0
@@ -73,12 +83,117 @@ module _ (entries : List Entry) (since : ℕ) (body : List (Fact Term)) (apart :
       kept : (term other : Term) → InWorld entries atoms (Same term other) → InWorld (take since entries) atoms (Same term other)
       kept term other (entry, inside, within, is) = (entry, early entry inside (λ is_apart. subst (λ it. IsApart it body) is is_apart), within, is)
 
--- what was answered of the first few entries is answered of all, where the body's matches are settled
-pub settled_answered : (entries more : List Entry) (since number : ℕ) (rule : Rule) → IsSettled entries since (body_of rule)
-    → IsRuleAnswered (take since entries) entries number rule → IsRuleAnswered entries (entries ++ more) number rule
-settled_answered entries more since number rule is_settled answered atoms chosen matches claim asked =
-    IsCovered-more (InWorld-more entries (entries ++ more) atoms (Contains-append_left entries more)) claim
-    (answered atoms chosen (is_settled atoms chosen matches) claim asked)
+-- where the body's matches are settled there is none anew
+pub settled_anew : (entries : List Entry) (since : ℕ) (body : List (Fact Term)) (live : List Term) (ways : List Way) → ways ≡ []
+    → IsSettled entries since body → AreFoundAnew entries since body live ways
+settled_anew entries since body live ways none is_settled = rw none record {
+  sound = λ way inside. absurd (Contains-nil way inside);
+  complete = λ atoms chosen matches. inl (chosen, (λ term its. refl), is_settled atoms chosen matches);
+}
+
+-- ---- ways that use nothing new
+
+module _ (entries : List Entry) (since : ℕ) (body : List (Fact Term)) (way : Way) (found : IsFound entries body way) (old : IsOldWay since way)
+    (atoms : List Bool) (within : Within way.product atoms) where
+  held : (place : ℕ) (claim : Claim) → Contains (way.facts ++ way.links) place → Claims entries place claim → InWorld (take since entries) atoms claim
+  held place claim inside (entry, at, is) = (
+    entry,
+    Contains-take entries since place entry (old place inside) at,
+    (λ number has. within number ((found.is_way.union.exact number).1 (place, entry, inside, at, has))),
+    is,
+  )
+
+  all_held : (facts : List ℕ) (atoms_of chosen : List (Fact Term)) → ((place : ℕ) → Contains facts place → Contains (way.facts ++ way.links) place)
+      → AllZip (λ (place : ℕ) (fact : Fact Term). Claims entries place (Stated fact)) facts chosen
+      → AllZip (λ (atom : Fact Term) (fact : Fact Term). (fact.relation ≡ atom.relation) × (length fact.terms ≡ length atom.terms)) atoms_of chosen
+      → AreChosen (InWorld (take since entries) atoms) atoms_of chosen
+  all_held facts [] [] among stated alike = tt
+  all_held facts [] (fact ∷ chosen) among stated alike = absurd alike
+  all_held facts (atom ∷ atoms_of) [] among stated alike = absurd alike
+  all_held [] (atom ∷ atoms_of) (fact ∷ chosen) among stated alike = absurd stated
+  all_held (place ∷ facts) (atom ∷ atoms_of) (fact ∷ chosen) among stated alike = (
+    (held place (Stated fact) (among place (Contains-head place facts)) stated.0, alike.0.0, alike.0.1),
+    all_held facts atoms_of chosen (λ other inside. among other (Contains-rest place facts other inside)) stated.1 alike.1,
+  )
+
+  link_held : (claim : Claim) → IsNamed entries way.links claim → InWorld (take since entries) atoms claim
+  link_held claim (place, inside, claims) = held place claim (Contains-append_right way.facts way.links place inside) claims
+
+  -- such a way is a match among the first few entries
+  pub old_match : IsDirectMatch (InWorld (take since entries) atoms) body found.chosen
+  old_match = (
+    all_held way.facts body found.chosen (λ place inside. Contains-append_left way.facts way.links place inside) found.stated found.alike,
+    zip_weaker (Touching (IsNamed entries way.links)) (Touching (InWorld (take since entries) atoms)) (terms_of found.chosen)
+        (map (match_map body found.chosen) (terms_of body))
+        (λ s t _ one. Touching-more link_held s t one) found.is_way.fits,
+  )
+
+-- the new ways of all are the matches anew
+pub new_anew : (entries : List Entry) (since : ℕ) (body : List (Fact Term)) (live : List Term) (items ways kept : List Way) → items ≡ ways
+    → AreFound entries body live ways → AreNewOf since items kept → AreFoundAnew entries since body live kept
+new_anew entries since body live items ways kept same found new = record {
+  sound = λ way inside. found.sound way (subst (λ it. Contains it way) same (new.of_given way inside));
+  complete = λ atoms chosen matches.
+      let way = found.complete atoms chosen matches in
+      let its = found.sound way.0 way.1 in
+      elim (new.others way.0 (subst (λ it. Contains it way.0) (sym same) way.1)) [
+        | inl old ↦ inl (
+          its.chosen,
+          subst (λ it. AgreeOn live (terms_of body) it (terms_of chosen)) its.is_way.to_is way.2,
+          old_match entries since body way.0 its old atoms way.3,
+        )
+        | inr inside ↦ inr (way.0, inside, way.2, way.3)
+      ];
+}
+
+pub new_counted : (count since : ℕ) (items ways kept : List Way) → items ≡ ways → AreCounted count ways → AreNewOf since items kept → AreCounted count kept
+new_counted count since items ways kept same counted new way inside = counted way (subst (λ it. Contains it way) same (new.of_given way inside))
+
+-- one way more is kept or old
+pub new_none : (since : ℕ) (kept : List Way) → kept ≡ [] → AreNewOf since [] kept
+new_none since kept none = rw none record { of_given = λ way inside. inside; others = λ way inside. absurd (Contains-nil way inside) }
+
+pub new_kept : (since : ℕ) (items kept later : List Way) (place : ℕ) (way copied : Way) → place < length items → way ≡ get_or items place way → copied ≡ way
+    → later ≡ kept ++ copied ∷ [] → AreNewOf since (take place items) kept → AreNewOf since (take (place + 1) items) later
+new_kept since items kept later place way copied within is same grown so_far = rw (take-item items place way within is, grown, same) record {
+  of_given = λ its inside. elim (Contains-push_cases kept way its inside) [
+    | inl earlier ↦ Contains-append_left (take place items) (way ∷ []) its (so_far.of_given its earlier)
+    | inr last ↦ subst (Contains (take place items ++ way ∷ [])) last (Contains-push (take place items) way)
+  ];
+  others = λ its inside. elim (Contains-push_cases (take place items) way its inside) [
+    | inl earlier ↦ elim (so_far.others its earlier) [ inl old ↦ inl old | inr there ↦ inr (Contains-append_left kept (way ∷ []) its there) ]
+    | inr last ↦ inr (subst (Contains (kept ++ way ∷ [])) last (Contains-push kept way))
+  ];
+}
+
+pub new_passed : (since : ℕ) (items kept : List Way) (place : ℕ) (way : Way) → place < length items → way ≡ get_or items place way → IsOldWay since way
+    → AreNewOf since (take place items) kept → AreNewOf since (take (place + 1) items) kept
+new_passed since items kept place way within is old so_far = rw (take-item items place way within is) record {
+  of_given = λ its inside. Contains-append_left (take place items) (way ∷ []) its (so_far.of_given its inside);
+  others = λ its inside. elim (Contains-push_cases (take place items) way its inside) [
+    | inl earlier ↦ so_far.others its earlier
+    | inr last ↦ inl (subst (IsOldWay since) last old)
+  ];
+}
+
+pub new_all : (since : ℕ) (items kept : List Way) (place : ℕ) → length items ≤ place → AreNewOf since (take place items) kept → AreNewOf since items kept
+new_all since items kept place past so_far = subst (λ it. AreNewOf since it kept) (take_all place items past) so_far
+
+-- one place more is below
+pub below_more : (items : List ℕ) (at since item : ℕ) → at < length items → item ≡ get_or items at item → item < since
+    → ((place : ℕ) → Contains (take at items) place → place < since) → (place : ℕ) → Contains (take (at + 1) items) place → place < since
+below_more items at since item within is below before place inside =
+    elim (Contains-push_cases (take at items) item place (subst (λ it. Contains it place) (take-item items at item within is) inside)) [
+      | inl earlier ↦ before place earlier
+      | inr last ↦ subst (λ it. it < since) last below
+    ]
+
+pub all_old : (way : Way) (since : ℕ) (facts links : List ℕ) → facts ≡ way.facts → links ≡ way.links → ((place : ℕ) → Contains facts place → place < since)
+    → ((place : ℕ) → Contains links place → place < since) → IsOldWay since way
+all_old way since facts links facts_are links_are by_facts by_links place inside = elim (Contains-append_cases way.facts way.links place inside) [
+  | inl here ↦ by_facts place (subst (λ it. Contains it place) (sym facts_are) here)
+  | inr there ↦ by_links place (subst (λ it. Contains it place) (sym links_are) there)
+]
 
 -- ---- from round to round
 
@@ -97,19 +212,35 @@ none_answered rules entries sound atoms number rule at chosen matches claim aske
     go (atom ∷ body) [] some are = are
     go (atom ∷ body) (fact ∷ chosen) some are = Contains-nil are.0.0.0 are.0.0.1
 
--- after a round, what it went through is answered
-pub turn_answered : (rules : List Rule) (entries items more later : List Entry) (since : ℕ) → items ≡ entries → later ≡ entries ++ more
-    → since ≡ length entries → AreAnswered rules items (items ++ more) → AreAnswered rules (take since later) later
-turn_answered rules entries items more later since same is since_is answered =
-    subst (λ it. AreAnswered rules (take since it) it) (sym is)
-    (subst (λ it. AreAnswered rules it (entries ++ more)) (sym first) (subst (λ it. AreAnswered rules it (it ++ more)) same answered))
-  where
-    first : take since (entries ++ more) ≡ entries
-    first =
-        ap (λ n. take n (entries ++ more)) since_is ∙ take-append-le (length entries) entries more (omega arith)
-        ∙ take_all (length entries) entries (omega arith)
+first_few : (entries more : List Entry) (since : ℕ) → since ≡ length entries → take since (entries ++ more) ≡ entries
+first_few entries more since since_is =
+    ap (λ n. take n (entries ++ more)) since_is ∙ take-append-le (length entries) entries more (omega arith)
+    ∙ take_all (length entries) entries (omega arith)
 
-pub before_same : (rules its : List Rule) (entries items : List Entry) (since : ℕ) → its ≡ rules → items ≡ entries
-    → AreAnswered rules (take since entries) entries → AreAnswered its (take since items) items
-before_same rules its entries items since same_rules same answered =
-    subst (λ it. AreAnswered it (take since items) items) (sym same_rules) (subst (λ it. AreAnswered rules (take since it) it) (sym same) answered)
+-- after a round, what it went through is answered
+pub turn_answered : (rules : List Rule) (entries more later : List Entry) (since : ℕ) → later ≡ entries ++ more
+    → since ≡ length entries → AreAnswered rules entries (entries ++ more) → AreAnswered rules (take since later) later
+turn_answered rules entries more later since is since_is answered =
+    subst (λ it. AreAnswered rules (take since it) it) (sym is)
+    (subst (λ it. AreAnswered rules it (entries ++ more)) (sym (first_few entries more since since_is)) answered)
+
+pub before_same : (rules its : List Rule) (entries : List Entry) (since : ℕ) → its ≡ rules
+    → AreAnswered rules (take since entries) entries → AreAnswered its (take since entries) entries
+before_same rules its entries since same_rules answered = subst (λ it. AreAnswered it (take since entries) entries) (sym same_rules) answered
+
+-- ---- links from round to round
+
+-- no entries link anything
+pub none_joined : (entries : List Entry) → AreJoined (take 0 entries) entries
+none_joined entries atoms term next other one two = inl (same term next one ∙ same next other two)
+  where
+    same : (s t : Term) → Touching (InWorld [] atoms) s t → s ≡ t
+    same s t (inl is) = is
+    same s t (inr (inl (entry, inside, within, is))) = absurd (Contains-nil entry inside)
+    same s t (inr (inr (entry, inside, within, is))) = absurd (Contains-nil entry inside)
+
+-- after a round, what it went through is joined
+pub turn_joined : (entries more later : List Entry) (since : ℕ) → later ≡ entries ++ more → since ≡ length entries → AreJoined entries (entries ++ more)
+    → AreJoined (take since later) later
+turn_joined entries more later since is since_is joined =
+    subst (λ it. AreJoined (take since it) it) (sym is) (subst (λ it. AreJoined it (entries ++ more)) (sym (first_few entries more since since_is)) joined)

@@ -1,26 +1,36 @@
 -- What a round adds, step by step.
-use Rattle.std.proofs.Common.{◌≡◌, ◌⊎◌, ◌↔◌, ◌<◌, ◌≤◌, ◌+◌, inl, inr, ℕ, Bool, List, [], ◌∷◌, ◌++◌, length, map, take, get_or, slice_get, Contains, Some, refl}
+use Rattle.std.proofs.Common.{◌≡◌, ◌⊎◌, ◌&&◌, false, ◌↔◌, ◌<◌, ◌≤◌, ◌+◌, inl, inr, ℕ, Bool, true, cond, List, [], ◌∷◌, ◌++◌, length, map, take, get_or, slice_get, Contains, Some, refl}
 use Rattle.std.proofs.Common.{sym, ap, ◌∙◌, subst, arith}
+use Rattle.std.proofs.Common.{ltb}
+use Rattle.std.proofs.lemmas.Bool.Decides.{nat_tests}
 use Rattle.std.specs.List.{AllZip}
-use Rattle.std.proofs.lemmas.Bool.{cases_order}
+use Rattle.std.proofs.lemmas.Bool.{cases_order, cases_lt}
 use Rattle.std.proofs.lemmas.List.{take_all}
 use Rattle.std.proofs.lemmas.List.Elements.{Contains-append_cases, Contains-append_left, Contains-append_right, Contains-push_cases}
 use Rattle.std.proofs.lemmas.Option.{slice_get_within}
-use Rattle.esto_term.specs.declared.term.Term.{Term}
+use Rattle.esto_term.specs.declared.term.Term.{Term, out-Term}
 use Rattle.esto_semantics.specs.Facts.{image, terms_of}
-use Rattle.esto_semantics.specs.Rules.{Rule, tuple, denial, body_of}
+use Rattle.esto_semantics.specs.Rules.{Rule, tuple, equality, denial, body_of}
 use Rattle.esto_semantics.specs.Sets.{Has, Within, united}
 use Rattle.esto_semantics.specs.declared.fact.Fact.{Fact}
-use Rattle.esto_term.proofs.ListLemmas.{Contains-nil, Contains-head, Contains-rest, Contains-cases, Contains-at}
-use Rattle.esto_term.proofs.ListLemmas.{map_at}
+use Rattle.esto_term.proofs.ListLemmas.{Contains-nil, Contains-head, Contains-rest, Contains-cases, Contains-at, place-from_Contains}
+use Rattle.esto_term.proofs.ListLemmas.{map_at, map_agree, Contains-flat, Contains-filter_from}
 use Rattle.esto_term.proofs.ZipLemmas.{zip_weaker}
 use Rattle.esto_semantics.proofs.SetLemmas.{has_united, length-united}
 use Rattle.esto_constraint.specs.Constraints.{rule_of, rules_of}
 use Rattle.esto_constraint.specs.declared.rule.Constraint.{Constraint}
 use Rattle.esto_views.specs.declared.expansion.ExpandedFact.{ExpandedFact}
+use Rattle.std.proofs.Common.{zero, suc}
+use Rattle.esto_world_laws.specs.Claims.{AreSameClaim}
 use Rattle.esto_world_laws.specs.Worlds.{InWorld, SaysOne, Linked}
 use Rattle.esto_world_laws.specs.Matches.{taken, Touching, AreChosen, match_map}
-use Rattle.esto_chase_laws.specs.Making.{frontier, extended}
+use Rattle.esto_chase_laws.specs.Making.{is_variable_level, is_variable_of, frontier, made_for, extended}
+use Rattle.esto_chase_laws.proofs.JoinedLemmas.{joined_from}
+use Rattle.esto_chase_laws.proofs.MakingLemmas.{in_terms-Decides}
+use Rattle.esto_term.specs.Order.{same_term}
+use Rattle.esto_semantics.proofs.TermLemmas.{same_term-Decides}
+use Rattle.std.specs.List.{filter}
+use Rattle.std.specs.Set.{is_member}
 use Rattle.esto_world_laws.specs.Steps.{IsAsked, AreAnswered, AreJoined}
 use Rattle.esto_world_laws.specs.Derived.{Claims, IsNamed, IsUnion, FollowsBy, Follows}
 use Rattle.esto_world_laws.specs.declared.entry.Claim.{Claim}
@@ -31,10 +41,12 @@ use Rattle.esto_world_laws.proofs.LinkLemmas.{Linked-touching, Touching-more}
 use Rattle.esto_world_laws.proofs.GrowLemmas.{InWorld-more, IsCovered-more, Follows-append}
 use Rattle.esto_world_laws.specs.Worlds.{AreOfCount}
 use Rattle.esto_prov.specs.Taking.{made_of}
-use Rattle.esto_condchase.specs.Ways.{IsFound, AreFound}
-use Rattle.esto_condchase.specs.Rounds.{IsAdded, IsThere, Grows, IsAnswered, IsRuleAnswered, LinksAt, IsJoinedWith, IsPairJoined}
+use Rattle.esto_condchase.specs.Ways.{AgreeOn, IsFound}
+use Rattle.esto_condchase.specs.News.{AreFoundAnew}
+use Rattle.esto_condchase.specs.Rounds.{IsAdded, IsThere, Grows, IsAnswered, IsRuleAnswered, terms_asked, LinksAt, IsJoinedWith, IsPairJoined, IsPairMet, IsMetWithAll}
 use Rattle.esto_condchase.specs.declared.ways.Way.{Way}
-use Rattle.esto_term.proofs.PlaceLemmas.{take-item}
+use Rattle.esto_term.proofs.PlaceLemmas.{take-item, Contains-take, item_at}
+use Rattle.esto_known.specs.Indexes.{HasSide, IsPassed}
 use Rattle.esto_condchase.proofs.WayLemmas.{IsUnion-more}
 use Rattle.esto_condchase.proofs.CoverLemmas.{IsThere-grows, Grows-then, added-Grows, added-IsThere}
 
@@ -141,6 +153,41 @@ module _ (rules : List Rule) (number : ℕ) (body head : List (Fact Term)) (at :
 
 -- ---- all ways of a rule
 
+and_second : (one other : Bool) → (one && other) ≡ true → other ≡ true
+and_second true other is = is
+and_second false other is = cc
+
+frontier_head : (body head : List (Fact Term)) (term : Term) → Contains (frontier body head) term → Contains (terms_of head) term
+frontier_head body head term inside = elim (joined_from same_term same_term-Decides (filter (is_variable_of head) (terms_of body)) [] term inside) [
+  | inl none ↦ absurd (Contains-nil term none)
+  | inr passed ↦ (in_terms-Decides head term).0 (both (Contains-filter_from (is_variable_of head) (terms_of body) term passed).1)
+]
+  where
+    both : is_variable_of head term ≡ true → is_member same_term (terms_of head) term ≡ true
+    both is = and_second (is_variable_level (out-Term term)) (is_member same_term (terms_of head) term) is
+
+-- what a rule asks for depends on what the terms meet that tell it
+IsAsked-agree : (number : ℕ) (rule : Rule) (m other : Term → Term) → ((term : Term) → Contains (terms_asked rule) term → m term ≡ other term) → (claim : Claim)
+    → IsAsked number rule m claim → IsAsked number rule other claim
+IsAsked-agree number (tuple body head) m other agree claim (atom, inside, is) = (
+  atom,
+  inside,
+  is ∙ ap Stated (λ i. record {
+    relation = atom.relation;
+    terms = map_agree (extended number body head m) (extended number body head other) atom.terms
+        (λ term its. extended_agree term (Contains-flat (λ (it : Fact Term). it.terms) head atom term inside its)) i;
+  }),
+)
+  where
+    values : map m (frontier body head) ≡ map other (frontier body head)
+    values = map_agree m other (frontier body head) (λ term its. agree term (frontier_head body head term its))
+
+    extended_agree : (term : Term) → Contains (terms_of head) term → extended number body head m term ≡ extended number body head other term
+    extended_agree term its = λ i. cond (is_member same_term (terms_of body) term) (agree term its i) (made_for number (values i) term)
+IsAsked-agree number (equality body left right) m other agree claim is =
+    is ∙ (λ i. Same (agree left (Contains-head left (right ∷ [])) i) (agree right (Contains-rest left (right ∷ []) right (Contains-head right [])) i))
+IsAsked-agree number (denial body) m other agree claim asked = asked
+
 pub IsAnswered-grows : (entries more later : List Entry) (number : ℕ) (rule : Rule) (way : Way) → ((entry : Entry) → Contains more entry → Contains later entry)
     → IsAnswered (entries ++ more) number rule way → IsAnswered (entries ++ later) number rule way
 IsAnswered-grows entries more later number rule way kept answered claim asked = IsThere-grows entries more later kept claim way.product (answered claim asked)
@@ -160,12 +207,29 @@ module _ (rules : List Rule) (count : ℕ) (entries : List Entry) (number : ℕ)
         ]),
       )
 
-  pub ways_all : (place : ℕ) (new : List Entry) → length items ≤ place → AreFound entries (body_of rule) ways
-      → ((its : Way) → Contains (take place items) its → IsAnswered new number rule its) → IsRuleAnswered entries new number rule
-  ways_all place new past found answered atoms chosen matches claim asked =
-      let way = found.complete atoms chosen matches in
-      let inside : Contains (take place items) way.0 = rw (take_all place items past) (subst (λ it. Contains it way.0) (sym items_are) way.1) in
-      answered way.0 inside claim (subst (λ it. IsAsked number rule (taken (terms_of (body_of rule)) it) claim) (sym way.2) asked) atoms way.3
+  pub ways_all : (since place : ℕ) (more : List Entry) → length items ≤ place → AreFoundAnew entries since (body_of rule) (terms_asked rule) ways
+      → IsRuleAnswered (take since entries) entries number rule
+      → ((its : Way) → Contains (take place items) its → IsAnswered (entries ++ more) number rule its) → IsRuleAnswered entries (entries ++ more) number rule
+  ways_all since place more past found before answered atoms chosen matches claim asked = elim (found.complete atoms chosen matches) [
+    | inl older ↦
+        IsCovered-more (InWorld-more entries (entries ++ more) atoms (λ entry inside. Contains-append_left entries more entry inside)) claim
+        (before atoms older.0 older.2 claim (asked_too (terms_of older.0) older.1))
+    | inr way ↦
+        let inside : Contains (take place items) way.0 = rw (take_all place items past) (subst (λ it. Contains it way.0) (sym items_are) way.1) in
+        answered way.0 inside claim (asked_too way.0.to way.2) atoms way.3
+  ]
+    where
+      asked_too : (to : List Term) → AgreeOn (terms_asked rule) (terms_of (body_of rule)) to (terms_of chosen)
+          → IsAsked number rule (taken (terms_of (body_of rule)) to) claim
+      asked_too to agree = IsAsked-agree number rule (match_map (body_of rule) chosen) (taken (terms_of (body_of rule)) to)
+          (λ term its. sym (agree term its)) claim asked
+
+pub found_of : (entries its_entries : List Entry) (since : ℕ) (body its_body : List (Fact Term)) (live its_live : List Term) (ways : List Way)
+    → its_entries ≡ entries → its_body ≡ body → its_live ≡ live → AreFoundAnew its_entries since its_body its_live ways
+    → AreFoundAnew entries since body live ways
+found_of entries its_entries since body its_body live its_live ways same_entries same same_live found =
+    subst (λ it. AreFoundAnew it since body live ways) same_entries
+    (subst (λ it. AreFoundAnew its_entries since it live ways) same (subst (λ it. AreFoundAnew its_entries since its_body it ways) same_live found))
 
 -- ---- all rules
 
@@ -330,54 +394,189 @@ pub IsPairJoined-grows : (entries more later : List Entry) (x y : Entry) → ((e
 IsPairJoined-grows entries more later x y kept joined s t a u b = IsThere-grows entries more later kept (Same s u) (united x.product y.product)
     (joined s t a u b)
 
-pub pairs_turn : (entries more later : List Entry) (x : Entry) (place : ℕ) (y : Entry) → place < length entries → y ≡ get_or entries place y
+-- what is read at a place stands there
+pub read_there : (items entries : List Entry) (place : ℕ) (entry : Entry) → items ≡ entries → true ≡ ltb place (length items) → entry ≡ get_or items place entry
+    → slice_get entries place ≡ Some entry
+read_there items entries place entry same inside at =
+    let here : place < length items = grind (arith, nat_tests) in
+    subst (λ it. slice_get it place ≡ Some entry) same (item_at items place entry here at)
+
+pub IsPairMet-grows : (entries more later : List Entry) (x y : Entry) (place : ℕ) → ((entry : Entry) → Contains more entry → Contains later entry)
+    → IsPairMet entries (entries ++ more) x place y → IsPairMet entries (entries ++ later) x place y
+IsPairMet-grows entries more later x y place kept met s t a u b = elim (met s t a u b) [
+  | inl passed ↦ inl passed
+  | inr there ↦ inr (IsThere-grows entries more later kept (Same s u) (united x.product y.product) there)
+]
+
+-- one place more
+pub places_turn : (entries more later : List Entry) (x : Entry) (items : List ℕ) (at place : ℕ) → at < length items → place ≡ get_or items at place
     → ((entry : Entry) → Contains more entry → Contains later entry)
-    → ((second : Entry) → Contains (take place entries) second → IsPairJoined (entries ++ more) x second) → IsPairJoined (entries ++ later) x y
-    → (second : Entry) → Contains (take (place + 1) entries) second → IsPairJoined (entries ++ later) x second
-pairs_turn entries more later x place y within is kept before here second inside =
-    elim (Contains-push_cases (take place entries) y second (subst (λ it. Contains it second) (take-item entries place y within is) inside)) [
-      | inl earlier ↦ IsPairJoined-grows entries more later x second kept (before second earlier)
-      | inr same ↦ subst (IsPairJoined (entries ++ later) x) same here
+    → ((its : ℕ) (second : Entry) → Contains (take at items) its → slice_get entries its ≡ Some second → IsPairMet entries (entries ++ more) x its second)
+    → ((second : Entry) → slice_get entries place ≡ Some second → IsPairMet entries (entries ++ later) x place second)
+    → (its : ℕ) (second : Entry) → Contains (take (at + 1) items) its → slice_get entries its ≡ Some second → IsPairMet entries (entries ++ later) x its second
+places_turn entries more later x items at place within is kept before here its second inside read =
+    elim (Contains-push_cases (take at items) place its (subst (λ it. Contains it its) (take-item items at place within is) inside)) [
+      | inl earlier ↦ IsPairMet-grows entries more later x second its kept (before its second earlier read)
+      | inr same ↦ subst (λ it. IsPairMet entries (entries ++ later) x it second) same (here second (ap (slice_get entries) same ∙ read))
     ]
 
-pub all_pairs_turn : (entries more later : List Entry) (place : ℕ) (x : Entry) → place < length entries → x ≡ get_or entries place x
-    → ((entry : Entry) → Contains more entry → Contains later entry)
-    → ((first second : Entry) → Contains (take place entries) first → Contains entries second → IsPairJoined (entries ++ more) first second)
-    → ((second : Entry) → Contains entries second → IsPairJoined (entries ++ later) x second)
-    → (first second : Entry) → Contains (take (place + 1) entries) first → Contains entries second → IsPairJoined (entries ++ later) first second
-all_pairs_turn entries more later place x within is kept before here first second inside in_entries =
-    elim (Contains-push_cases (take place entries) x first (subst (λ it. Contains it first) (take-item entries place x within is) inside)) [
-      | inl earlier ↦ IsPairJoined-grows entries more later first second kept (before first second earlier in_entries)
-      | inr same ↦ subst (λ it. IsPairJoined (entries ++ later) it second) same (here second in_entries)
+-- all equalities of the side are at the places
+pub side_joined : (entries new : List Entry) (x : Entry) (side : Term) (places items : List ℕ) (at : ℕ) → items ≡ places → length items ≤ at
+    → ((place : ℕ) (entry : Entry) → slice_get entries place ≡ Some entry → HasSide entry.claim side → Contains places place)
+    → ((its : ℕ) (second : Entry) → Contains (take at items) its → slice_get entries its ≡ Some second → IsPairMet entries new x its second)
+    → (place : ℕ) (second : Entry) → slice_get entries place ≡ Some second → HasSide second.claim side → IsPairMet entries new x place second
+side_joined entries new x side places items at same past all joined place second read has =
+    joined place second (rw (take_all at items past) (subst (λ it. Contains it place) (sym same) (all place second read has))) read
+
+says_side : (claim : Claim) (term other : Term) → SaysOne claim term other → HasSide claim term
+says_side claim term other (inl is) = subst (λ it. HasSide it term) (sym is) (inl refl)
+says_side claim term other (inr is) = subst (λ it. HasSide it term) (sym is) (inr refl)
+
+-- what shares a term with an entry has one of its sides
+pub entry_joined : (entries one two : List Entry) (x : Entry) (left right : Term) → x.claim ≡ Same left right
+    → ((entry : Entry) → Contains one entry → Contains two entry)
+    → ((place : ℕ) (second : Entry) → slice_get entries place ≡ Some second → HasSide second.claim left → IsPairMet entries (entries ++ one) x place second)
+    → ((place : ℕ) (second : Entry) → slice_get entries place ≡ Some second → HasSide second.claim right → IsPairMet entries (entries ++ two) x place second)
+    → IsMetWithAll entries (entries ++ two) x
+entry_joined entries one two x left right is kept by_left by_right place y read s t (inl a) u b =
+    let both : Same left right ≡ Same s t = sym is ∙ a in
+    let meet : t ≡ right = cc in
+    by_right place y read (subst (HasSide y.claim) meet (says_side y.claim t u b)) s t (inl a) u b
+entry_joined entries one two x left right is kept by_left by_right place y read s t (inr a) u b =
+    let both : Same left right ≡ Same t s = sym is ∙ a in
+    let meet : t ≡ left = cc in
+    IsPairMet-grows entries one two x y place kept (by_left place y read (subst (HasSide y.claim) meet (says_side y.claim t u b))) s t (inr a) u b
+
+-- each entry from a place on, and before another, is met with all, or a later one covers it
+abbrev pub AreMetFrom : List Entry → ℕ → ℕ → List Entry → Type 0
+AreMetFrom entries since bound new =
+    (place : ℕ) (first : Entry) → since ≤ place → place < bound → slice_get entries place ≡ Some first → IsPassed entries place ⊎ IsMetWithAll entries new first
+
+pub met_turn : (entries more later : List Entry) (since place : ℕ) (x : Entry) → slice_get entries place ≡ Some x
+    → ((entry : Entry) → Contains more entry → Contains later entry) → AreMetFrom entries since place (entries ++ more)
+    → IsPassed entries place ⊎ IsMetWithAll entries (entries ++ later) x → AreMetFrom entries since (place + 1) (entries ++ later)
+met_turn entries more later since place x at kept before here its first from below read = elim (cases_order its place) [
+  | inl same ↦
+      let both : Some x ≡ Some first = sym at ∙ ap (slice_get entries) (sym same) ∙ read in
+      let is : x ≡ first = cc in
+      subst (λ it. IsPassed entries it ⊎ IsMetWithAll entries (entries ++ later) first) (sym same)
+      (subst (λ it. IsPassed entries place ⊎ IsMetWithAll entries (entries ++ later) it) is here)
+  | inr apart ↦ elim apart [
+    | inl lower ↦ elim (before its first from lower read) [
+      | inl passed ↦ inl passed
+      | inr met ↦ inr (λ other second at_other. IsPairMet-grows entries more later first second other kept (met other second at_other))
     ]
+    | inr above ↦ absurd (omega (arith, below, above))
+  ]
+]
 
-pub taken_all : (entries : List Entry) (place : ℕ) (entry : Entry) → length entries ≤ place → Contains entries entry → Contains (take place entries) entry
-taken_all entries place entry past inside = rw (take_all place entries past) inside
+touching_back : (Holds : Claim → Type 0) (term other : Term) → Touching Holds term other → Touching Holds other term
+touching_back Holds term other (inl is) = inl (sym is)
+touching_back Holds term other (inr (inl along)) = inr (inr along)
+touching_back Holds term other (inr (inr back)) = inr (inl back)
 
--- links of all pairs are joined in each world
-pub all_joined : (entries more : List Entry) → ((first second : Entry) → Contains entries first → Contains entries second
-    → IsPairJoined (entries ++ more) first second) → AreJoined entries (entries ++ more)
-all_joined entries more pairs atoms s t u one two = by one two
-  where
-    up : (term next : Term) → Touching (InWorld entries atoms) term next → Touching (InWorld (entries ++ more) atoms) term next
-    up term next it = Touching-more (InWorld-more entries (entries ++ more) atoms (λ entry inside. Contains-append_left entries more entry inside)) term next it
+says_back : (claim : Claim) (term other : Term) → SaysOne claim term other → SaysOne claim other term
+says_back claim term other (inl is) = inr is
+says_back claim term other (inr is) = inl is
 
-    linked : (term next : Term) → InWorld entries atoms (Same term next) ⊎ InWorld entries atoms (Same next term) → (entry : Entry) × Contains entries entry
-        × Within entry.product atoms × SaysOne entry.claim term next
-    linked term next (inl (entry, inside, within, is)) = (entry, inside, within, inl is)
-    linked term next (inr (entry, inside, within, is)) = (entry, inside, within, inr is)
+same_says : (claim : Claim) (term other : Term) → AreSameClaim claim (Same term other) → SaysOne claim term other
+same_says (Stated fact) term other same = absurd same
+same_says (Same left right) term other (inl same) = inl (λ i. Same (same.0 i) (same.1 i))
+same_says (Same left right) term other (inr same) = inr (λ i. Same (same.0 i) (same.1 i))
 
-    by : Touching (InWorld entries atoms) s t → Touching (InWorld entries atoms) t u → Touching (InWorld (entries ++ more) atoms) s u
-    by (inl is) it = subst (λ its. Touching (InWorld (entries ++ more) atoms) its u) (sym is) (up t u it)
-    by (inr it) (inl is) = subst (Touching (InWorld (entries ++ more) atoms) s) is (up s t (inr it))
-    by (inr it) (inr its) =
-        let a = linked s t it in
-        let b = linked t u its in
-        pairs a.0 b.0 a.1 b.1 s t a.3 u b.3 atoms (λ number has. elim ((has_united a.0.product b.0.product number).0 has) [
-          | inl here ↦ a.2 number here
-          | inr
-              there ↦ b.2 number there
-        ])
+says_alike : (own claim : Claim) (term other : Term) → AreSameClaim own claim → SaysOne claim term other → SaysOne own term other
+says_alike own claim term other alike (inl is) = same_says own term other (subst (AreSameClaim own) is alike)
+says_alike own claim term other alike (inr is) = says_back own other term (same_says own other term (subst (AreSameClaim own) is alike))
+
+-- links are joined in each world, where those of the first few entries are there and each of the others is met with all
+module _ (entries more : List Entry) (since : ℕ) (before : AreJoined (take since entries) entries)
+    (met : AreMetFrom entries since (length entries) (entries ++ more)) (atoms : List Bool) where
+  -- the entry at a place links the terms in the world
+  record LinksThere (place : ℕ) (entry : Entry) (term other : Term) : Type 0 where
+    pub at : slice_get entries place ≡ Some entry
+    pub within : Within entry.product atoms
+    pub says : SaysOne entry.claim term other
+
+  -- and so does a later one that covers it
+  later_link : (place : ℕ) (x : Entry) (term other : Term) → LinksThere place x term other → IsPassed entries place
+      → (later : ℕ) × (own : Entry) × (place < later) × LinksThere later own term other
+  later_link place x term other links (entry, at, (later, after, (own, at_own, alike, within))) =
+      let both : Some entry ≡ Some x = sym at ∙ links.at in
+      let is : entry ≡ x = cc in (
+        later,
+        own,
+        after,
+        record {
+          at = at_own;
+          within = λ number has. links.within number (subst (λ (it : Entry). Has it.product number) is (within number has));
+          says = says_alike own.claim entry.claim term other alike (subst (λ (it : Entry). SaysOne it.claim term other) (sym is) links.says);
+        },
+      )
+
+  up : (term next : Term) → Touching (InWorld entries atoms) term next → Touching (InWorld (entries ++ more) atoms) term next
+  up term next it = Touching-more (InWorld-more entries (entries ++ more) atoms (λ entry inside. Contains-append_left entries more entry inside)) term next it
+
+  old : (term next : Term) (place : ℕ) (entry : Entry) → place < since → LinksThere place entry term next → Touching (InWorld (take since entries) atoms) term next
+  old term next place entry early links = elim links.says [
+    | inl is ↦ inr (inl (entry, Contains-take entries since place entry early links.at, links.within, is))
+    | inr is ↦ inr (inr (entry, Contains-take entries since place entry early links.at, links.within, is))
+  ]
+
+  both_within : (x y : Entry) → Within x.product atoms → Within y.product atoms → Within (united x.product y.product) atoms
+  both_within x y x_within y_within number has = elim ((has_united x.product y.product number).0 has) [
+    | inl here ↦ x_within number here
+    | inr there ↦ y_within number there
+  ]
+
+  within_entries : (place : ℕ) (entry : Entry) (term other : Term) → LinksThere place entry term other → place < length entries
+  within_entries place entry term other links = slice_get_within entries place entry links.at
+
+  by_places : (fuel : ℕ) (s t u : Term) (one : ℕ) (a : Entry) (two : ℕ) (b : Entry) → length entries + length entries ≤ fuel + one + two
+      → LinksThere one a s t → LinksThere two b t u → Touching (InWorld (entries ++ more) atoms) s u
+  by_places zero s t u one a two b enough first second =
+      let below = within_entries one a s t first in let below_too = within_entries two b t u second in absurd (omega (arith, enough, below, below_too))
+  by_places (suc fuel) s t u one a two b enough first second = elim (cases_lt one since) [
+    | inl early ↦ elim (cases_lt two since) [
+      | inl early_too ↦ up s u (before atoms s t u (old s t one a early first) (old t u two b early_too second))
+      | inr late ↦ elim (met two b late (within_entries two b t u second) second.at) [
+        | inl passed ↦ let next = later_link two b t u second passed in
+            by_places fuel s t u one a next.0 next.1 (let after = next.2 in omega (arith, enough, after)) first next.3
+        | inr all ↦ elim (all one a first.at u t (says_back b.claim t u second.says) s (says_back a.claim s t first.says)) [
+          | inl passed ↦ let next = later_link one a s t first passed in
+              by_places fuel s t u next.0 next.1 two b (let after = next.2 in omega (arith, enough, after)) next.3 second
+          | inr there ↦ touching_back (InWorld (entries ++ more) atoms) u s (there atoms (both_within b a second.within first.within))
+        ]
+      ]
+    ]
+    | inr late ↦ elim (met one a late (within_entries one a s t first) first.at) [
+      | inl passed ↦ let next = later_link one a s t first passed in
+          by_places fuel s t u next.0 next.1 two b (let after = next.2 in omega (arith, enough, after)) next.3 second
+      | inr all ↦ elim (all two b second.at s t first.says u second.says) [
+        | inl passed ↦ let next = later_link two b t u second passed in
+            by_places fuel s t u one a next.0 next.1 (let after = next.2 in omega (arith, enough, after)) first next.3
+        | inr there ↦ there atoms (both_within a b first.within second.within)
+      ]
+    ]
+  ]
+
+  linked : (term next : Term) → InWorld entries atoms (Same term next) ⊎ InWorld entries atoms (Same next term)
+      → (place : ℕ) × (entry : Entry) × LinksThere place entry term next
+  linked term next (inl (entry, inside, within, is)) = let read = place-from_Contains entries entry inside in
+      (read.0, entry, record { at = read.1; within = within; says = inl is })
+  linked term next (inr (entry, inside, within, is)) = let read = place-from_Contains entries entry inside in
+      (read.0, entry, record { at = read.1; within = within; says = inr is })
+
+  join_touching : (s t u : Term) → Touching (InWorld entries atoms) s t → Touching (InWorld entries atoms) t u → Touching (InWorld (entries ++ more) atoms) s u
+  join_touching s t u (inl is) it = subst (λ its. Touching (InWorld (entries ++ more) atoms) its u) (sym is) (up t u it)
+  join_touching s t u (inr it) (inl is) = subst (Touching (InWorld (entries ++ more) atoms) s) is (up s t (inr it))
+  join_touching s t u (inr it) (inr its) =
+      let a = linked s t it in
+      let b = linked t u its in
+      by_places (length entries + length entries) s t u a.0 a.1 b.0 b.1 (omega arith) a.2 b.2
+
+pub all_joined : (entries more : List Entry) (since : ℕ) → AreJoined (take since entries) entries
+    → AreMetFrom entries since (length entries) (entries ++ more) → AreJoined entries (entries ++ more)
+all_joined entries more since before met atoms s t u one two = join_touching entries more since before met atoms s t u one two
 
 -- ---- the round
 

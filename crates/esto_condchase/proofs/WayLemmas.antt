@@ -1,30 +1,37 @@
 -- Ways that grow by one term, by a row, by an atom and by a body.
-use Rattle.std.proofs.Common.{◌≡◌, ◌≢◌, ◌⊎◌, ◌↔◌, ◌<◌, ◌≤◌, ◌+◌, inl, inr, zero, suc, ℕ, Bool, List, [], ◌∷◌, ◌++◌, length, map, take, get_or, slice_get}
+use Rattle.std.proofs.Common.{◌≡◌, ◌≢◌, ◌⊎◌, ◌↔◌, ◌<◌, ◌≤◌, ◌+◌, inl, inr, zero, suc, ℕ, Bool, true, false, cond, List, [], ◌∷◌, ◌++◌, length, map, take, drop, get_or, slice_get, slice_range, ◌-◌}
 use Rattle.std.proofs.Common.{Contains, Some, refl, sym, ap, ◌∙◌, subst, arith}
 use Rattle.std.specs.List.{AllZip}
-use Rattle.std.proofs.lemmas.List.{append-nil, append_assoc, length-append, length-map}
+use Rattle.std.proofs.lemmas.List.{append-nil, append_assoc, length-append, length-drop, length-map, take_all, drop_all}
 use Rattle.std.proofs.lemmas.List.Elements.{Contains-append_cases, Contains-append_left, Contains-append_right, Contains-push, Contains-push_cases}
 use Rattle.std.proofs.lemmas.Option.{slice_get_within}
 use Rattle.std.proofs.lemmas.Grind.{flat_map-append}
-use Rattle.esto_term.specs.declared.term.Term.{Term}
+use Rattle.esto_term.specs.declared.term.Term.{Term, out-Term}
+use Rattle.esto_term.specs.Order.{same_term}
+use Rattle.esto_semantics.proofs.TermLemmas.{same_term-Decides}
+use Rattle.std.specs.Bool.{Decides}
+use Rattle.std.specs.Set.{is_member}
+use Rattle.std.proofs.lemmas.Map.Made.{is_member-Decides}
+use Rattle.std.proofs.lemmas.Bool.{false≢true}
+use Rattle.esto_views.specs.Spreads.{substituted}
 use Rattle.esto_semantics.specs.Sets.{Has, Within, united}
 use Rattle.esto_semantics.specs.declared.fact.Fact.{Fact}
-use Rattle.esto_term.proofs.ListLemmas.{Contains-nil, Contains-head, Contains-one}
-use Rattle.esto_term.proofs.ListLemmas.{place-from_Contains}
-use Rattle.esto_term.proofs.ZipLemmas.{zip_append, zip_split, zip_weaker}
+use Rattle.esto_term.proofs.ListLemmas.{Contains-nil, Contains-at, Contains-head, Contains-rest, Contains-one, map_agree}
+use Rattle.esto_term.proofs.ListLemmas.{map_at, place-from_Contains}
+use Rattle.esto_term.proofs.ZipLemmas.{zip_append, zip_both, zip_split, zip_weaker}
 use Rattle.esto_semantics.proofs.SetLemmas.{has_united, length-united}
-use Rattle.esto_world_laws.specs.Worlds.{InWorld, SaysOne}
+use Rattle.esto_world_laws.specs.Worlds.{InWorld, SaysOne, AreOfCount}
 use Rattle.esto_semantics.specs.Facts.{terms_of}
-use Rattle.esto_world_laws.specs.Matches.{IsLike, taken, Touching, Fits, AreChosen, IsDirectMatch}
+use Rattle.esto_world_laws.specs.Matches.{IsLike, unless_constant, taken, Touching, Fits, AreChosen, IsDirectMatch}
 use Rattle.esto_world_laws.specs.Derived.{Claims, IsNamed, IsUnion, IsEquality}
 use Rattle.esto_world_laws.specs.declared.entry.Claim.{Claim}
 use Rattle.esto_world_laws.specs.declared.entry.Claim.TheVariants.{Fact as Stated, Same}
 use Rattle.esto_world_laws.specs.declared.entry.Entry.{Entry}
 use Rattle.esto_world_laws.proofs.LinkLemmas.{Touching-more}
-use Rattle.esto_world_laws.proofs.TakenLemmas.{Fits-push, Fits-split}
-use Rattle.esto_condchase.specs.Ways.{AreCounted, met, met_by, begun, IsWay, AreLonger, AreRows, AreThrough, AreMatched, IsFound, AreFound, CoversWay, CoverAll}
+use Rattle.esto_world_laws.proofs.TakenLemmas.{taken-stays, Fits-push, Fits-split}
+use Rattle.esto_condchase.specs.Ways.{AreCounted, IsFreeLink, met, met_by, begun, IsWay, AreLonger, AreRows, AreThrough, AreMatched, AgreeOn, Tell, IsPut, AreNext, IsFound, AreFound, CoversWay, CoverAll}
 use Rattle.esto_condchase.specs.declared.ways.Way.{Way}
-use Rattle.esto_term.proofs.PlaceLemmas.{take-item}
+use Rattle.esto_term.proofs.PlaceLemmas.{item_at, take-item, drop-item}
 
 one_of : {X : Type 0} (P : X → Type 0) (only other : X) → Contains (only ∷ []) other → P only → P other
 one_of P only other inside it = subst P (Contains-one only other inside) it
@@ -166,6 +173,30 @@ module _ (entries : List Entry) (from : List Term) (term own : Term) (before : W
               (λ it. it) within,
         );
   }
+
+  -- an equality that asks for no further atom is enough
+  module _ (place : ℕ) (entry : Entry) (free : IsFreeLink entries own (taken (from ++ term ∷ []) (before.to ++ own ∷ []) term) before.product place entry)
+      (ways : List Way) (way : Way) (is_met : way ≡ met_by before own place entry.product) (are : ways ≡ way ∷ []) where
+    pub longer_free : AreLonger entries from term own (before ∷ []) ways
+    longer_free = rw (are, is_met) record {
+      come_from = λ it inside. one_of (λ its. (earlier : Way) × Contains (before ∷ []) earlier × (its.to ≡ earlier.to ++ own ∷ [])
+          × ((facts : List ℕ) (to : List Term) → IsWay entries facts from to earlier → IsWay entries facts (from ++ term ∷ []) (to ++ own ∷ []) its))
+          (met_by before own place entry.product) it inside
+          (before, Contains-head before [], refl, way_met_by place entry free.0 free.1);
+      go_on = λ atoms earlier inside within touches. one_of (λ its. Within its.product atoms → (it : Way)
+          × Contains (met_by before own place entry.product ∷ []) it × (it.to ≡ its.to ++ own ∷ []) × Within it.product atoms) before earlier inside
+          (λ its_within. (
+            met_by before own place entry.product,
+            Contains-head (met_by before own place entry.product) [],
+            refl,
+            within_united before.product entry.product atoms its_within (λ number has. its_within number (free.2 number has)),
+          )) within;
+    }
+
+    pub counted_free : AreOfCount (length before.product) entries → AreCounted (length before.product) ways
+    counted_free counts = rw (are, is_met) (λ it inside. one_of (λ (its : Way). length its.product ≡ length before.product)
+        (met_by before own place entry.product) it inside
+        (length-united before.product entry.product (sym (counts entry (Contains-at entries place entry free.0)))))
 
   -- the ways so far, by the equalities below a place
   pub record LongerSoFar (place : ℕ) (ways : List Way) : Type 0 where
@@ -328,6 +359,22 @@ module _ (entries : List Entry) (from : List Term) (start : Way) where
           (last.0, last.1, last.2 ∙ ap (λ it. it ++ own ∷ []) earlier.2 ∙ shift start.to owns own, last.3);
     }
 
+-- terms that no equality links touch nowhere
+pub apart_nowhere : (entries : List Entry) (term other : Term) → term ≢ other → ((entry : Entry) → Contains entries entry → SaysOne entry.claim term other → ⊥)
+    → (set : List Bool) → Touching (InWorld entries set) term other → ⊥
+apart_nowhere entries term other apart none set (inl is) = apart is
+apart_nowhere entries term other apart none set (inr (inl (entry, inside, within, is))) = none entry inside (inl is)
+apart_nowhere entries term other apart none set (inr (inr (entry, inside, within, is))) = none entry inside (inr is)
+
+-- a row with a term apart passes nowhere
+pub row_apart : (entries : List Entry) (owns terms : List Term) (m : Term → Term) (place : ℕ) (own term goal : Term) → place < length owns → own
+    ≡ get_or owns place own → length owns ≡ length terms → term ≡ get_or terms place term → goal ≡ m term
+    → ((set : List Bool) → Touching (InWorld entries set) own goal → ⊥) → (set : List Bool) → AllZip (Touching (InWorld entries set)) owns (map m terms) → ⊥
+row_apart entries owns terms m place own term goal within is rows term_is goal_is apart set row =
+    apart set (subst (Touching (InWorld entries set) own) (sym goal_is)
+    (zip_both (Touching (InWorld entries set)) owns (map m terms) row place own (m term) (item_at owns place own within is)
+    (map_at m terms place term (item_at terms place term (omega (arith, rows, within)) term_is))))
+
 -- ---- an atom
 
 module _ (entries : List Entry) (from : List Term) (atom : Fact Term) where
@@ -485,11 +532,105 @@ module _ (entries : List Entry) (from : List Term) (atom : Fact Term) where
     ];
   }
 
+-- ---- agreement on terms
+
+-- a term that stands nowhere meets itself
+substituted-apart : (from to : List Term) (term : Term) → (Contains from term → ⊥) → substituted from to term ≡ term
+substituted-apart [] to term apart = refl
+substituted-apart (first ∷ from) [] term apart = refl
+substituted-apart (first ∷ from) (target ∷ to) term apart = by (same_term term first) refl
+    (substituted-apart from to term (λ inside. apart (Contains-rest first from term inside)))
+  where
+    by : (answer : Bool) → same_term term first ≡ answer → substituted from to term ≡ term → cond answer target (substituted from to term) ≡ term
+    by true told rest = absurd (apart (subst (Contains (first ∷ from)) (sym ((same_term-Decides term first).0 told)) (Contains-head first from)))
+    by false told rest = rest
+
+pub taken-apart : (from to others : List Term) (term : Term) → (Contains from term → ⊥) → taken from to term ≡ taken from others term
+taken-apart from to others term apart = ap (unless_constant (out-Term term) term) (substituted-apart from to term apart ∙ sym (substituted-apart from others term apart))
+
+-- of a term that stands in none of the first, the later places tell
+substituted-new : (from to more owns : List Term) → length from ≡ length to → (term : Term) → (Contains from term → ⊥)
+    → substituted (from ++ more) (to ++ owns) term ≡ substituted more owns term
+substituted-new [] [] more owns l term apart = refl
+substituted-new [] (target ∷ to) more owns l term apart = absurd (omega (arith, l))
+substituted-new (first ∷ from) [] more owns l term apart = absurd (omega (arith, l))
+substituted-new (first ∷ from) (target ∷ to) more owns l term apart = by (same_term term first) refl
+    (substituted-new from to more owns (omega (arith, l)) term (λ inside. apart (Contains-rest first from term inside)))
+  where
+    by : (answer : Bool) → same_term term first ≡ answer → substituted (from ++ more) (to ++ owns) term ≡ substituted more owns term
+        → cond answer target (substituted (from ++ more) (to ++ owns) term) ≡ substituted more owns term
+    by true told rest = absurd (apart (subst (Contains (first ∷ from)) (sym ((same_term-Decides term first).0 told)) (Contains-head first from)))
+    by false told rest = rest
+
+pub taken-new : (from to more owns : List Term) → length from ≡ length to → (term : Term) → (Contains from term → ⊥)
+    → taken (from ++ more) (to ++ owns) term ≡ taken more owns term
+taken-new from to more owns l term apart = ap (unless_constant (out-Term term) term) (substituted-new from to more owns l term apart)
+
+-- what a term meets behind others
+pub met_behind : (from to terms owns : List Term) → length from ≡ length to → (term : Term) → (Contains from term → ⊥) → taken terms owns term
+    ≡ taken (from ++ terms) (to ++ owns) term
+met_behind from to terms owns l term apart = sym (taken-new from to terms owns l term apart)
+
+pub met_within : (from to terms owns : List Term) → length from ≡ length to → (term : Term) → Contains from term → taken from to term
+    ≡ taken (from ++ terms) (to ++ owns) term
+met_within from to terms owns l term inside = sym (taken-stays from to terms owns l term inside)
+
+-- going on by the same terms keeps the agreement
+pub AgreeOn-more : (terms from to others more owns : List Term) → length from ≡ length to → length from ≡ length others → AgreeOn terms from to others
+    → AgreeOn terms (from ++ more) (to ++ owns) (others ++ owns)
+AgreeOn-more terms from to others more owns l k agree term inside =
+    by (is_member same_term from term) (is_member-Decides same_term-Decides from term) refl
+  where
+    by : (answer : Bool) → Decides (is_member same_term from term) (Contains from term) → is_member same_term from term ≡ answer
+        → taken (from ++ more) (to ++ owns) term ≡ taken (from ++ more) (others ++ owns) term
+    by true decides told =
+        let here = decides.0 told in
+        taken-stays from to more owns l term here ∙ agree term inside ∙ sym (taken-stays from others more owns k term here)
+    by false decides told =
+        let apart : Contains from term → ⊥ = λ here. false≢true (sym told ∙ decides.1 here) in
+        taken-new from to more owns l term apart ∙ sym (taken-new from others more owns k term apart)
+
+pub AgreeOn-same : (terms from its_from to others its_others : List Term) → its_from ≡ from → its_others ≡ others → AgreeOn terms from to others
+    → AgreeOn terms its_from to its_others
+AgreeOn-same terms from its_from to others its_others same same_others agree =
+    subst (λ it. AgreeOn terms it to its_others) (sym same) (subst (AgreeOn terms from to) (sym same_others) agree)
+
+-- terms that tell as much as all are enough
+pub AgreeOn-told : (from terms these to others : List Term) → Tell from terms these → AgreeOn these from to others → AgreeOn terms from to others
+AgreeOn-told from terms these to others tell agree term inside = elim (tell.told term inside) [
+  | inl told ↦ agree term told
+  | inr apart ↦ taken-apart from to others term apart
+]
+
+pub tell_none : (from these : List Term) → these ≡ [] → Tell from [] these
+tell_none from these none = rw none record {
+  told = λ term inside. absurd (Contains-nil term inside);
+  among = λ term inside. absurd (Contains-nil term inside);
+}
+
+pub tell_turn : (from terms these later : List Term) (place : ℕ) (term : Term) → place < length terms → term ≡ get_or terms place term
+    → Tell from (take place terms) these → IsPut from term these later → Tell from (take (place + 1) terms) later
+tell_turn from terms these later place term within is tell put = rw (take-item terms place term within is) record {
+  told = λ own inside. elim (Contains-push_cases (take place terms) term own inside) [
+    | inl earlier ↦ elim (tell.told own earlier) [ inl told ↦ inl (put.kept own told) | inr apart ↦ inr apart ]
+    | inr same ↦ subst (λ it. Contains later it ⊎ (Contains from it → ⊥)) same put.told
+  ];
+  among = λ own inside. elim (put.among own inside) [ inl earlier ↦ tell.among own earlier | inr here ↦ here ];
+}
+
+pub tell_all : (from terms these : List Term) (place : ℕ) → length terms ≤ place → Tell from (take place terms) these → Tell from terms these
+tell_all from terms these place past tell = subst (λ it. Tell from it these) (take_all place terms past) tell
+
+row_agrees : (One : Term → Term → Type 0) (terms from to others owns : List Term) → AgreeOn terms from to others → AllZip One owns (map (taken from others) terms)
+    → AllZip One owns (map (taken from to) terms)
+row_agrees One terms from to others owns agree row =
+    subst (AllZip One owns) (map_agree (taken from others) (taken from to) terms (λ term inside. sym (agree term inside))) row
+
 -- ---- a body
 
-pub found_none : (entries : List Entry) (ways : List Way) (way : Way) → ways ≡ way ∷ [] → way.to ≡ [] → way.facts ≡ [] → way.links ≡ []
-    → ((number : ℕ) → Has way.product number → ⊥) → AreFound entries [] ways
-found_none entries ways way are no_to no_facts no_links empty = rw are record {
+pub found_none : (entries : List Entry) (live : List Term) (ways : List Way) (way : Way) → ways ≡ way ∷ [] → way.to ≡ [] → way.facts ≡ [] → way.links ≡ []
+    → ((number : ℕ) → Has way.product number → ⊥) → AreFound entries [] live ways
+found_none entries live ways way are no_to no_facts no_links empty = rw are record {
   sound = λ it inside. one_of (IsFound entries []) way it inside (record {
     chosen = [];
     stated = subst (λ its. AllZip (λ (place : ℕ) (fact : Fact Term). Claims entries place (Stated fact)) its []) (sym no_facts) tt;
@@ -508,8 +649,8 @@ found_none entries ways way are no_to no_facts no_links empty = rw are record {
 }
   where
     none : (atoms : List Bool) (chosen : List (Fact Term)) → IsDirectMatch (InWorld entries atoms) [] chosen → (it : Way) × Contains (way ∷ []) it
-        × (it.to ≡ terms_of chosen) × Within it.product atoms
-    none atoms [] matches = (way, Contains-head way [], no_to, (λ number has. absurd (empty number has)))
+        × AgreeOn live [] it.to (terms_of chosen) × Within it.product atoms
+    none atoms [] matches = (way, Contains-head way [], (λ term _. taken-apart [] way.to [] term (Contains-nil term)), (λ number has. absurd (empty number has)))
     none atoms (fact ∷ chosen) matches = absurd matches.0
 
 pub terms_of-push : (facts : List (Fact Term)) (fact : Fact Term) → terms_of (facts ++ fact ∷ []) ≡ terms_of facts ++ fact.terms
@@ -533,18 +674,19 @@ chosen_length Holds (atom ∷ body) [] z = absurd z
 chosen_length Holds (atom ∷ body) (fact ∷ chosen) z = let rest = chosen_length Holds body chosen z.1 in
     rw (length-append, length-append) (omega (arith, rest, z.0.2))
 
-module _ (entries : List Entry) (body : List (Fact Term)) (atom : Fact Term) (given ways : List Way) (from : List Term) (from_is : from ≡ terms_of body)
-    (so_far : AreFound entries body given) where
-  pub found_more : AreMatched entries from atom given ways → AreFound entries (body ++ atom ∷ []) ways
-  found_more matched = record {
+module _ (entries : List Entry) (body : List (Fact Term)) (atom : Fact Term) (live : List Term) (given ways : List Way)
+    (so_far : AreFound entries body (atom.terms ++ live) given) where
+  way_length : (way : Way) → Contains given way → length (terms_of body) ≡ length way.to
+  way_length way inside = let it = so_far.sound way inside in it.is_way.lengths ∙ ap length (sym it.is_way.to_is)
+
+  pub found_more : AreNext entries (terms_of body) atom live given ways → AreFound entries (body ++ atom ∷ []) live ways
+  found_more next = record {
     sound = λ way inside.
-        let come = matched.come_from way inside in
+        let come = next.are_matched.come_from way (next.cover.of_given way inside) in
         let before = so_far.sound come.0 come.1 in
         let fact = come.2.1 in
         let is_way : IsWay entries (come.0.facts ++ come.2.0 ∷ []) (terms_of body ++ atom.terms) (terms_of before.chosen ++ fact.terms) way =
-        subst (λ it. IsWay entries (come.0.facts ++ come.2.0 ∷ []) (it ++ atom.terms) (terms_of before.chosen ++ fact.terms) way) from_is
-        (come.2.5 come.0.facts (terms_of before.chosen) (subst (λ it. IsWay entries come.0.facts it (terms_of before.chosen) come.0) (sym from_is)
-        before.is_way)) in
+        come.2.5 come.0.facts (terms_of before.chosen) before.is_way in
         record {
           chosen = before.chosen ++ fact ∷ [];
           stated = subst (λ it. AllZip (λ (place : ℕ) (it : Fact Term). Claims entries place (Stated it)) it (before.chosen ++ fact ∷ []))
@@ -559,19 +701,27 @@ module _ (entries : List Entry) (body : List (Fact Term)) (atom : Fact Term) (gi
     complete = λ atoms chosen matches.
         let split = last_chosen _ body atom chosen matches.0 in
         let fact = split.1 in
+        let chosen_is : terms_of chosen ≡ terms_of split.0 ++ fact.terms = ap terms_of split.2 ∙ terms_of-push split.0 fact in
         let lengths = chosen_length (InWorld entries atoms) body split.0 split.3 in
         let fits : Fits (Touching (InWorld entries atoms)) (terms_of body ++ atom.terms) (terms_of split.0 ++ fact.terms) =
-        subst (λ it. Fits (Touching (InWorld entries atoms)) (terms_of body ++ atom.terms) it) (ap terms_of split.2 ∙ terms_of-push split.0 fact)
+        subst (λ it. Fits (Touching (InWorld entries atoms)) (terms_of body ++ atom.terms) it) chosen_is
         (subst (λ it. Fits (Touching (InWorld entries atoms)) it (terms_of chosen)) (terms_of-push body atom) matches.1) in
         let parts = Fits-split (Touching (InWorld entries atoms)) (terms_of body) (terms_of split.0) lengths atom.terms fact.terms (sym split.4.2) fits in
         let before = so_far.complete atoms split.0 (split.3, parts.0) in
-        let row : AllZip (Touching (InWorld entries atoms)) fact.terms (map (taken (from ++ atom.terms) (before.0.to ++ fact.terms)) atom.terms) =
-        subst (λ it. AllZip (Touching (InWorld entries atoms)) fact.terms (map (taken (it ++ atom.terms) (before.0.to ++ fact.terms)) atom.terms)) (sym from_is)
-        (subst (λ it. AllZip (Touching (InWorld entries atoms)) fact.terms (map (taken (terms_of body ++ atom.terms) (it ++ fact.terms)) atom.terms))
-        (sym before.2) parts.1) in
-        let found = matched.go_on atoms before.0 fact before.1 (ap length from_is ∙ lengths ∙ ap length (sym before.2)) before.3 split.4.0 split.4.1 split.4.2
-        row in
-        (found.0, found.1, found.2 ∙ ap (λ it. it ++ fact.terms) before.2 ∙ sym (terms_of-push split.0 fact) ∙ ap terms_of (sym split.2), found.3);
+        let own_lengths = way_length before.0 before.1 in
+        let agree = AgreeOn-more (atom.terms ++ live) (terms_of body) before.0.to (terms_of split.0) atom.terms fact.terms own_lengths lengths before.2 in
+        let row = row_agrees (Touching (InWorld entries atoms)) atom.terms (terms_of body ++ atom.terms) (before.0.to ++ fact.terms)
+        (terms_of split.0 ++ fact.terms) fact.terms (λ term inside. agree term (Contains-append_left atom.terms live term inside)) parts.1 in
+        let found = next.are_matched.go_on atoms before.0 fact before.1 own_lengths before.3 split.4.0 split.4.1 split.4.2 row in
+        let own = next.cover.covers found.0 found.1 in (
+          own.0,
+          own.1,
+          AgreeOn-same live (terms_of body ++ atom.terms) (terms_of (body ++ atom ∷ [])) own.0.to (terms_of split.0 ++ fact.terms) (terms_of chosen)
+              (terms_of-push body atom) chosen_is
+              (λ term inside. own.2 term inside ∙ ap (λ it. taken (terms_of body ++ atom.terms) it term) found.2
+              ∙ agree term (Contains-append_right atom.terms live term inside)),
+          (λ number has. found.3 number (own.3 number has)),
+        );
   }
 
 -- ---- the turns of the loops
@@ -579,7 +729,7 @@ module _ (entries : List Entry) (body : List (Fact Term)) (atom : Fact Term) (gi
 pub counted_one : (count : ℕ) (ways : List Way) (way : Way) → ways ≡ way ∷ [] → length way.product ≡ count → AreCounted count ways
 counted_one count ways way are is = rw are (λ it inside. one_of (λ (its : Way). length its.product ≡ count) way it inside is)
 
-same_take : {X Y : Type 0} (xs : List X) (ys : List Y) (place : ℕ) → length xs ≡ length ys → length (take place xs) ≡ length (take place ys)
+pub same_take : {X Y : Type 0} (xs : List X) (ys : List Y) (place : ℕ) → length xs ≡ length ys → length (take place xs) ≡ length (take place ys)
 same_take xs ys zero same = refl
 same_take [] [] (suc place) same = refl
 same_take [] (y ∷ ys) (suc place) same = absurd (omega (arith, same))
@@ -612,19 +762,47 @@ pub begun_count : (before start : Way) (place count : ℕ) (product : List Bool)
 begun_count before start place count product is one other = ap (λ (it : Way). length it.product) is ∙ length-united before.product product (one ∙ sym other)
     ∙ one
 
-pub found_lengths : (entries : List Entry) (body : List (Fact Term)) (ways items : List Way) (from : List Term) → AreFound entries body ways → items ≡ ways
-    → from ≡ terms_of body → (way : Way) → Contains items way → length from ≡ length way.to
-found_lengths entries body ways items from found same from_is way inside =
+pub found_lengths : (entries : List Entry) (body : List (Fact Term)) (live : List Term) (ways items : List Way) (from : List Term)
+    → AreFound entries body live ways → items ≡ ways → from ≡ terms_of body → (way : Way) → Contains items way → length from ≡ length way.to
+found_lengths entries body live ways items from found same from_is way inside =
     let it = found.sound way (subst (λ its. Contains its way) same inside) in
     ap length from_is ∙ it.is_way.lengths ∙ ap length (sym it.is_way.to_is)
 
-pub body_turn : (entries : List Entry) (body : List (Fact Term)) (place : ℕ) (atom : Fact Term) (given items ways : List Way) (from : List Term)
-    → place < length body → atom ≡ get_or body place atom → items ≡ given
-    → from ≡ terms_of (take place body) → AreFound entries (take place body) given → AreMatched entries from atom items ways
-    → AreFound entries (take (place + 1) body) ways
-body_turn entries body place atom given items ways from within is same from_is found matched =
-    rw (take-item body place atom within is) (found_more entries (take place body) atom given ways from from_is found
-    (subst (λ it. AreMatched entries from atom it ways) same matched))
+pub next_is : (entries : List Entry) (atom : Fact Term) (live : List Term) (given items matched kept_items ways : List Way)
+    (from later its_later copied : List Term) → items ≡ given → kept_items ≡ matched → its_later ≡ later → copied ≡ atom.terms → later ≡ from ++ copied
+    → AreMatched entries from atom items matched → CoverAll its_later live kept_items ways → AreNext entries from atom live given ways
+next_is entries atom live given items matched kept_items ways from later its_later copied same same_kept same_later copied_is grown are_matched cover = record {
+  matched = matched;
+  are_matched = subst (λ it. AreMatched entries from atom it matched) same are_matched;
+  cover = subst (λ it. CoverAll it live matched ways) (same_later ∙ grown ∙ ap (λ it. from ++ it) copied_is)
+      (subst (λ it. CoverAll its_later live it ways) same_kept cover);
+}
+
+pub rest_after : {X : Type 0} (items : List X) (place : ℕ) → place < length items → slice_range items (place + 1) (length items) ≡ drop (place + 1) items
+rest_after items place within = take_all (length items - (place + 1)) (drop (place + 1) items) (rw length-drop (omega arith))
+
+-- the terms of the atoms from a place on, and the others
+pub live_turn : (body : List (Fact Term)) (asked : List Term) (place : ℕ) (atom : Fact Term) → place < length body → atom ≡ get_or body place atom
+    → terms_of (drop place body) ++ asked ≡ atom.terms ++ (terms_of (drop (place + 1) body) ++ asked)
+live_turn body asked place atom within is = ap (λ (it : List (Fact Term)). terms_of it ++ asked) (drop-item body place atom within is)
+    ∙ append_assoc atom.terms (terms_of (drop (place + 1) body)) asked
+
+pub body_turn : (entries : List Entry) (body : List (Fact Term)) (asked live : List Term) (place : ℕ) (atom : Fact Term) (given ways : List Way)
+    (from : List Term) → place < length body → atom ≡ get_or body place atom → live ≡ terms_of (drop (place + 1) body) ++ asked
+    → from ≡ terms_of (take place body) → AreFound entries (take place body) (terms_of (drop place body) ++ asked) given
+    → AreNext entries from atom live given ways
+    → AreFound entries (take (place + 1) body) (terms_of (drop (place + 1) body) ++ asked) ways
+body_turn entries body asked live place atom given ways from within is live_is from_is found next =
+    let rest = terms_of (drop (place + 1) body) ++ asked in
+    rw (take-item body place atom within is) (found_more entries (take place body) atom rest given ways
+    (subst (λ it. AreFound entries (take place body) it given) (live_turn body asked place atom within is) found)
+    (subst (λ it. AreNext entries it atom rest given ways) from_is (subst (λ it. AreNext entries from atom it given ways) live_is next)))
+
+pub body_all : (entries : List Entry) (body : List (Fact Term)) (asked : List Term) (place : ℕ) (ways : List Way) → length body ≤ place
+    → AreFound entries (take place body) (terms_of (drop place body) ++ asked) ways → AreFound entries body asked ways
+body_all entries body asked place ways past found =
+    subst (λ it. AreFound entries it asked ways) (take_all place body past)
+    (subst (λ (it : List (Fact Term)). AreFound entries (take place body) (terms_of it ++ asked) ways) (drop_all place body past) found)
 
 pub from_turn : (body : List (Fact Term)) (place : ℕ) (atom : Fact Term) (from later copied : List Term) → place < length body → atom ≡ get_or body place atom
     → from ≡ terms_of (take place body) → copied ≡ atom.terms → later ≡ from ++ copied
@@ -639,20 +817,20 @@ rows_of_items entries from terms items owns its_owns start ways same same_owns r
 
 -- ---- ways that earlier ones cover
 
-pub covers_none : CoverAll [] []
-covers_none = record { of_given = λ way inside. inside; covers = λ way inside. absurd (Contains-nil way inside) }
+pub covers_none : (from terms : List Term) → CoverAll from terms [] []
+covers_none from terms = record { of_given = λ way inside. inside; covers = λ way inside. absurd (Contains-nil way inside) }
 
-module _ (given kept : List Way) (way : Way) (so_far : CoverAll given kept) where
-  pub covers_passed : CoversWay kept way → CoverAll (given ++ way ∷ []) kept
+module _ (from terms : List Term) (given kept : List Way) (way : Way) (so_far : CoverAll from terms given kept) where
+  pub covers_passed : CoversWay from terms kept way → CoverAll from terms (given ++ way ∷ []) kept
   covers_passed covered = record {
     of_given = λ own inside. Contains-append_left given (way ∷ []) own (so_far.of_given own inside);
     covers = λ own inside. elim (Contains-append_cases given (way ∷ []) own inside) [
       | inl earlier ↦ so_far.covers own earlier
-      | inr last ↦ one_of (CoversWay kept) way own last covered
+      | inr last ↦ one_of (CoversWay from terms kept) way own last covered
     ];
   }
 
-  pub covers_kept : (copied : Way) (more : List Way) → copied ≡ way → more ≡ kept ++ copied ∷ [] → CoverAll (given ++ way ∷ []) more
+  pub covers_kept : (copied : Way) (more : List Way) → copied ≡ way → more ≡ kept ++ copied ∷ [] → CoverAll from terms (given ++ way ∷ []) more
   covers_kept copied more is grown = rw (grown, is) record {
     of_given = λ own inside. elim (Contains-append_cases kept (way ∷ []) own inside) [
       | inl earlier ↦ Contains-append_left given (way ∷ []) own (so_far.of_given own earlier)
@@ -660,21 +838,19 @@ module _ (given kept : List Way) (way : Way) (so_far : CoverAll given kept) wher
     ];
     covers = λ own inside. elim (Contains-append_cases given (way ∷ []) own inside) [
       | inl earlier ↦ let it = so_far.covers own earlier in (it.0, Contains-append_left kept (way ∷ []) it.0 it.1, it.2, it.3)
-      | inr last ↦ one_of (CoversWay (kept ++ way ∷ [])) way own last
-          (way, Contains-append_right kept (way ∷ []) way (Contains-head way []), refl, λ number has. has)
+      | inr last ↦ one_of (CoversWay from terms (kept ++ way ∷ [])) way own last
+          (way, Contains-append_right kept (way ∷ []) way (Contains-head way []), (λ term _. refl), λ number has. has)
     ];
   }
 
-module _ (given kept : List Way) (covering : CoverAll given kept) where
-  pub counted_covering : (count : ℕ) → AreCounted count given → AreCounted count kept
-  counted_covering count counted way inside = counted way (covering.of_given way inside)
+-- what covers on the terms that tell covers on all
+pub covers_told : (from terms these : List Term) (given kept : List Way) → Tell from terms these → CoverAll from these given kept
+    → CoverAll from terms given kept
+covers_told from terms these given kept tell covering = record {
+  of_given = covering.of_given;
+  covers = λ way inside. let it = covering.covers way inside in (it.0, it.1, AgreeOn-told from terms these it.0.to way.to tell it.2, it.3);
+}
 
-  pub matched_covering : (entries : List Entry) (from : List Term) (atom : Fact Term) (before : List Way) → AreMatched entries from atom before given
-      → AreMatched entries from atom before kept
-  matched_covering entries from atom before matched = record {
-    come_from = λ way inside. matched.come_from way (covering.of_given way inside);
-    go_on = λ atoms its fact inside lengths within in_world same_relation same_length fits.
-        let it = matched.go_on atoms its fact inside lengths within in_world same_relation same_length fits in
-        let own = covering.covers it.0 it.1 in
-        (own.0, own.1, own.2 ∙ it.2, λ number has. it.3 number (own.3 number has));
-  }
+pub counted_covering : (from terms : List Term) (given kept : List Way) → CoverAll from terms given kept → (count : ℕ) → AreCounted count given
+    → AreCounted count kept
+counted_covering from terms given kept covering count counted way inside = counted way (covering.of_given way inside)

@@ -1,77 +1,90 @@
--- What a search for the matches of a body visits, and what the products that it finds cover.
-use Rattle.std.specs.Prelude.{◌≡◌, ◌⊎◌, ◌↔◌, ℕ, ◌≤◌, Bool, true, List, [], ◌∷◌, ◌++◌, length, map, take, Contains}
+-- The products of a query's matches: what the worlds of all sets claim, claim by claim, and the terms that the first atoms of the body reach in them.
+use Rattle.std.specs.Prelude.{◌≡◌, ◌⊎◌, ◌↔◌, ℕ, Bool, List, ◌++◌, map, Contains}
 use Rattle.std.specs.List.{AllZip}
 use Rattle.esto_term.specs.declared.term.Term.{Term}
 use Rattle.esto_semantics.specs.Facts.{terms_of}
-use Rattle.esto_semantics.specs.Sets.{Within, Covers}
+use Rattle.esto_semantics.specs.Sets.{Covers}
 use Rattle.esto_semantics.specs.declared.fact.Fact.{Fact}
-use Rattle.esto_world_laws.specs.Derived.{Claims}
-use Rattle.esto_world_laws.specs.Laws.{HasMatch}
-use Rattle.esto_world_laws.specs.Matches.{IsLike, taken, Touching, AreChosen}
-use Rattle.esto_world_laws.specs.Worlds.{InWorld, AreOfCount}
+use Rattle.esto_world_laws.specs.Claims.{AreSameClaim}
+use Rattle.esto_world_laws.specs.Matches.{IsLike, taken}
+use Rattle.esto_world_laws.specs.Worlds.{SaysOne}
 use Rattle.esto_world_laws.specs.declared.entry.Claim.{Claim}
 use Rattle.esto_world_laws.specs.declared.entry.Claim.TheVariants.{Fact as Stated}
 use Rattle.esto_world_laws.specs.declared.entry.Entry.{Entry}
-use Rattle.esto_condchase.specs.Ways.{IsWay}
-use Rattle.esto_condchase.specs.declared.ways.Way.{Way}
+use Rattle.esto_known.specs.Indexes.{CoversClaim}
+use Rattle.esto_condchase.specs.Ways.{Tell}
+use Rattle.esto_condchase.specs.declared.known.KnownBy.{KnownBy}
+use Rattle.esto_condchase.specs.declared.reached.Reached.{Reached}
 
--- The terms `from` have met the terms `to`. What holds goes on with a body: it has a fact for each atom, whose terms touch what the atoms' terms meet first.
-abbrev pub GoesOn : (Claim → Type 0) → List Term → List Term → List (Fact Term) → Type 0
-GoesOn Holds from to body =
-    (chosen : List (Fact Term)) × AreChosen Holds body chosen
-    × AllZip (Touching Holds) (terms_of chosen) (map (taken (from ++ terms_of body) (to ++ terms_of chosen)) (terms_of body))
+-- The sets cover just those in whose worlds the claim is.
+abbrev pub IsKnownBy : List Entry → Claim → List (List Bool) → Type 0
+IsKnownBy entries claim sets = (set : List Bool) → Covers sets set ↔ CoversClaim entries claim set
 
--- What holds goes on with a body, with this fact for its first atom.
-abbrev pub GoesOnBy : (Claim → Type 0) → List Term → List Term → List (Fact Term) → Fact Term → Type 0
-GoesOnBy Holds from to [] fact = ⊥
-GoesOnBy Holds from to (atom ∷ body) fact =
-    (fact.relation ≡ atom.relation) × (length fact.terms ≡ length atom.terms)
-    × AllZip (Touching Holds) fact.terms (map (taken (from ++ atom.terms) (to ++ fact.terms)) atom.terms)
-    × GoesOn Holds (from ++ atom.terms) (to ++ fact.terms) body
+-- What the entries claim is known, each claim by the sets in whose worlds it is.
+pub record AreKnown (entries : List Entry) (knowns : List KnownBy) : Type 0 where
+  pub exact : (known : KnownBy) → Contains knowns known → IsKnownBy entries known.claim known.by.sets
+  pub all : (entry : Entry) → Contains entries entry → (known : KnownBy) × Contains knowns known × AreSameClaim entry.claim known.claim
 
--- The set has the way's product, and its world goes on with the body.
-abbrev pub WayGoesOn : List Entry → List Term → List (Fact Term) → Way → List Bool → Type 0
-WayGoesOn entries from body way set = Within way.product set × GoesOn (InWorld entries set) from way.to body
+-- Their sets have the count.
+abbrev pub AreKnownOf : ℕ → List KnownBy → Type 0
+AreKnownOf count knowns = (known : KnownBy) → Contains knowns known → known.by.count ≡ count
 
--- The set has the product of one of the ways, and its world goes on with the body from that way.
-abbrev pub SomeWayGoesOn : List Entry → List Term → List (Fact Term) → List Way → List Bool → Type 0
-SomeWayGoesOn entries from body ways set = (way : Way) × Contains ways way × WayGoesOn entries from body way set
+-- What was known stays, the entry's claim is known, and what is new is known by the sets in whose worlds it is, of that count.
+pub record IsKnownThen (entries : List Entry) (entry : Entry) (count : ℕ) (knowns later : List KnownBy) : Type 0 where
+  pub kept : (known : KnownBy) → Contains knowns known → Contains later known
+  pub there : (known : KnownBy) × Contains later known × AreSameClaim entry.claim known.claim
+  pub new : (known : KnownBy) → Contains later known → Contains knowns known ⊎ (IsKnownBy entries known.claim known.by.sets × (known.by.count ≡ count))
 
--- The set has the products of the way and of the entry, and its world goes on with the body, with the entry's fact for its first atom.
-abbrev pub EntryGoesOn : List Entry → List Term → List (Fact Term) → Way → Entry → List Bool → Type 0
-EntryGoesOn entries from body way entry set =
-    Within way.product set × Within entry.product set
-    × ((fact : Fact Term) × (entry.claim ≡ Stated fact) × GoesOnBy (InWorld entries set) from way.to body fact)
+-- An equality of the terms is known in the set's world.
+abbrev pub AreLinked : List KnownBy → List Bool → Term → Term → Type 0
+AreLinked knowns set term other = (known : KnownBy) × Contains knowns known × SaysOne known.claim term other × Covers known.by.sets set
 
--- The entry is free where it rests on no atom that the way does not rest on.
-abbrev pub IsFree : Way → Entry → Type 0
-IsFree way entry = Within entry.product way.product
+-- The terms are equal, or an equality of them is known in the set's world.
+abbrev pub AreTouching : List KnownBy → List Bool → Term → Term → Type 0
+AreTouching knowns set term other = (term ≡ other) ⊎ AreLinked knowns set term other
 
--- The set has the products of the way and of one of these entries, which is free or is not, as is told, and its world goes on with the body by its fact.
-abbrev pub SomeEntryGoesOn : List Entry → List Entry → List Term → List (Fact Term) → Way → Bool → List Bool → Type 0
-SomeEntryGoesOn entries some from body way free set =
-    (entry : Entry) × Contains some entry × ((free ≡ true) ↔ IsFree way entry) × EntryGoesOn entries from body way entry set
+-- These terms are reached in the set's world.
+abbrev pub Reach : List Reached → List Term → List Bool → Type 0
+Reach ones to set = (one : Reached) × Contains ones one × (one.to ≡ to) × Covers one.by.sets set
 
--- The way has matched the head with the targets, and the atoms.
-pub record IsBegun (entries : List Entry) (head : List Term) (atoms : List (Fact Term)) (targets : List Term) (way : Way) : Type 0 where
-  pub chosen : List (Fact Term)
-  pub stated : AllZip (λ (place : ℕ) (fact : Fact Term). Claims entries place (Stated fact)) way.facts chosen
-  pub alike : AllZip IsLike atoms chosen
-  pub is_way : IsWay entries way.facts (head ++ terms_of atoms) (targets ++ terms_of chosen) way
+-- Their sets have the count.
+abbrev pub AreReachedOf : ℕ → List Reached → Type 0
+AreReachedOf count ones = (one : Reached) → Contains ones one → one.by.count ≡ count
 
--- A search has come to a way, which has matched the first atoms of the body, so many of them.
-pub record IsVisit (entries : List Entry) (head : List Term) (body : List (Fact Term)) (targets : List Term) (count depth : ℕ) (from : List Term) (way : Way)
-    : Type 0 where
-  pub heads : length targets ≡ length head
-  pub counts : AreOfCount count entries
-  pub inside : depth ≤ length body
-  pub begun : IsBegun entries head (take depth body) targets way
-  pub from_is : from ≡ head ++ terms_of (take depth body)
-  pub counted : length way.product ≡ count
+-- The terms `from`, those of an atom last, meet what is reached and the fact's terms, in the set's world, where the fact is known by these sets; and `these` of
+-- them meet `to`.
+abbrev pub StepsBy : List KnownBy → List Term → List Term → Fact Term → Reached → List (List Bool) → Fact Term → List Term → List Bool → Type 0
+StepsBy knowns from these atom one sets fact to set =
+    (to ≡ map (taken from (one.to ++ fact.terms)) these) × Covers one.by.sets set × Covers sets set
+    × AllZip (AreTouching knowns set) fact.terms (map (taken from (one.to ++ fact.terms)) atom.terms)
 
--- The later sets cover what the earlier ones do, each set of a family, and else only sets whose worlds have a match.
-pub record Visited (entries : List Entry) (head : List Term) (body : List (Fact Term)) (targets : List Term) (Family : List Bool → Type 0)
-    (earlier later : List (List Bool)) : Type 0 where
-  pub sound : (set : List Bool) → Covers later set → Covers earlier set ⊎ HasMatch (InWorld entries set) head body targets
-  pub kept : (set : List Bool) → Covers earlier set → Covers later set
-  pub complete : (set : List Bool) → Family set → Covers later set
+-- The same with a claim that is known, if it is a fact that is alike to the atom.
+abbrev pub StepsWith : List KnownBy → List Term → List Term → Fact Term → Reached → KnownBy → List Term → List Bool → Type 0
+StepsWith knowns from these atom one known to set =
+    (fact : Fact Term) × (known.claim ≡ Stated fact) × IsLike atom fact × StepsBy knowns from these atom one known.by.sets fact to set
+
+-- The same with any claim that is known.
+abbrev pub StepsFrom : List KnownBy → List Term → List Term → Fact Term → Reached → List Term → List Bool → Type 0
+StepsFrom knowns from these atom one to set = (known : KnownBy) × Contains knowns known × StepsWith knowns from these atom one known to set
+
+-- The same from any that were reached.
+abbrev pub Steps : List KnownBy → List Term → List Term → Fact Term → List Reached → List Term → List Bool → Type 0
+Steps knowns from these atom ones to set = (one : Reached) × Contains ones one × StepsFrom knowns from these atom one to set
+
+-- What was joined stays; what one has reached is there; and what is new has all sets in whose worlds it is reached, of that count.
+pub record IsJoinedThen (ones : List Reached) (one : Reached) (count : ℕ) (joined later : List Reached) : Type 0 where
+  pub kept : (it : Reached) → Contains joined it → Contains later it
+  pub there : (it : Reached) × Contains later it × (it.to ≡ one.to)
+  pub new : (it : Reached) → Contains later it
+      → Contains joined it ⊎ (((set : List Bool) → Covers it.by.sets set ↔ Reach ones it.to set) × (it.by.count ≡ count))
+
+-- The targets are reached in the worlds in which they touch what the head meets first.
+abbrev pub IsFirst : List KnownBy → List Term → List Term → List Reached → Type 0
+IsFirst knowns head targets ones =
+    (to : List Term) (set : List Bool) → Reach ones to set ↔ ((to ≡ targets) × AllZip (AreTouching knowns set) targets (map (taken head targets) head))
+
+-- With one atom more, the terms `later_from`, which tell what the rest asks for, meet what is reached then.
+abbrev pub IsNext : List KnownBy → Fact Term → List (Fact Term) → List Term → List Reached → List Term → List Reached → Type 0
+IsNext knowns atom rest from ones later_from later =
+    Tell (from ++ atom.terms) (terms_of rest) later_from
+    × ((to : List Term) (set : List Bool) → Reach later to set ↔ Steps knowns (from ++ atom.terms) later_from atom ones to set)

@@ -1,11 +1,10 @@
 -- What a round adds.
 use Rattle.std.specs.Prelude.{◌≡◌, ◌⊎◌, ◌↔◌, ℕ, Bool, List, [], ◌∷◌, ◌++◌, Contains, Some, slice_get}
 use Rattle.esto_term.specs.declared.term.Term.{Term}
-use Rattle.esto_semantics.specs.Rules.{Rule, body_of}
+use Rattle.esto_semantics.specs.Rules.{Rule, tuple, equality, denial, body_of}
 use Rattle.esto_semantics.specs.declared.fact.Fact.{Fact}
 use Rattle.esto_semantics.specs.Sets.{Has, Within, united}
 use Rattle.esto_views.specs.declared.expansion.ExpandedFact.{ExpandedFact}
-use Rattle.esto_world_laws.specs.Claims.{AreSameClaim}
 use Rattle.esto_world_laws.specs.Worlds.{InWorld, AreOfCount, SaysOne}
 use Rattle.esto_semantics.specs.Facts.{terms_of}
 use Rattle.esto_world_laws.specs.Matches.{taken, match_map, IsDirectMatch}
@@ -16,11 +15,8 @@ use Rattle.esto_world_laws.specs.declared.entry.Claim.TheVariants.{Fact as State
 use Rattle.esto_world_laws.specs.declared.entry.Reason.{Reason}
 use Rattle.esto_world_laws.specs.declared.entry.Reason.TheVariants.{Expanded}
 use Rattle.esto_world_laws.specs.declared.entry.Entry.{Entry}
+use Rattle.esto_known.specs.Indexes.{IsPassed}
 use Rattle.esto_condchase.specs.declared.ways.Way.{Way}
-
--- Some entry has the claim, with a product within the set.
-abbrev pub CoversClaim : List Entry → Claim → List Bool → Type 0
-CoversClaim entries claim product = (entry : Entry) × Contains entries entry × AreSameClaim entry.claim claim × Within entry.product product
 
 -- The later list has one entry more, which was not covered, or none, and then the claim was covered.
 abbrev pub IsAdded : List Entry → List Entry → Claim → List Bool → Reason → List Entry → Type 0
@@ -49,6 +45,12 @@ abbrev pub IsTrivial : Claim → Type 0
 IsTrivial (Stated fact) = ⊥
 IsTrivial (Same left right) = left ≡ right
 
+-- The terms that tell what the rule asks for at a match: those of the head, or the two sides.
+abbrev pub terms_asked : Rule → List Term
+terms_asked (tuple body head) = terms_of head
+terms_asked (equality body left right) = left ∷ right ∷ []
+terms_asked (denial body) = []
+
 -- The claims that the rule asks for at the way are there.
 abbrev pub IsAnswered : List Entry → ℕ → Rule → Way → Type 0
 IsAnswered entries number rule way =
@@ -73,3 +75,13 @@ IsJoinedWith entries from to product second =
 abbrev pub IsPairJoined : List Entry → Entry → Entry → Type 0
 IsPairJoined entries first second =
     (term next : Term) → SaysOne first.claim term next → IsJoinedWith entries term next first.product second
+
+-- What an entry and the one at the place link one after the other is there, or a later entry covers the one at the place.
+abbrev pub IsPairMet : List Entry → List Entry → Entry → ℕ → Entry → Type 0
+IsPairMet entries new first place second =
+    (term next : Term) → SaysOne first.claim term next → (other : Term) → SaysOne second.claim next other
+    → IsPassed entries place ⊎ IsThere new (Same term other) (united first.product second.product)
+
+-- So it is for the entry and each of the entries.
+abbrev pub IsMetWithAll : List Entry → List Entry → Entry → Type 0
+IsMetWithAll entries new first = (place : ℕ) (second : Entry) → slice_get entries place ≡ Some second → IsPairMet entries new first place second

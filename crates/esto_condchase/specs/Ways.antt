@@ -1,10 +1,10 @@
 -- Ways to match the first atoms of a body, with the entries that they use.
-use Rattle.std.specs.Prelude.{◌≡◌, ◌⊎◌, ℕ, Bool, List, [], ◌∷◌, ◌++◌, length, map, replicate, false, Contains}
+use Rattle.std.specs.Prelude.{◌≡◌, ◌⊎◌, ℕ, Bool, List, [], ◌∷◌, ◌++◌, length, map, replicate, false, Contains, Some, slice_get}
 use Rattle.std.specs.List.{AllZip}
 use Rattle.esto_term.specs.declared.term.Term.{Term}
 use Rattle.esto_semantics.specs.Sets.{Within, united}
 use Rattle.esto_semantics.specs.declared.fact.Fact.{Fact}
-use Rattle.esto_world_laws.specs.Worlds.{InWorld}
+use Rattle.esto_world_laws.specs.Worlds.{InWorld, SaysOne}
 use Rattle.esto_semantics.specs.Facts.{terms_of}
 use Rattle.esto_world_laws.specs.Matches.{IsLike, taken, Touching, Fits, IsDirectMatch}
 use Rattle.esto_world_laws.specs.Derived.{Claims, IsNamed, IsUnion, IsEquality}
@@ -43,6 +43,11 @@ pub record IsWay (entries : List Entry) (facts : List ℕ) (from to : List Term)
   pub equalities : (place : ℕ) → Contains way.links place → IsEquality entries place
   pub union : IsUnion entries (way.facts ++ way.links) way.product
 
+-- The entry at the place is an equality of the terms, whose product is within the set.
+abbrev pub IsFreeLink : List Entry → Term → Term → List Bool → ℕ → Entry → Type 0
+IsFreeLink entries own goal product place entry =
+    (slice_get entries place ≡ Some entry) × SaysOne entry.claim own goal × Within entry.product product
+
 -- The ways are the given ones with one term more: each comes from one, and each goes on in each world that has its product and makes the term one with what it
 -- has to meet.
 pub record AreLonger (entries : List Entry) (from : List Term) (term own : Term) (given ways : List Way) : Type 0 where
@@ -78,14 +83,35 @@ pub record AreMatched (entries : List Entry) (from : List Term) (atom : Fact Ter
       → AllZip (Touching (InWorld entries atoms)) fact.terms (map (taken (from ++ atom.terms) (before.to ++ fact.terms)) atom.terms)
       → (way : Way) × Contains ways way × (way.to ≡ before.to ++ fact.terms) × Within way.product atoms
 
--- Some way has met the same terms, with a product within that of the way.
-abbrev pub CoversWay : List Way → Way → Type 0
-CoversWay ways way = (other : Way) × Contains ways other × (other.to ≡ way.to) × Within other.product way.product
+-- Each of the terms meets the same first, whether those of `from` have met `to` or the others.
+abbrev pub AgreeOn : List Term → List Term → List Term → List Term → Type 0
+AgreeOn terms from to others = (term : Term) → Contains terms term → taken from to term ≡ taken from others term
+
+-- These terms, all of which are of `from`, tell as much as all of the terms do: each of those is one of them, or none of `from`, so that it meets itself.
+pub record Tell (from terms these : List Term) : Type 0 where
+  pub told : (term : Term) → Contains terms term → Contains these term ⊎ ¬ (Contains from term)
+  pub among : (term : Term) → Contains these term → Contains from term
+
+-- Terms stay, and the term is among them, if it is one of `from`.
+pub record IsPut (from : List Term) (term : Term) (these later : List Term) : Type 0 where
+  pub kept : (own : Term) → Contains these own → Contains later own
+  pub told : Contains later term ⊎ ¬ (Contains from term)
+  pub among : (own : Term) → Contains later own → Contains these own ⊎ Contains from own
+
+-- Some way agrees with the way on the terms, with a product within that of the way.
+abbrev pub CoversWay : List Term → List Term → List Way → Way → Type 0
+CoversWay from terms ways way = (other : Way) × Contains ways other × AgreeOn terms from other.to way.to × Within other.product way.product
 
 -- The kept ways are some of the given ones, and cover each of them.
-pub record CoverAll (given kept : List Way) : Type 0 where
+pub record CoverAll (from terms : List Term) (given kept : List Way) : Type 0 where
   pub of_given : (way : Way) → Contains kept way → Contains given way
-  pub covers : (way : Way) → Contains given way → CoversWay kept way
+  pub covers : (way : Way) → Contains given way → CoversWay from terms kept way
+
+-- The ways are given ones with a fact for one atom more, as far as they tell it on the live terms: they cover all that there are.
+pub record AreNext (entries : List Entry) (from : List Term) (atom : Fact Term) (live : List Term) (given ways : List Way) : Type 0 where
+  pub matched : List Way
+  pub are_matched : AreMatched entries from atom given matched
+  pub cover : CoverAll (from ++ atom.terms) live matched ways
 
 -- The way is a direct match of the body among the entries.
 pub record IsFound (entries : List Entry) (body : List (Fact Term)) (way : Way) : Type 0 where
@@ -94,8 +120,8 @@ pub record IsFound (entries : List Entry) (body : List (Fact Term)) (way : Way) 
   pub alike : AllZip IsLike body chosen
   pub is_way : IsWay entries way.facts (terms_of body) (terms_of chosen) way
 
--- The ways are direct matches of the body, and in each world each direct match is one of them.
-pub record AreFound (entries : List Entry) (body : List (Fact Term)) (ways : List Way) : Type 0 where
+-- The ways are direct matches of the body, and in each world each direct match agrees with one of them on the live terms.
+pub record AreFound (entries : List Entry) (body : List (Fact Term)) (live : List Term) (ways : List Way) : Type 0 where
   pub sound : (way : Way) → Contains ways way → IsFound entries body way
   pub complete : (atoms : List Bool) (chosen : List (Fact Term)) → IsDirectMatch (InWorld entries atoms) body chosen
-      → (way : Way) × Contains ways way × (way.to ≡ terms_of chosen) × Within way.product atoms
+      → (way : Way) × Contains ways way × AgreeOn live (terms_of body) way.to (terms_of chosen) × Within way.product atoms

@@ -19,6 +19,7 @@ use crate::rounds::round;
 use esto_acyclic::{Ranks, ranks_rise};
 use esto_bits::RowBits;
 use esto_constraint::{Rules, rules_are_sound};
+use esto_known::Known;
 use esto_prov::Entries;
 use esto_term::{List, OutOfMemory, Replicate};
 use esto_views::{ExpandedFact, ExpandedFacts};
@@ -54,16 +55,17 @@ fn entry_of(alloc: Global, fact: &ExpandedFact, atoms: usize) -> Result<Entry, O
 }
 
 /// The entries of the expanded facts.
-fn given(alloc: Global, facts: &[ExpandedFact], atoms: usize) -> Result<List<Entry>, OutOfMemory>
+fn given(alloc: Global, facts: &[ExpandedFact], atoms: usize) -> Result<Known, OutOfMemory>
     requires { (fact : ExpandedFact) → Contains facts.now fact → fact.atom < atoms }
     ensures derived { IfOk result
         (λ entries. (rules : List Rule) → AreDerived facts.now rules entries) }
     ensures counted { IfOk result (AreOfCount atoms) }
     ensures given { IfOk result (AreGiven facts.now) }
 {
-    let mut entries = List::new(alloc);
+    let none = Known::new(alloc, 0)?;
+    let mut entries = Known::new(alloc, facts.len())?;
     'facts: for fact in facts {
-        add(&[], &mut entries, entry_of(alloc, fact, atoms)?)?;
+        add(&none, &mut entries, entry_of(alloc, fact, atoms)?)?;
     }
     Ok(entries)
 }
@@ -95,12 +97,12 @@ fn rounds(
     let mut entries = given(alloc, facts.items(), atoms)?;
     let mut since = 0;
     'rounds: loop {
-        let more = round(alloc, entries.items(), since, rules.items(), atoms)?;
+        let more = round(alloc, &entries, since, rules.items(), atoms)?;
         if more.is_empty() {
-            return Ok(entries);
+            return Ok(entries.into_list());
         }
         since = entries.len();
-        entries.append(more)?;
+        entries = entries.grown(alloc, more)?;
     }
 }
 
@@ -109,9 +111,9 @@ fn rounds(
 /// the entries whose products are within it. The facts have no made term, their atoms are below `atoms`, and the ranks are
 /// those of the rules' relations.
 ///
-/// Each round goes through the matches of all rules among the entries that stood when it began, modulo equalities, and adds
-/// what they ask for and no entry covers; an equality is an entry of its own and replaces nothing. A denial asks for
-/// nothing. The chase ends after a round that added nothing. Each expanded fact of an atom is a fact of each world that has
+/// Each round goes through the matches of all rules among the entries that stood when it began, modulo equalities, but for
+/// those that use none of the last round's, and adds what they ask for and no entry covers; an equality is an entry of its
+/// own and replaces nothing. A denial asks for nothing. The chase ends after a round that added nothing. Each expanded fact of an atom is a fact of each world that has
 /// the atom. Each world is closed: it meets each rule that is no denial, where linked terms count as one. It is sound: every
 /// database that meets the rules and receives the facts of the set's atoms receives the world. Where no two different
 /// constants are one in it and no denial's body has a match, it is a database that meets the rules; else no such database

@@ -2,10 +2,12 @@
 ghost use Rattle.std.specs.Prelude.{◌↔◌, ◌++◌, length, IsTrue, OnOk};
 ghost use Rattle.esto_world_laws.specs.Steps.{IsCovered};
 ghost use Rattle.esto_world_laws.specs.Worlds.{InWorld, AreOfCount};
-ghost use Rattle.esto_condchase.specs.Rounds.{CoversClaim, IsAdded, IsTrivial};
+ghost use Rattle.esto_world_laws.specs.declared.entry.Claim.TheVariants.{Same};
+ghost use Rattle.esto_condchase.specs.Rounds.{IsAdded, IsTrivial};
 
 use esto_bits::RowBits;
-use esto_term::{List, OutOfMemory};
+use esto_known::Known;
+use esto_term::{OutOfMemory, Term};
 use esto_world_laws::{Claim, Entry};
 
 /// Whether the claim is an equality of a term with itself.
@@ -18,21 +20,8 @@ fn is_trivial(claim: &Claim) -> bool
     }
 }
 
-/// Whether some entry has the claim, with a product within the set.
-fn covers(entries: &[Entry], claim: &Claim, product: &RowBits) -> bool
-    requires { AreOfCount (length product.now) entries.now }
-    ensures { IsTrue result ↔ CoversClaim entries.now claim.now product.now }
-{
-    'entries: for entry in entries {
-        if entry.product.within(product) && entry.claim.is_same(claim) {
-            return true;
-        }
-    }
-    false
-}
-
 /// Whether the claim holds by itself, or some entry, of these or of those that were added to them, covers it.
-fn is_covered(entries: &[Entry], more: &[Entry], claim: &Claim, product: &RowBits) -> bool
+pub fn is_covered(entries: &Known, more: &Known, claim: &Claim, product: &RowBits) -> bool
     requires counts { AreOfCount (length product.now) entries.now }
     requires more_counts { AreOfCount (length product.now) more.now }
     ensures { IsTrue result
@@ -41,20 +30,42 @@ fn is_covered(entries: &[Entry], more: &[Entry], claim: &Claim, product: &RowBit
     if is_trivial(claim) {
         return true;
     }
-    if covers(entries, claim, product) {
+    if entries.covers(claim, product) {
         return true;
     }
-    covers(more, claim, product)
+    more.covers(claim, product)
+}
+
+/// Whether the two terms are equal, or some entry, of these or of those that were added to them, says that they are one.
+pub fn is_same_covered(
+    entries: &Known,
+    more: &Known,
+    term: &Term,
+    other: &Term,
+    product: &RowBits,
+) -> bool
+    requires counts { AreOfCount (length product.now) entries.now }
+    requires more_counts { AreOfCount (length product.now) more.now }
+    ensures { IsTrue result
+        ↔ IsCovered (InWorld (entries.now ++ more.now) product.now) (Same term.now other.now) }
+{
+    if term.equal(other) {
+        return true;
+    }
+    if entries.says_one(term, other, product) {
+        return true;
+    }
+    more.says_one(term, other, product)
 }
 
 /// Adds an entry, unless the entries or what was added to them so far cover it.
-pub fn add(entries: &[Entry], more: &mut List<Entry>, entry: Entry) -> Result<(), OutOfMemory>
+pub fn add(entries: &Known, more: &mut Known, entry: Entry) -> Result<(), OutOfMemory>
     requires counts { AreOfCount (length entry.product) entries.now }
     requires more_counts { AreOfCount (length entry.product) more.old }
     ensures { OnOk result
         (IsAdded entries.now more.old entry.claim entry.product entry.reason more.new) }
 {
-    if is_covered(entries, more.items(), &entry.claim, &entry.product) {
+    if is_covered(entries, more, &entry.claim, &entry.product) {
         return Ok(());
     }
     more.push(entry)?;

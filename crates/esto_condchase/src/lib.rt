@@ -6,11 +6,14 @@
 mod chase;
 mod covered;
 mod covering;
-mod matching;
+mod known;
 mod news;
+mod passing;
 mod products;
+mod reached;
 mod rounds;
 mod taking;
+mod touching;
 mod ways;
 
 pub use chase::chase_with_products;

@@ -1,25 +1,16 @@
-//! What is new since a round, and whether a rule has to be asked again for it.
-ghost use Rattle.std.specs.Prelude.{◌≡◌, ◌↔◌, false, IsTrue};
-ghost use Rattle.esto_semantics.specs.Rules.{body_of};
+//! What is new since a round, and the matches that use something of it.
+ghost use Rattle.std.specs.Prelude.{◌≡◌, ◌↔◌, ◌<◌, ℕ, false, Contains, IsTrue, IfOk};
 ghost use Rattle.esto_semantics.specs.declared.fact.Fact.{Fact};
-ghost use Rattle.esto_constraint.specs.Constraints.{rule_of};
+ghost use Rattle.esto_world_laws.specs.Worlds.{AreOfCount};
 ghost use Rattle.esto_acyclic.specs.Relations.{HasRelation};
-ghost use Rattle.esto_condchase.specs.News.{IsApart, IsSettled};
+ghost use Rattle.esto_condchase.specs.News.{IsApart, IsSettled, AreFoundAnew, IsOldWay, AreNewOf};
+ghost use Rattle.esto_condchase.specs.Ways.{AreCounted};
 
-use esto_constraint::Constraint;
+use crate::ways::{Way, matches_of};
 use esto_semantics::Atom;
+use esto_term::{List, OutOfMemory, Replicate, Term};
 use esto_world_laws::{Claim, Entry};
-
-/// The body of a rule.
-pub fn body_of(rule: &Constraint) -> &[Atom]
-    ensures { result.now ≡ body_of (rule_of rule.now) }
-{
-    match rule {
-        Constraint::Tuple(tuple) => tuple.body.items(),
-        Constraint::Equal(equal) => equal.body.items(),
-        Constraint::Never(never) => never.body.items(),
-    }
-}
+use std::alloc::Global;
 
 /// Whether some atom has the relation.
 fn has_relation(body: &[Atom], relation: usize) -> bool
@@ -46,7 +37,7 @@ fn concerns(claim: &Claim, body: &[Atom]) -> bool
 
 /// Whether a match of the body may use an entry from a place on. Where false comes, each match is
 /// one among the entries before that place.
-pub fn has_news(entries: &[Entry], since: usize, body: &[Atom]) -> bool
+fn has_news(entries: &[Entry], since: usize, body: &[Atom]) -> bool
     ensures { result ≡ false → IsSettled entries.now since body.now }
 {
     'entries: for place in since..entries.len() {
@@ -55,4 +46,58 @@ pub fn has_news(entries: &[Entry], since: usize, body: &[Atom]) -> bool
         }
     }
     false
+}
+
+/// Whether one of the places is none of the first few.
+fn has_later(places: &[usize], since: usize) -> bool
+    ensures { result ≡ false → (place : ℕ) → Contains places.now place → place < since }
+{
+    'places: for place in places {
+        if *place >= since {
+            return true;
+        }
+    }
+    false
+}
+
+/// Whether the way uses an entry from a place on.
+fn is_new(way: &Way, since: usize) -> bool
+    ensures { result ≡ false → IsOldWay since way.now }
+{
+    has_later(way.facts.items(), since) || has_later(way.links.items(), since)
+}
+
+/// The ways that use an entry from a place on.
+fn only_new(alloc: Global, ways: &[Way], since: usize) -> Result<List<Way>, OutOfMemory>
+    ensures { IfOk result (AreNewOf since ways.now) }
+{
+    let mut kept = List::new(alloc);
+    'ways: for way in ways {
+        if is_new(way, since) {
+            kept.push(way.copy(alloc)?)?;
+        }
+    }
+    Ok(kept)
+}
+
+/// The direct matches of a body among the entries, as far as they tell what the terms asked for meet, each with what it uses, but
+/// for those that use the entries before a place alone.
+pub fn matches_since(
+    alloc: Global,
+    entries: &[Entry],
+    since: usize,
+    body: &[Atom],
+    asked: &[Term],
+    count: usize,
+) -> Result<List<Way>, OutOfMemory>
+    requires counts { AreOfCount count entries.now }
+    ensures found { IfOk result (AreFoundAnew entries.now since body.now asked.now) }
+    ensures counted { IfOk result (λ ways. AreCounted count ways) }
+{
+    if !has_news(entries, since, body) {
+        return Ok(List::new(alloc));
+    }
+    let found = matches_of(alloc, entries, body, asked, count)?;
+    let ways = only_new(alloc, found.items(), since)?;
+    Ok(ways)
 }

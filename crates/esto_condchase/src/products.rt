@@ -1,37 +1,92 @@
-//! The products of a query's matches.
-ghost use Rattle.std.specs.Prelude.{◌≡◌, ◌↔◌, List, [], Bool, length, IfOk};
+//! The products of a query's matches: atom by atom, for the worlds of all sets at once.
+ghost use Rattle.std.specs.Prelude.{◌≡◌, ◌↔◌, ◌++◌, ◌∷◌, List, [], Bool, length, map, Contains, IfOk, OnOk};
+ghost use Rattle.std.specs.List.{AllZip};
+ghost use Rattle.esto_semantics.specs.Facts.{terms_of};
 ghost use Rattle.esto_semantics.specs.Sets.{Covers};
 ghost use Rattle.esto_world_laws.specs.Laws.{HasMatch};
+ghost use Rattle.esto_world_laws.specs.Matches.{taken};
 ghost use Rattle.esto_world_laws.specs.Steps.{AreJoined};
 ghost use Rattle.esto_world_laws.specs.Worlds.{InWorld, AreOfCount};
-ghost use Rattle.esto_condchase.specs.Ways.{empty_way, AreCounted, AreRows};
+ghost use Rattle.esto_condchase.specs.Products.{AreKnownOf, AreReachedOf, AreTouching, IsNext, IsFirst};
 
-use crate::matching::Matching;
-use crate::ways::{Way, empty_way, through_row};
-use esto_bits::Products;
+use crate::covered::telling;
+use crate::known::{KnownBy, knowns_of};
+use crate::reached::{Reached, next, sets_of_all};
+use crate::touching::touch_all;
+use esto_bits::{Products, RowBits};
+use esto_prov::{taken_terms, terms_of};
 use esto_semantics::Atom;
-use esto_term::{List, OutOfMemory, Term, Terms};
+use esto_term::{List, OutOfMemory, Replicate, Term, Terms};
 use esto_world_laws::Entry;
 use std::alloc::Global;
 
-/// The ways that make the head one with the targets, place by place.
-fn first_ways(
+/// A copy of the terms.
+fn copied(alloc: Global, terms: &[Term]) -> Result<Terms, OutOfMemory>
+    ensures { IfOk result (λ it. it ≡ terms.now) }
+{
+    let mut own = List::new(alloc);
+    'terms: for term in terms {
+        own.push(term.copy(alloc)?)?;
+    }
+    Ok(own)
+}
+
+/// The targets, which the head is to meet, by the minimal sets in whose worlds it does.
+fn first(
     alloc: Global,
-    entries: &[Entry],
-    head: &Terms,
+    knowns: &[KnownBy],
+    head: &[Term],
     targets: &[Term],
     count: usize,
-) -> Result<List<Way>, OutOfMemory>
+) -> Result<List<Reached>, OutOfMemory>
     requires heads { length targets.now ≡ length head.now }
-    requires counts { AreOfCount count entries.now }
-    ensures rows { IfOk result
-        (λ ways. AreRows entries.now [] head.now targets.now (empty_way count) ways) }
-    ensures counted { IfOk result (λ ways. AreCounted count ways) }
+    requires knowns { AreKnownOf count knowns.now }
+    ensures counted { IfOk result (AreReachedOf count) }
+    ensures first { IfOk result (IsFirst knowns.now head.now targets.now) }
 {
-    let none = List::new(alloc);
-    let start = empty_way(alloc, count)?;
-    let ways = through_row(alloc, entries, &none, head.items(), targets, &start, count)?;
-    Ok(ways)
+    let goals = taken_terms(alloc, head, targets, head)?;
+    let none = RowBits::new(alloc, count)?;
+    let start = Products::only(alloc, &none)?;
+    let by = touch_all(alloc, knowns, targets, goals.items(), count, &start)?;
+    let mut ones = List::new(alloc);
+    ones.push(Reached {
+        to: copied(alloc, targets)?,
+        by,
+    })?;
+    Ok(ones)
+}
+
+/// Goes on by one atom, before the rest: of the terms so far those are kept that stand in the rest.
+fn go_on(
+    alloc: Global,
+    knowns: &[KnownBy],
+    atom: &Atom,
+    rest: &[Atom],
+    count: usize,
+    from: &mut Terms,
+    ones: &mut List<Reached>,
+) -> Result<(), OutOfMemory>
+    requires knowns { AreKnownOf count knowns.now }
+    requires ones { AreReachedOf count ones.old }
+    ensures counted { OnOk result (AreReachedOf count ones.new) }
+    ensures next { OnOk result
+        (IsNext knowns.now atom.now rest.now from.old ones.old from.new ones.new) }
+{
+    from.append(atom.terms.copy(alloc)?)?;
+    let live = terms_of(alloc, rest)?;
+    let these = telling(alloc, from.items(), live.items())?;
+    let later = next(
+        alloc,
+        knowns,
+        from.items(),
+        these.items(),
+        atom,
+        ones.items(),
+        count,
+    )?;
+    *ones = later;
+    *from = these;
+    Ok(())
 }
 
 /// The minimal sets of atoms in whose worlds the body has a match that makes the head, place by place, one with the
@@ -52,15 +107,20 @@ pub fn products_of_matches(
     ensures tell { IfOk result (λ it. (set : List Bool) → Covers it.sets set
         ↔ HasMatch (InWorld entries.now set) head.now body.now targets.now) }
 {
-    let ways = first_ways(alloc, entries, head, targets, count)?;
-    let search = Matching {
-        entries,
-        head,
-        body,
-        targets,
-        count,
-    };
-    let mut found = Products::new(alloc, count);
-    search.visit_all(alloc, 0, head, ways.items(), &mut found)?;
+    let knowns = knowns_of(alloc, entries, count)?;
+    let mut ones = first(alloc, knowns.items(), head.items(), targets, count)?;
+    let mut from = head.copy(alloc)?;
+    'atoms: for (place, atom) in body.iter().enumerate() {
+        go_on(
+            alloc,
+            knowns.items(),
+            atom,
+            &body[place + 1..],
+            count,
+            &mut from,
+            &mut ones,
+        )?;
+    }
+    let found = sets_of_all(alloc, ones.items(), count)?;
     Ok(found)
 }

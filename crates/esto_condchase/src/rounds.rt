@@ -1,5 +1,5 @@
 //! A round: what the rules and the links ask for among the entries that stood when it began.
-ghost use Rattle.std.specs.Prelude.{◌≡◌, ◌++◌, [], List, Some, Contains, length, slice_get, take, IfOk, OnOk};
+ghost use Rattle.std.specs.Prelude.{◌≡◌, ◌∷◌, ◌++◌, [], List, Some, Contains, length, slice_get, take, IfOk, OnOk, ℕ, ◌⊎◌};
 ghost use Rattle.esto_semantics.specs.Facts.{terms_of};
 ghost use Rattle.esto_semantics.specs.Rules.{Rule, tuple, equality};
 ghost use Rattle.esto_semantics.specs.Sets.{united};
@@ -10,19 +10,24 @@ ghost use Rattle.esto_world_laws.specs.Steps.{AreAnswered, AreJoined};
 ghost use Rattle.esto_world_laws.specs.declared.entry.Claim.TheVariants.{Same};
 ghost use Rattle.esto_world_laws.specs.declared.entry.Entry.{Entry};
 ghost use Rattle.esto_world_laws.specs.declared.entry.Reason.TheVariants.{Step};
+ghost use Rattle.esto_known.specs.Indexes.{HasSide, IsPassed};
 ghost use Rattle.esto_condchase.specs.Ways.{IsFound};
-ghost use Rattle.esto_condchase.specs.Rounds.{IsAdded, Grows, IsAnswered, IsRuleAnswered, IsThere, LinksAt, IsJoinedWith, IsPairJoined};
+ghost use Rattle.esto_condchase.specs.Rounds.{IsAdded, Grows, IsAnswered, IsRuleAnswered, IsThere, LinksAt, IsJoinedWith, IsPairJoined, IsPairMet, IsMetWithAll};
 
-use crate::covering::add;
-use crate::news::{body_of, has_news};
-use crate::ways::{Way, matches_of};
+use crate::covering::{add, is_covered, is_same_covered};
+use crate::news::matches_since;
+use crate::ways::Way;
 use esto_bits::RowBits;
 use esto_chase::frontier_of;
 use esto_constraint::{Constraint, Egd, Tgd};
+use esto_known::Known;
 use esto_prov::{made_fact, taken_term, taken_terms, terms_of};
 use esto_term::{List, OutOfMemory, Places, Replicate, Term, Terms, Values};
 use esto_world_laws::{Claim, Entry, Reason};
 use std::alloc::Global;
+
+/// How many entries that a round adds are found fast, at least.
+const ROOM: usize = 1024;
 
 /// The entries that a way uses, those of its facts first.
 fn places_of(alloc: Global, way: &Way) -> Result<Places, OutOfMemory>
@@ -48,11 +53,11 @@ fn support(alloc: Global, way: &Way) -> Result<(RowBits, Places), OutOfMemory>
 /// Adds a claim that a rule asks for at a way.
 fn ask(
     alloc: Global,
-    entries: &[Entry],
+    entries: &Known,
     number: usize,
     way: &Way,
     claim: Claim,
-    more: &mut List<Entry>,
+    more: &mut Known,
 ) -> Result<(), OutOfMemory>
     requires counts { AreOfCount (length way.now.product) entries.now }
     requires more_counts { AreOfCount (length way.now.product) more.old }
@@ -60,6 +65,9 @@ fn ask(
         (IsAdded entries.now more.old claim way.now.product
         (Step number (way.now.facts ++ way.now.links)) more.new) }
 {
+    if is_covered(entries, more, &claim, &way.product) {
+        return Ok(());
+    }
     let (product, places) = support(alloc, way)?;
     let entry = Entry {
         claim,
@@ -72,14 +80,14 @@ fn ask(
 /// Adds what a tuple rule asks for at a way.
 fn answer_tuple(
     alloc: Global,
-    entries: &[Entry],
+    entries: &Known,
     rules: &[Constraint],
     number: usize,
     rule: &Tgd,
     from: &Terms,
     shared: &Terms,
     way: &Way,
-    more: &mut List<Entry>,
+    more: &mut Known,
 ) -> Result<(), OutOfMemory>
     requires at { slice_get (rules_of rules.now) number ≡ Some (tuple rule.now.body rule.now.head) }
     requires found { IsFound entries.now rule.now.body way.now }
@@ -112,13 +120,13 @@ fn same(alloc: Global, left: &Term, right: &Term) -> Result<Claim, OutOfMemory>
 /// Adds what an equality rule asks for at a way.
 fn answer_equality(
     alloc: Global,
-    entries: &[Entry],
+    entries: &Known,
     rules: &[Constraint],
     number: usize,
     rule: &Egd,
     from: &Terms,
     way: &Way,
-    more: &mut List<Entry>,
+    more: &mut Known,
 ) -> Result<(), OutOfMemory>
     requires at { slice_get (rules_of rules.now) number ≡ Some
         (equality rule.now.body rule.now.left rule.now.right) }
@@ -139,17 +147,20 @@ fn answer_equality(
     Ok(())
 }
 
-/// Adds what a tuple rule asks for at all its direct matches.
+/// Adds what a tuple rule asks for at all its direct matches, where what it asks for at those among the first few entries is there.
 fn answer_tuples(
     alloc: Global,
-    entries: &[Entry],
+    entries: &Known,
+    since: usize,
     rules: &[Constraint],
     number: usize,
     rule: &Tgd,
     count: usize,
-    more: &mut List<Entry>,
+    more: &mut Known,
 ) -> Result<(), OutOfMemory>
     requires at { slice_get (rules_of rules.now) number ≡ Some (tuple rule.now.body rule.now.head) }
+    requires before { IsRuleAnswered (take since entries.now) entries.now number
+        (tuple rule.now.body rule.now.head) }
     requires counts { AreOfCount count entries.now }
     requires more_counts { AreOfCount count more.old }
     ensures grows { OnOk result (Grows (rules_of rules.now) count entries.now more.old more.new) }
@@ -159,7 +170,15 @@ fn answer_tuples(
 {
     let from = terms_of(alloc, rule.body.items())?;
     let shared = frontier_of(alloc, rule.body.items(), rule.head.items())?;
-    let found = matches_of(alloc, entries, rule.body.items(), count)?;
+    let asked = terms_of(alloc, rule.head.items())?;
+    let found = matches_since(
+        alloc,
+        entries.items(),
+        since,
+        rule.body.items(),
+        asked.items(),
+        count,
+    )?;
     'found: for way in found.items() {
         answer_tuple(
             alloc, entries, rules, number, rule, &from, &shared, way, more,
@@ -168,17 +187,30 @@ fn answer_tuples(
     Ok(())
 }
 
-/// Adds what an equality rule asks for at all its direct matches.
+/// The two sides of an equality rule.
+fn sides_of(alloc: Global, rule: &Egd) -> Result<Terms, OutOfMemory>
+    ensures { IfOk result (λ it. it ≡ rule.now.left ∷ rule.now.right ∷ []) }
+{
+    let mut sides = List::new(alloc);
+    sides.push(rule.left.copy(alloc)?)?;
+    sides.push(rule.right.copy(alloc)?)?;
+    Ok(sides)
+}
+
+/// Adds what an equality rule asks for at all its direct matches, where what it asks for at those among the first few entries is there.
 fn answer_equalities(
     alloc: Global,
-    entries: &[Entry],
+    entries: &Known,
+    since: usize,
     rules: &[Constraint],
     number: usize,
     rule: &Egd,
     count: usize,
-    more: &mut List<Entry>,
+    more: &mut Known,
 ) -> Result<(), OutOfMemory>
     requires at { slice_get (rules_of rules.now) number ≡ Some
+        (equality rule.now.body rule.now.left rule.now.right) }
+    requires before { IsRuleAnswered (take since entries.now) entries.now number
         (equality rule.now.body rule.now.left rule.now.right) }
     requires counts { AreOfCount count entries.now }
     requires more_counts { AreOfCount count more.old }
@@ -188,52 +220,31 @@ fn answer_equalities(
         (equality rule.now.body rule.now.left rule.now.right)) }
 {
     let from = terms_of(alloc, rule.body.items())?;
-    let found = matches_of(alloc, entries, rule.body.items(), count)?;
+    let asked = sides_of(alloc, rule)?;
+    let found = matches_since(
+        alloc,
+        entries.items(),
+        since,
+        rule.body.items(),
+        asked.items(),
+        count,
+    )?;
     'found: for way in found.items() {
         answer_equality(alloc, entries, rules, number, rule, &from, way, more)?;
     }
     Ok(())
 }
 
-/// Adds what a rule asks for at all its direct matches.
+/// Adds what a rule asks for at all its direct matches, where what it asks for at those among the first few entries is there.
 fn answer_rule(
     alloc: Global,
-    entries: &[Entry],
-    rules: &[Constraint],
-    number: usize,
-    rule: &Constraint,
-    count: usize,
-    more: &mut List<Entry>,
-) -> Result<(), OutOfMemory>
-    requires at { slice_get (rules_of rules.now) number ≡ Some (rule_of rule.now) }
-    requires counts { AreOfCount count entries.now }
-    requires more_counts { AreOfCount count more.old }
-    ensures grows { OnOk result (Grows (rules_of rules.now) count entries.now more.old more.new) }
-    ensures answered { OnOk result
-        (IsRuleAnswered entries.now (entries.now ++ more.new) number (rule_of rule.now)) }
-{
-    match rule {
-        Constraint::Tuple(tuple) => answer_tuples(
-            alloc, entries, rules, number, tuple, count, more,
-        ),
-        Constraint::Equal(equal) => {
-            answer_equalities(alloc, entries, rules, number, equal, count, more)
-        }
-        Constraint::Never(_) => Ok(()),
-    }
-}
-
-/// Adds what a rule asks for at all its direct matches, where what it asks for at those among the first few entries is there.
-/// Where a match can use none of the others, there is nothing to add.
-fn answer_anew(
-    alloc: Global,
-    entries: &[Entry],
+    entries: &Known,
     since: usize,
     rules: &[Constraint],
     number: usize,
     rule: &Constraint,
     count: usize,
-    more: &mut List<Entry>,
+    more: &mut Known,
 ) -> Result<(), OutOfMemory>
     requires at { slice_get (rules_of rules.now) number ≡ Some (rule_of rule.now) }
     requires before { IsRuleAnswered (take since entries.now) entries.now number
@@ -244,31 +255,35 @@ fn answer_anew(
     ensures answered { OnOk result
         (IsRuleAnswered entries.now (entries.now ++ more.new) number (rule_of rule.now)) }
 {
-    if !has_news(entries, since, body_of(rule)) {
-        return Ok(());
+    match rule {
+        Constraint::Tuple(tuple) => answer_tuples(
+            alloc, entries, since, rules, number, tuple, count, more,
+        ),
+        Constraint::Equal(equal) => {
+            answer_equalities(alloc, entries, since, rules, number, equal, count, more)
+        }
+        Constraint::Never(_) => Ok(()),
     }
-    answer_rule(alloc, entries, rules, number, rule, count, more)?;
-    Ok(())
 }
 
 /// Adds what the rules ask for at all their direct matches, where what they ask for at those among the first few entries is
 /// there.
 fn answer_rules(
     alloc: Global,
-    entries: &[Entry],
+    entries: &Known,
     since: usize,
     rules: &[Constraint],
     count: usize,
-) -> Result<List<Entry>, OutOfMemory>
+) -> Result<Known, OutOfMemory>
     requires before { AreAnswered (rules_of rules.now) (take since entries.now) entries.now }
     requires counts { AreOfCount count entries.now }
     ensures grows { IfOk result (λ more. Grows (rules_of rules.now) count entries.now [] more) }
     ensures answered { IfOk result
         (λ more. AreAnswered (rules_of rules.now) entries.now (entries.now ++ more)) }
 {
-    let mut more = List::new(alloc);
+    let mut more = Known::new(alloc, entries.len().max(ROOM))?;
     'rules: for (number, rule) in rules.iter().enumerate() {
-        answer_anew(alloc, entries, since, rules, number, rule, count, &mut more)?;
+        answer_rule(alloc, entries, since, rules, number, rule, count, &mut more)?;
     }
     Ok(more)
 }
@@ -285,11 +300,11 @@ struct Link<'a> {
 /// Adds the link of two that meet in one term.
 fn join_ends(
     alloc: Global,
-    entries: &[Entry],
+    entries: &Known,
     first: &Link,
     second: &Link,
     count: usize,
-    more: &mut List<Entry>,
+    more: &mut Known,
 ) -> Result<(), OutOfMemory>
     requires first { LinksAt entries.now first.now.place first.now.entry.now
         first.now.from.now first.now.to.now }
@@ -307,9 +322,12 @@ fn join_ends(
     if !first.to.equal(second.from) {
         return Ok(());
     }
-    let places = Values::from_slice(alloc, &[first.place, second.place])?;
     let mut product = first.entry.product.copy(alloc)?;
     product.union(&second.entry.product);
+    if is_same_covered(entries, more, first.from, second.to, &product) {
+        return Ok(());
+    }
+    let places = Values::from_slice(alloc, &[first.place, second.place])?;
     let entry = Entry {
         claim: same(alloc, first.from, second.to)?,
         product,
@@ -322,12 +340,12 @@ fn join_ends(
 /// Adds the links of one and an entry that meet in one term.
 fn join_with(
     alloc: Global,
-    entries: &[Entry],
+    entries: &Known,
     first: &Link,
     second: usize,
     second_entry: &Entry,
     count: usize,
-    more: &mut List<Entry>,
+    more: &mut Known,
 ) -> Result<(), OutOfMemory>
     requires first { LinksAt entries.now first.now.place first.now.entry.now
         first.now.from.now first.now.to.now }
@@ -365,13 +383,13 @@ fn join_with(
 /// Adds the links of two entries that meet in one term.
 fn join_pair(
     alloc: Global,
-    entries: &[Entry],
+    entries: &Known,
     first: usize,
     first_entry: &Entry,
     second: usize,
     second_entry: &Entry,
     count: usize,
-    more: &mut List<Entry>,
+    more: &mut Known,
 ) -> Result<(), OutOfMemory>
     requires first { slice_get entries.now first ≡ Some first_entry.now }
     requires second { slice_get entries.now second ≡ Some second_entry.now }
@@ -404,14 +422,16 @@ fn join_pair(
     }
 }
 
-/// Adds the links of an entry with every other.
-fn join_entry(
+/// Adds the links of an entry and the one at a place, if there is one, that meet in one term, unless a later entry covers the
+/// one at the place.
+fn join_at(
     alloc: Global,
-    entries: &[Entry],
+    entries: &Known,
     first: usize,
     first_entry: &Entry,
+    place: usize,
     count: usize,
-    more: &mut List<Entry>,
+    more: &mut Known,
 ) -> Result<(), OutOfMemory>
     requires first { slice_get entries.now first ≡ Some first_entry.now }
     requires counts { AreOfCount count entries.now }
@@ -419,54 +439,140 @@ fn join_entry(
     ensures grows { OnOk result
         ((rules : List Rule) → Grows rules count entries.now more.old more.new) }
     ensures joined { OnOk result
-        ((second : Entry) → Contains entries.now second
-        → IsPairJoined (entries.now ++ more.new) first_entry.now second) }
+        ((second : Entry) → slice_get entries.now place ≡ Some second
+        → IsPairMet entries.now (entries.now ++ more.new) first_entry.now place second) }
 {
-    'entries: for (second, second_entry) in entries.iter().enumerate() {
-        join_pair(
-            alloc,
-            entries,
-            first,
-            first_entry,
-            second,
-            second_entry,
-            count,
-            more,
-        )?;
+    let Some(second_entry) = entries.items().get(place) else {
+        return Ok(());
+    };
+    if entries.is_passed(place, second_entry) {
+        return Ok(());
+    }
+    join_pair(
+        alloc,
+        entries,
+        first,
+        first_entry,
+        place,
+        second_entry,
+        count,
+        more,
+    )?;
+    Ok(())
+}
+
+/// Adds the links of an entry with each equality that has the term as a side.
+fn join_side(
+    alloc: Global,
+    entries: &Known,
+    first: usize,
+    first_entry: &Entry,
+    side: &Term,
+    count: usize,
+    more: &mut Known,
+) -> Result<(), OutOfMemory>
+    requires first { slice_get entries.now first ≡ Some first_entry.now }
+    requires counts { AreOfCount count entries.now }
+    requires more_counts { AreOfCount count more.old }
+    ensures grows { OnOk result
+        ((rules : List Rule) → Grows rules count entries.now more.old more.new) }
+    ensures joined { OnOk result
+        ((place : ℕ) (second : Entry) → slice_get entries.now place ≡ Some second
+        → HasSide second.claim side.now
+        → IsPairMet entries.now (entries.now ++ more.new) first_entry.now place second) }
+{
+    let places = entries.with_side(alloc, side)?;
+    'places: for place in places.items() {
+        join_at(alloc, entries, first, first_entry, *place, count, more)?;
     }
     Ok(())
 }
 
-/// Adds the links of every two entries that meet in one term.
+/// Adds the links of an entry with every other.
+fn join_entry(
+    alloc: Global,
+    entries: &Known,
+    first: usize,
+    first_entry: &Entry,
+    count: usize,
+    more: &mut Known,
+) -> Result<(), OutOfMemory>
+    requires first { slice_get entries.now first ≡ Some first_entry.now }
+    requires counts { AreOfCount count entries.now }
+    requires more_counts { AreOfCount count more.old }
+    ensures grows { OnOk result
+        ((rules : List Rule) → Grows rules count entries.now more.old more.new) }
+    ensures joined { OnOk result
+        (IsMetWithAll entries.now (entries.now ++ more.new) first_entry.now) }
+{
+    match &first_entry.claim {
+        Claim::Fact(_) => Ok(()),
+        Claim::Same(left, right) => {
+            join_side(alloc, entries, first, first_entry, left, count, more)?;
+            join_side(alloc, entries, first, first_entry, right, count, more)?;
+            Ok(())
+        }
+    }
+}
+
+/// Adds the links of an entry with every other, unless a later entry covers it.
+fn join_live(
+    alloc: Global,
+    entries: &Known,
+    first: usize,
+    first_entry: &Entry,
+    count: usize,
+    more: &mut Known,
+) -> Result<(), OutOfMemory>
+    requires first { slice_get entries.now first ≡ Some first_entry.now }
+    requires counts { AreOfCount count entries.now }
+    requires more_counts { AreOfCount count more.old }
+    ensures grows { OnOk result
+        ((rules : List Rule) → Grows rules count entries.now more.old more.new) }
+    ensures joined { OnOk result (IsPassed entries.now first
+        ⊎ IsMetWithAll entries.now (entries.now ++ more.new) first_entry.now) }
+{
+    if entries.is_passed(first, first_entry) {
+        return Ok(());
+    }
+    join_entry(alloc, entries, first, first_entry, count, more)?;
+    Ok(())
+}
+
+/// Adds the links of every two entries that meet in one term, where those of the first few are there.
 fn join(
     alloc: Global,
-    entries: &[Entry],
+    entries: &Known,
+    since: usize,
     count: usize,
-    more: &mut List<Entry>,
+    more: &mut Known,
 ) -> Result<(), OutOfMemory>
+    requires before { AreJoined (take since entries.now) entries.now }
     requires counts { AreOfCount count entries.now }
     requires more_counts { AreOfCount count more.old }
     ensures grows { OnOk result
         ((rules : List Rule) → Grows rules count entries.now more.old more.new) }
     ensures joined { OnOk result (AreJoined entries.now (entries.now ++ more.new)) }
 {
-    'entries: for (first, first_entry) in entries.iter().enumerate() {
-        join_entry(alloc, entries, first, first_entry, count, more)?;
+    let items = entries.items();
+    'entries: for first in since..items.len() {
+        join_live(alloc, entries, first, &items[first], count, more)?;
     }
     Ok(())
 }
 
 /// What the rules and the links ask for among the entries and the entries do not cover yet: what was derived stays
-/// derived, and in each world all that the entries ask for is covered by them and what is answered. What the rules ask for
-/// among the first few entries, those that stood when the last round began, is there already.
+/// derived, and in each world all that the entries ask for is covered by them and what is answered. What the rules and the
+/// links ask for among the first few entries, those that stood when the last round began, is there already.
 pub fn round(
     alloc: Global,
-    entries: &[Entry],
+    entries: &Known,
     since: usize,
     rules: &[Constraint],
     count: usize,
-) -> Result<List<Entry>, OutOfMemory>
+) -> Result<Known, OutOfMemory>
     requires before { AreAnswered (rules_of rules.now) (take since entries.now) entries.now }
+    requires joined_before { AreJoined (take since entries.now) entries.now }
     requires counts { AreOfCount count entries.now }
     ensures grows { IfOk result (λ more. Grows (rules_of rules.now) count entries.now [] more) }
     ensures answered { IfOk result
@@ -474,6 +580,6 @@ pub fn round(
     ensures joined { IfOk result (λ more. AreJoined entries.now (entries.now ++ more)) }
 {
     let mut more = answer_rules(alloc, entries, since, rules, count)?;
-    join(alloc, entries, count, &mut more)?;
+    join(alloc, entries, since, count, &mut more)?;
     Ok(more)
 }

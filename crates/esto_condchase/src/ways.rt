@@ -1,13 +1,16 @@
 //! Ways to match a body among entries, modulo equalities.
-ghost use Rattle.std.specs.Prelude.{◌≡◌, ◌≢◌, ◌<◌, ◌∷◌, ◌++◌, [], List, length, Contains, IfOk, OnOk};
+ghost use Rattle.std.specs.Prelude.{◌≡◌, ◌≢◌, ◌<◌, ◌∷◌, ◌++◌, [], List, length, Contains, IfOk, IfSome, OnOk};
+ghost use Rattle.esto_semantics.specs.Facts.{terms_of};
 ghost use Rattle.esto_world_laws.specs.Matches.{taken};
 ghost use Rattle.esto_world_laws.specs.Worlds.{AreOfCount};
-ghost use Rattle.esto_condchase.specs.Ways.{AreCounted, empty_way, met, met_by, begun, AreLonger, AreRows, AreThrough, AreMatched, AreFound};
+ghost use Rattle.esto_condchase.specs.Ways.{AreCounted, IsFreeLink, empty_way, met, met_by, begun, AreLonger, AreRows, AreThrough, AreMatched, AreNext, AreFound};
 ghost use Rattle.esto_condchase.specs.declared.ways.Way.{Way};
 
 use crate::covered::without_covered;
+use crate::passing::row_may_pass;
 use crate::taking::to_meet;
 use esto_bits::RowBits;
+use esto_prov::terms_of;
 use esto_semantics::Atom;
 use esto_term::{List, OutOfMemory, Places, Replicate, Term, Terms, Values};
 use esto_world_laws::{Claim, Entry};
@@ -82,7 +85,27 @@ fn begun(alloc: Global, way: &Way, place: usize, product: &RowBits) -> Result<Wa
     Ok(further)
 }
 
-/// One way, with one term more, which is made what it has to meet by an equality.
+/// An equality of the two terms that rests on no atom beyond the set, if there is one.
+fn free_link<'a>(
+    entries: &'a [Entry],
+    own: &Term,
+    goal: &Term,
+    product: &RowBits,
+) -> Option<(usize, &'a Entry)>
+    requires { AreOfCount (length product.now) entries.now }
+    ensures { IfSome result (λ it.
+        IsFreeLink entries.now own.now goal.now product.now it.0 it.1.now) }
+{
+    'entries: for (place, entry) in entries.iter().enumerate() {
+        if entry.product.within(product) && entry.claim.says_one(own, goal) {
+            return Some((place, entry));
+        }
+    }
+    None
+}
+
+/// One way, with one term more, which is made what it has to meet by an equality. Where an equality rests on no atom that
+/// the way does not rest on, it is enough.
 fn longer_by_links(
     alloc: Global,
     entries: &[Entry],
@@ -100,6 +123,10 @@ fn longer_by_links(
         (λ ways. AreLonger entries.now from.now term.now own.now (before.now ∷ []) ways) }
     ensures counted { IfOk result (λ ways. AreCounted (length before.now.product) ways) }
 {
+    if let Some((place, entry)) = free_link(entries, own, goal, &before.product) {
+        let ways = only(alloc, met_by(alloc, before, own, place, &entry.product)?)?;
+        return Ok(ways);
+    }
     let mut ways = List::new(alloc);
     'entries: for (place, entry) in entries.iter().enumerate() {
         if entry.claim.says_one(own, goal) {
@@ -285,6 +312,15 @@ fn ways_through(
             if fact.relation != atom.relation || fact.terms.len() != atom.terms.len() {
                 return Ok(List::new(alloc));
             }
+            if !row_may_pass(
+                entries,
+                from.items(),
+                before.to.items(),
+                atom.terms.items(),
+                fact.terms.items(),
+            ) {
+                return Ok(List::new(alloc));
+            }
             through_fact(
                 alloc,
                 entries,
@@ -346,12 +382,13 @@ fn all_matched(
     Ok(ways)
 }
 
-/// Goes on by one atom, from the terms of those before it and the ways that match them. Ways that earlier ones cover are
-/// dropped.
+/// Goes on by one atom, from the terms of those before it and the ways that match them. Of the ways, those are kept that
+/// tell what the live terms meet: the terms of the atoms that are still to come, and those that are asked for in the end.
 fn match_next(
     alloc: Global,
     entries: &[Entry],
     atom: &Atom,
+    live: &[Term],
     count: usize,
     from: &mut Terms,
     ways: &mut List<Way>,
@@ -359,32 +396,54 @@ fn match_next(
     requires lengths { (way : Way) → Contains ways.old way → length from.old ≡ length way.to }
     requires counted { AreCounted count ways.old }
     requires counts { AreOfCount count entries.now }
-    ensures matched { OnOk result (AreMatched entries.now from.old atom.now ways.old ways.new) }
+    ensures next { OnOk result
+        (AreNext entries.now from.old atom.now live.now ways.old ways.new) }
     ensures counted { OnOk result (AreCounted count ways.new) }
     ensures from { OnOk result (from.new ≡ from.old ++ atom.now.terms) }
 {
     let matched = all_matched(alloc, entries, from, atom, ways.items(), count)?;
-    *ways = without_covered(alloc, matched.items(), count)?;
     from.append(atom.terms.copy(alloc)?)?;
+    *ways = without_covered(alloc, from.items(), live, matched.items(), count)?;
     Ok(())
 }
 
-/// The direct matches of a body among the entries, each with what it uses: in each world, each direct match is one of
-/// them, with a product within the world's set.
+/// The terms of the atoms, and then those that are asked for.
+fn live_terms(alloc: Global, atoms: &[Atom], asked: &[Term]) -> Result<Terms, OutOfMemory>
+    ensures { IfOk result (λ it. it ≡ terms_of atoms.now ++ asked.now) }
+{
+    let mut terms = terms_of(alloc, atoms)?;
+    'asked: for term in asked {
+        terms.push(term.copy(alloc)?)?;
+    }
+    Ok(terms)
+}
+
+/// The direct matches of a body among the entries, each with what it uses, as far as they tell what the terms meet that are
+/// asked for: in each world, each direct match agrees on these with one of them, whose product is within the world's set.
 pub fn matches_of(
     alloc: Global,
     entries: &[Entry],
     body: &[Atom],
+    asked: &[Term],
     count: usize,
 ) -> Result<List<Way>, OutOfMemory>
     requires counts { AreOfCount count entries.now }
-    ensures found { IfOk result (λ ways. AreFound entries.now body.now ways) }
+    ensures found { IfOk result (λ ways. AreFound entries.now body.now asked.now ways) }
     ensures counted { IfOk result (λ ways. AreCounted count ways) }
 {
     let mut ways = only(alloc, empty_way(alloc, count)?)?;
     let mut from = List::new(alloc);
-    'atoms: for atom in body {
-        match_next(alloc, entries, atom, count, &mut from, &mut ways)?;
+    'atoms: for (place, atom) in body.iter().enumerate() {
+        let live = live_terms(alloc, &body[place + 1..], asked)?;
+        match_next(
+            alloc,
+            entries,
+            atom,
+            live.items(),
+            count,
+            &mut from,
+            &mut ways,
+        )?;
     }
     Ok(ways)
 }

@@ -5,7 +5,7 @@ use Rattle.esto_views.specs.Expanded.{facts_of}
 use Rattle.esto_world_laws.specs.Bounds.{most_entries}
 use Rattle.esto_world_laws.specs.Derived.{AreDerived}
 use Rattle.esto_world_laws.specs.Laws.{AreGiven}
-use Rattle.esto_world_laws.specs.Steps.{AreAnswered}
+use Rattle.esto_world_laws.specs.Steps.{AreAnswered, AreJoined}
 use Rattle.esto_world_laws.specs.Worlds.{AreOfCount}
 use Rattle.esto_condchase.proofs.chase.rounds.Given as goal
 
@@ -15,6 +15,7 @@ invariant-rounds l = record {
   counted : AreOfCount l.atoms l.entries;
   given : AreGiven l.facts l.entries;
   before : AreAnswered (rules_of l.rules) (take l.since l.entries) l.entries;
+  joined_before : AreJoined (take l.since l.entries) l.entries;
 }
 
 -- what is left of the bound of entries

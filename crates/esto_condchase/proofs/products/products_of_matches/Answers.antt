@@ -1,18 +1,41 @@
-use Rattle.std.proofs.Common.{[], refl}
-use Rattle.esto_bits.proofs.SetLemmas.{Has-replicate}
-use Rattle.esto_condchase.specs.Ways.{empty_way}
-use Rattle.esto_condchase.proofs.MatchingLemmas.{first_visits, told}
+use Rattle.std.proofs.Common.{◌+◌, List, length, slice_range, sym, subst}
+use Rattle.esto_term.specs.declared.term.Term.{Term}
+use Rattle.esto_semantics.specs.declared.fact.Fact.{Fact}
+use Rattle.esto_condchase.specs.Products.{AreKnownOf, AreReachedOf, IsFirst, IsNext}
+use Rattle.esto_condchase.proofs.WayLemmas.{rest_after}
+use Rattle.esto_condchase.proofs.ReachLemmas.{led_first, led_turn, led_all}
 use Rattle.esto_condchase.proofs.products.products_of_matches.Goals as goal
 
-pub visit_all-requires-clause-visits : goal.visit_all-requires-clause-visits
-visit_all-requires-clause-visits c =
-    first_visits c.args.entries.now c.args.head.now c.args.body.now c.args.targets.now c.requires.heads c.args.count c.requires.counts
-    (empty_way c.args.count) refl refl refl (λ number has. Has-replicate c.args.count number has) c.in_ok-ways.ways c.items.result.now [] refl
-    c.in_ok-ways.ensures.rows c.items.ensures c.in_ok-ways.ensures.counted
+pub first-requires-clause-knowns : goal.first-requires-clause-knowns
+first-requires-clause-knowns c = subst (AreKnownOf c.args.count) (sym c.items.ensures) c.in_ok-knowns.ensures.counted
+
+pub atoms-init : goal.atoms-init
+atoms-init c = record {
+  led = led_first c.args.entries.now c.in_ok-knowns.knowns c.in_ok-knowns.ensures.known c.args.head.now c.args.body.now c.args.targets.now c.requires.heads
+      c.requires.joined c.in_ok-from.from c.in_ok-ones.ones c.in_ok-from.ensures
+      (subst (λ it. IsFirst it c.args.head.now c.args.targets.now c.in_ok-ones.ones) c.items.ensures
+      (subst (λ it. IsFirst c.items.result.now it c.args.targets.now c.in_ok-ones.ones) c.items-2.ensures c.in_ok-ones.ensures.first));
+  counted = c.in_ok-ones.ensures.counted;
+}
+
+pub go_on-requires-clause-knowns : goal.go_on-requires-clause-knowns
+go_on-requires-clause-knowns c = subst (AreKnownOf c.args.count) (sym c.items-in-atoms.ensures) c.in_ok-knowns.ensures.counted
+
+pub atoms-preserved : goal.atoms-preserved
+atoms-preserved c =
+    let rest : List (Fact Term) = slice_range c.args.body.now (c.atoms.place + 1) (length c.args.body.now) in record {
+      led = led_turn c.args.entries.now c.in_ok-knowns.knowns c.in_ok-knowns.ensures.known c.args.head.now c.args.body.now c.args.targets.now c.atoms.place
+          c.index-body-place.result rest c.atoms.from c.atoms.ones c.go_on.new.from c.go_on.new.ones c.atoms-test.true c.index-body-place.is
+          (rest_after c.args.body.now c.atoms.place c.atoms-test.true) c.atoms.invariant.led
+          (subst (λ it. IsNext it c.index-body-place.result rest c.atoms.from c.atoms.ones c.go_on.new.from c.go_on.new.ones) c.items-in-atoms.ensures
+          c.in_ok-go_on.ensures.next);
+      counted = c.in_ok-go_on.ensures.counted;
+    }
+
+pub sets_of_all-requires : goal.sets_of_all-requires
+sets_of_all-requires c = subst (AreReachedOf c.args.count) (sym c.items-3.ensures) c.atoms.invariant.counted
 
 pub returns-clause-tell : goal.returns-clause-tell
 returns-clause-tell c =
-    told c.args.entries.now c.args.head.now c.args.body.now c.args.targets.now c.requires.heads c.args.count c.requires.counts
-    (empty_way c.args.count) refl refl refl (λ number has. Has-replicate c.args.count number has) c.in_ok-ways.ways c.items.result.now [] refl
-    c.in_ok-ways.ensures.rows c.items.ensures c.in_ok-ways.ensures.counted c.requires.joined c.new-found.result.sets c.visit_all.new.found.sets
-    c.new-found.ensures.empty c.in_ok-visit_all.ensures.visited
+    led_all c.args.entries.now c.args.head.now c.args.body.now c.args.targets.now c.atoms.place c.atoms.from c.atoms.ones c.items-3.result.now
+    c.in_ok-found.found.sets c.atoms-test.false c.items-3.ensures c.atoms.invariant.led c.in_ok-found.ensures.exact

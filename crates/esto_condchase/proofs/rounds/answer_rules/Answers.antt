@@ -4,8 +4,8 @@ use Rattle.esto_term.proofs.PlaceLemmas.{item_at}
 use Rattle.esto_condchase.proofs.RoundLemmas.{rule_at, rules_turn, rules_all}
 use Rattle.esto_condchase.proofs.rounds.answer_rules.Goals as goal
 
-pub answer_anew-requires-clause-before : goal.answer_anew-requires-clause-before
-answer_anew-requires-clause-before c =
+pub answer_rule-requires-clause-before : goal.answer_rule-requires-clause-before
+answer_rule-requires-clause-before c =
     let at = rule_at c.args.rules.now c.rules.number c.index-rules-number.result
     (item_at c.args.rules.now c.rules.number c.index-rules-number.result c.rules-test.true c.index-rules-number.is) in
     λ atoms chosen. c.requires.before atoms c.rules.number (rule_of c.index-rules-number.result) at chosen
@@ -14,9 +14,9 @@ pub rules-preserved : goal.rules-preserved
 rules-preserved c =
     let at = rule_at c.args.rules.now c.rules.number c.index-rules-number.result
     (item_at c.args.rules.now c.rules.number c.index-rules-number.result c.rules-test.true c.index-rules-number.is) in
-    let turn = rules_turn (rules_of c.args.rules.now) c.args.count c.args.entries.now c.rules.more c.answer_anew.new.more c.rules.number
+    let turn = rules_turn (rules_of c.args.rules.now) c.args.count c.args.entries.now c.rules.more c.answer_rule.new.more c.rules.number
     (rule_of c.index-rules-number.result) at
-    c.rules.invariant.grows c.rules.invariant.answered c.in_ok-answer_anew.ensures.grows c.in_ok-answer_anew.ensures.answered in
+    c.rules.invariant.grows c.rules.invariant.answered c.in_ok-answer_rule.ensures.grows c.in_ok-answer_rule.ensures.answered in
     record { grows = turn.0; answered = turn.1 }
 
 pub returns-clause-answered : goal.returns-clause-answered

@@ -1,4 +1,4 @@
-use Rattle.std.proofs.Common.{sym, subst}
+use Rattle.std.proofs.Common.{inl, refl, sym, subst}
 use Rattle.std.specs.Prelude.{OnOk}
 use Rattle.esto_world_laws.specs.Worlds.{AreOfCount}
 use Rattle.esto_world_laws.specs.declared.entry.Reason.TheVariants.{Step}
@@ -18,3 +18,6 @@ returns c =
     c.in_ok-product.ensures.1
     (subst (λ it. OnOk c.add.result (IsAdded c.args.entries.now c.args.more.now c.args.claim it (Step c.args.number c.in_ok-product.places) c.add.new.more))
     c.in_ok-product.ensures.0 c.add.ensures)
+
+pub returns-then-is_covered : goal.returns-then-is_covered
+returns-then-is_covered c = inl (c.is_covered.ensures.0 c.if-is_covered.true, refl)

@@ -1,11 +1,11 @@
-use Rattle.std.proofs.Common.{◌≡◌, take}
+use Rattle.std.proofs.Common.{◌≡◌, ◌++◌, take, drop}
 use Rattle.esto_semantics.specs.Facts.{terms_of}
 use Rattle.esto_condchase.specs.Ways.{AreCounted, AreFound}
 use Rattle.esto_condchase.proofs.ways.matches_of.Given as goal
 
 abbrev pub invariant-atoms : goal.invariant-atoms
 invariant-atoms l = record {
-  found : AreFound l.entries (take l.atom-index l.body) l.ways;
-  from_is : l.from ≡ terms_of (take l.atom-index l.body);
+  found : AreFound l.entries (take l.place l.body) (terms_of (drop l.place l.body) ++ l.asked) l.ways;
+  from_is : l.from ≡ terms_of (take l.place l.body);
   counted : AreCounted l.count l.ways;
 }

@@ -1,4 +1,4 @@
-use Rattle.std.proofs.Common.{◌∙◌, sym}
+use Rattle.std.proofs.Common.{sym, ◌∙◌}
 use Rattle.esto_condchase.proofs.ways.ways_through.Goals as goal
 
 pub through_fact-requires-clause-rows : goal.through_fact-requires-clause-rows

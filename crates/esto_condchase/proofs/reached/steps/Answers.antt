@@ -1,0 +1,28 @@
+use Rattle.std.proofs.Common.{List, Bool}
+use Rattle.esto_term.proofs.ListLemmas.{Contains-read}
+use Rattle.esto_condchase.proofs.SumLemmas.{gathers_more, gathers_all}
+use Rattle.esto_term.specs.declared.term.Term.{Term}
+use Rattle.esto_condchase.specs.declared.reached.Reached.{Reached}
+use Rattle.esto_condchase.specs.Products.{Reach, StepsFrom}
+use Rattle.esto_condchase.proofs.KnownLemmas.{reach_append, reached_append, step_after}
+use Rattle.esto_condchase.proofs.reached.steps.Goals as goal
+
+pub steps_from-requires-clause-one : goal.steps_from-requires-clause-one
+steps_from-requires-clause-one c =
+    c.requires.ones c.one-item.result (Contains-read c.args.ones.now c.ones.one-index c.one-item.result c.ones-test.true c.one-item.is)
+
+pub ones-preserved : goal.ones-preserved
+ones-preserved c = record {
+  counted = reached_append c.args.count c.ones.later c.in_ok-steps_from.field-0 c.append.new.self c.in_ok-append.ensures.ok c.ones.invariant.counted
+      c.in_ok-steps_from.ensures.counted;
+  gathers = gathers_more (λ (key : List Term × List Bool) (one : Reached). StepsFrom c.args.knowns.now c.args.from.now c.args.these.now c.args.atom.now one key.0
+      key.1) c.args.ones.now c.ones.one-index c.one-item.result (λ key. Reach c.ones.later key.0 key.1) (λ key. Reach c.append.new.self key.0 key.1)
+      c.ones-test.true c.one-item.is c.ones.invariant.gathers
+      (λ key. step_after (reach_append c.ones.later c.in_ok-steps_from.field-0 c.append.new.self c.in_ok-append.ensures.ok key.0 key.1)
+      (c.in_ok-steps_from.ensures.reach key.0 key.1));
+}
+
+pub returns-clause-reach : goal.returns-clause-reach
+returns-clause-reach c to set =
+    gathers_all (λ (key : List Term × List Bool) (one : Reached). StepsFrom c.args.knowns.now c.args.from.now c.args.these.now c.args.atom.now one key.0 key.1)
+    c.args.ones.now c.ones.one-index (λ key. Reach c.ones.later key.0 key.1) c.ones-test.false c.ones.invariant.gathers (to, set)

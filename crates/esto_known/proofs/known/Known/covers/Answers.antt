@@ -1,0 +1,34 @@
+use Rattle.std.proofs.Common.{◌≡◌, ◌+◌, ◌-◌, ap, sym, subst, ◌∙◌, refl, arith, length}
+use Rattle.std.specs.Prelude.{slice_index_or}
+use Rattle.std.proofs.lemmas.Bool.{false≢true}
+use Rattle.esto_columns.specs.Indexed.{bucket_of}
+use Rattle.esto_known.specs.Hashes.{claim_key}
+use Rattle.esto_known.specs.Indexes.{Indexes}
+use Rattle.esto_known.proofs.IndexLemmas.{seek_start, seek_more, covered_at, none_left}
+use Rattle.esto_known.proofs.known.Known.covers.Goals as goal
+
+pub places-init : goal.places-init
+places-init c its =
+    seek_start c.self.inside.claims its.listed (claim_key c.args.claim.now) _ c.last_of-next.result its.is
+    (c.last_of-next.ensures ∙ ap (λ key. slice_index_or c.self.inside.claims.last (bucket_of (length c.self.inside.claims.last) key) 0) c.claim_key.ensures)
+
+pub returns-then-covers_at : goal.returns-then-covers_at
+returns-then-covers_at c = (
+  (λ _. covered_at c.args.self.now c.args.claim.now c.args.product.now _ (c.covers_at.ensures.0 c.if-covers_at.true)),
+  (λ _. refl),
+)
+
+pub places-preserved : goal.places-preserved
+places-preserved c its =
+    let some = c.places-test.true in
+    let is : c.places.next - 1 + 1 ≡ c.places.next = omega (arith, some) in
+    seek_more c.self.inside.claims its.listed (claim_key c.args.claim.now) _ c.places.next (c.places.next - 1) c.before-next.result its.is
+    (c.places.invariant its) is (λ covers. false≢true (sym c.if-covers_at.false ∙ c.covers_at.ensures.1 covers)) c.before-next.ensures.value
+
+pub returns : goal.returns
+returns c =
+    let its = subst (λ them. Indexes claim_key them c.self.inside.whole c.self.inside.claims) c.self.view_is c.self.invariant.0 in (
+      (λ wrong. absurd (false≢true wrong)),
+      (λ covers. absurd (none_left c.args.self.now c.args.claim.now c.args.product.now c.self.inside.claims c.self.inside.whole its c.places.next
+          (c.places.invariant its) c.places-test.false covers)),
+    )
