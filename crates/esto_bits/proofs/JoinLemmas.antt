@@ -1,15 +1,16 @@
 -- What is kept after several sets, and what it covers.
 use Rattle.std.proofs.Common.{◌≡◌, ◌↔◌, ◌⊎◌, ℕ, ◌+◌, ◌<◌, Bool, List, [], ◌∷◌, ◌++◌, length, map, take, get_or, slice_get, Some, IfSome, Contains, refl, sym}
-use Rattle.std.proofs.Common.{ap, ◌∙◌, subst, inl, inr, append_assoc, append-nil}
-use Rattle.std.proofs.lemmas.List.{map-append}
+use Rattle.std.proofs.Common.{ap, ◌∙◌, subst, inl, inr, arith, append_assoc, append-nil}
+use Rattle.std.proofs.lemmas.List.{get_or_append_left, get_or_at, length-append, map-append, nil_from_length}
 use Rattle.std.proofs.lemmas.Option.{slice_get-get_or}
 use Rattle.std.proofs.lemmas.List.Elements.{Contains-append_left, Contains-append_right, Contains-append_cases}
 use Rattle.esto_term.proofs.ListLemmas.{Contains-cases, Contains-head, Contains-map, Contains-map_from, Contains-nil, Contains-rest}
 use Rattle.esto_term.proofs.PlaceLemmas.{take-there}
 use Rattle.esto_semantics.specs.Sets.{Within, Covers, united}
 use Rattle.esto_semantics.proofs.SetLemmas.{has_united, within_refl}
-use Rattle.esto_bits.specs.Kept.{with_set, with_sets, unions, CoversBoth, CoversEither}
-use Rattle.esto_bits.proofs.FamilyLemmas.{covered-with_set}
+use Rattle.esto_bits.specs.Kept.{with_set, with_sets, unions, AddsOfBoth, CoverAlikeBeside, CoversAlso, CoversAlsoBeside, CoversBoth, CoversEither, IsAntichain}
+use Rattle.esto_bits.proofs.FamilyLemmas.{covered-with_set, with_set-uncovered}
+use Rattle.esto_bits.proofs.PackedLemmas.{none_left_out}
 
 -- ---- what a family covers
 
@@ -128,3 +129,134 @@ covers-joined one other set =
       λ h. elim (kept.0 h) [ inl none ↦ absurd (covers_none set none) | inr there ↦ both.0 there ],
       λ h. kept.1 (inr (both.1 h)),
     )
+
+-- ---- an antichain is kept as it is
+
+module _ (front rest : List (List Bool)) (row : List Bool) (antichain : IsAntichain (front ++ row ∷ rest)) where
+  apart : (low : List Bool) → Contains front low → (¬ (Within low row)) × (¬ (Within row low))
+  apart low (place, below, is) =
+      let inside : length front < length (front ++ row ∷ rest) = omega (arith, length-append front (row ∷ rest)) in
+      let low_at : get_or (front ++ row ∷ rest) place low ≡ low = get_or_append_left front (row ∷ rest) low place below ∙ is in
+      let row_at : get_or (front ++ row ∷ rest) (length front) low ≡ row = get_or_at front row rest low (length front) refl in
+      let both = antichain place (length front) low below inside in (
+        λ within. both.0 (subst (λ it. Within it (get_or (front ++ row ∷ rest) (length front) low)) (sym low_at) (subst (Within low) (sym row_at) within)),
+        λ within. both.1 (subst (Within (get_or (front ++ row ∷ rest) (length front) low)) (sym low_at) (subst (λ it. Within it low) (sym row_at) within)),
+      )
+
+  put_last : with_set front row ≡ front ++ row ∷ []
+  put_last =
+      sym (with_set-uncovered front row (λ (low, inside, within). (apart low inside).0 within))
+      ∙ ap (λ them. them ++ row ∷ []) (none_left_out front row (λ (low, inside, within). (apart low inside).1 within))
+
+with_sets-behind : (front rest : List (List Bool)) → IsAntichain (front ++ rest) → with_sets front rest ≡ front ++ rest
+with_sets-behind front [] antichain = sym (append-nil front)
+with_sets-behind front (row ∷ rest) antichain =
+    ap (λ them. with_sets them rest) (put_last front rest row antichain)
+    ∙ with_sets-behind (front ++ row ∷ []) rest (subst IsAntichain (sym (append_assoc front (row ∷ []) rest)) antichain)
+    ∙ append_assoc front (row ∷ []) rest
+
+pub with_sets-antichain : (none sets : List (List Bool)) → length none ≡ 0 → IsAntichain sets → sets ≡ with_sets none sets
+with_sets-antichain none sets empty antichain =
+    sym (with_sets-behind [] sets antichain) ∙ ap (λ start. with_sets start sets) (sym (nil_from_length none empty))
+
+-- ---- unions of two families, where some sets go on alone
+
+cover_up : (sets : List (List Bool)) (set own : List Bool) → Covers sets set → Within set own → Covers sets own
+cover_up sets set own (low, inside, within) up = (low, inside, λ number has. up number (within number has))
+
+-- a set that covers one of the others
+pub alone : (earlier sets others later : List (List Bool)) (row : List Bool) → Contains sets row → Covers others row → CoversAlso earlier row later
+    → AddsOfBoth earlier sets others later
+alone earlier sets others later row inside covered also set = (
+  λ before. (also set).1 (inl before),
+  λ covers. elim ((also set).0 covers) [ inl before ↦ inl before | inr within ↦ inr ((row, inside, within), cover_up others row set covered within) ],
+)
+
+pub adds_none : (sets others earlier : List (List Bool)) → AddsOfBoth earlier sets others earlier
+adds_none sets others earlier set = (λ before. before, λ covers. inl covers)
+
+pub adds_then : (sets others first second third : List (List Bool)) → AddsOfBoth first sets others second → AddsOfBoth second sets others third
+    → AddsOfBoth first sets others third
+adds_then sets others first second third one other set = (
+  λ before. (other set).0 ((one set).0 before),
+  λ covers. elim ((other set).1 covers) [ inl middle ↦ (one set).1 middle | inr both ↦ inr both ],
+)
+
+pub adds_turned : (sets others first second : List (List Bool)) → AddsOfBoth first others sets second → AddsOfBoth first sets others second
+adds_turned sets others first second adds set = (
+  (adds set).0,
+  λ covers. elim ((adds set).1 covers) [ inl before ↦ inl before | inr both ↦ inr (both.1, both.0) ],
+)
+
+-- sets that are left
+pub left_out : (others earlier : List (List Bool)) (row : List Bool) → Covers others row → CoversAlsoBeside others earlier row earlier
+left_out others earlier row covered set = (
+  λ which. elim which [ inl before ↦ inl (inl before) | inr its ↦ inr its ],
+  λ which. elim which [
+    | inl either ↦ elim either [ inl before ↦ inl before | inr within ↦ inr (cover_up others row set covered within) ]
+    | inr its ↦ inr its
+  ],
+)
+
+pub left_in : (others earlier later : List (List Bool)) (row : List Bool) → CoversAlso earlier row later → CoversAlsoBeside others earlier row later
+left_in others earlier later row also set = (
+  λ which. elim which [ inl covers ↦ inl ((also set).0 covers) | inr its ↦ inr its ],
+  λ which. elim which [ inl either ↦ inl ((also set).1 either) | inr its ↦ inr its ],
+)
+
+-- the sets so far, beside what the others cover
+abbrev pub LeftSoFar : List (List Bool) → List (List Bool) → ℕ → List (List Bool) → Type 0
+LeftSoFar others sets at left = CoverAlikeBeside others (take at sets) left
+
+pub left_none : (others sets left : List (List Bool)) → left ≡ [] → LeftSoFar others sets 0 left
+left_none others sets left none set = rw none (λ which. which, λ which. which)
+
+pub left_turn : (others sets left later : List (List Bool)) (at : ℕ) → LeftSoFar others sets at left
+    → (row : List Bool) × (slice_get sets at ≡ Some row) × CoversAlsoBeside others left row later → LeftSoFar others sets (at + 1) later
+left_turn others sets left later at so_far (row, there, also) set = rw (take-there sets at row there) (
+  λ which. (also set).1 (elim which [
+    | inl covers ↦ elim ((covers_append (take at sets) (row ∷ []) set).0 covers) [
+      | inl before ↦ elim ((so_far set).0 (inl before)) [ inl kept ↦ inl (inl kept) | inr its ↦ inr its ]
+      | inr last ↦ elim ((covers_cons row [] set).0 last) [ inl within ↦ inl (inr within) | inr none ↦ absurd (covers_none set none) ]
+    ]
+    | inr its ↦ inr its
+  ]),
+  λ which. elim ((also set).0 which) [
+    | inl either ↦ elim either [
+      | inl kept ↦ elim ((so_far set).1 (inl kept)) [ inl before ↦ inl ((covers_append (take at sets) (row ∷ []) set).1 (inl before)) | inr its ↦ inr its ]
+      | inr within ↦ inl ((covers_append (take at sets) (row ∷ []) set).1 (inr ((covers_cons row [] set).1 (inl within))))
+    ]
+    | inr its ↦ inr its
+  ],
+)
+
+-- the unions of what is left are enough
+pub rest_enough : (sets others earlier ones rest later : List (List Bool)) → CoverAlikeBeside earlier sets ones → CoverAlikeBeside earlier others rest
+    → later ≡ with_sets earlier (unions ones rest)
+    → (set : List Bool) → Covers later set ↔ (Covers earlier set ⊎ (Covers sets set × Covers others set))
+rest_enough sets others earlier ones rest later left left' is set =
+    let kept = covers-with_sets earlier (unions ones rest) set in
+    let both = covers_unions ones rest set in rw is (
+      λ covers. elim (kept.0 covers) [
+        | inl before ↦ inl before
+        | inr new ↦ elim ((left set).1 (inl (both.0 new).0)) [
+          | inl one ↦ elim ((left' set).1 (inl (both.0 new).1)) [ inl other ↦ inr (one, other) | inr before ↦ inl before ]
+          | inr before ↦ inl before
+        ]
+      ],
+      λ which. kept.1 (elim which [
+        | inl before ↦ inl before
+        | inr (one, other) ↦ elim ((left set).0 (inl one)) [
+          | inl own ↦ elim ((left' set).0 (inl other)) [ inl its ↦ inr (both.1 (own, its)) | inr before ↦ inl before ]
+          | inr before ↦ inl before
+        ]
+      ]),
+    )
+
+pub adds_all : (sets others first second later : List (List Bool)) → AddsOfBoth first sets others second
+    → ((set : List Bool) → Covers later set ↔ (Covers second set ⊎ (Covers sets set × Covers others set)))
+    → (set : List Bool) → Covers later set ↔ (Covers first set ⊎ (Covers sets set × Covers others set))
+adds_all sets others first second later adds then set = (
+  λ covers. elim ((then set).0 covers) [ inl middle ↦ (adds set).1 middle | inr both ↦ inr both ],
+  λ which. (then set).1 (elim which [ inl before ↦ inl ((adds set).0 before) | inr both ↦ inr both ]),
+)

@@ -6,5 +6,6 @@ pub mod CountLemmas
 pub mod SortLemmas
 pub mod JoinLemmas
 pub mod LaneLemmas
+pub mod PageLemmas
 pub mod PackedLemmas
 pub mod ProductLemmas

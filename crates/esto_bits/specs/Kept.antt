@@ -42,6 +42,20 @@ CoversEither earlier others later = (set : List Bool) → Covers later set ↔ (
 abbrev pub CoversBoth : List (List Bool) → List (List Bool) → List (List Bool) → Type 0
 CoversBoth one other joined = (set : List Bool) → Covers joined set ↔ (Covers one set × Covers other set)
 
+-- The later family covers what the earlier one does, and else only what both others cover.
+abbrev pub AddsOfBoth : List (List Bool) → List (List Bool) → List (List Bool) → List (List Bool) → Type 0
+AddsOfBoth earlier sets others later =
+    (set : List Bool) → (Covers earlier set → Covers later set) × (Covers later set → Covers earlier set ⊎ (Covers sets set × Covers others set))
+
+-- The two families cover the same beside what the others cover.
+abbrev pub CoverAlikeBeside : List (List Bool) → List (List Bool) → List (List Bool) → Type 0
+CoverAlikeBeside others one other = (set : List Bool) → (Covers one set ⊎ Covers others set) ↔ (Covers other set ⊎ Covers others set)
+
+-- The later family covers just what the earlier one does, and what the set covers, beside what the others cover.
+abbrev pub CoversAlsoBeside : List (List Bool) → List (List Bool) → List Bool → List (List Bool) → Type 0
+CoversAlsoBeside others earlier row later =
+    (set : List Bool) → (Covers later set ⊎ Covers others set) ↔ ((Covers earlier set ⊎ Within row set) ⊎ Covers others set)
+
 -- Some set of the family is a superset of the set.
 abbrev pub HasSuperset : List (List Bool) → List Bool → Type 0
 HasSuperset family set = (other : List Bool) × Contains family other × Within set other

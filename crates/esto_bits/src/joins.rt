@@ -1,7 +1,7 @@
 //! Products put together.
-ghost use Rattle.std.specs.Prelude.{◌≡◌, ◌↔◌, [], ◌∷◌, List, Bool, length, map, IfOk, OnOk, OnErr};
+ghost use Rattle.std.specs.Prelude.{◌≡◌, ◌↔◌, ◌⊎◌, ◌<◌, [], ◌∷◌, List, Bool, Some, length, map, slice_get, IfOk, OnOk, OnErr};
 ghost use Rattle.esto_semantics.specs.Sets.{Covers, Within, united};
-ghost use Rattle.esto_bits.specs.Kept.{kept, with_sets, unions, CoversBoth, CoversEither, HasFirst};
+ghost use Rattle.esto_bits.specs.Kept.{kept, with_sets, unions, AddsOfBoth, CoverAlikeBeside, CoversAlsoBeside, CoversBoth, CoversEither, HasFirst};
 
 use crate::products::{Products, products_are_antichains};
 use crate::row_bits::RowBits;
@@ -30,6 +30,10 @@ impl Products {
         ensures err { OnErr result (HasFirst self.old.sets others.now.sets self.new.sets) }
     {
         products_are_antichains(others);
+        if self.is_empty() {
+            *self = others.copy(alloc)?;
+            return Ok(());
+        }
         'sets: for at in 0..others.len() {
             let set = others.copy_of(alloc, at)?;
             self.add(alloc, &set)?;
@@ -46,13 +50,30 @@ impl Products {
         ensures covers { IfOk result
             (λ it. CoversBoth self.now.sets others.now.sets it.sets) }
     {
-        products_are_antichains(self);
         let mut found = Products::new(alloc, self.count());
-        'sets: for at in 0..self.len() {
-            let set = self.copy_of(alloc, at)?;
-            found.add_united(alloc, &set, others)?;
-        }
+        found.add_unions(alloc, self, others)?;
         Ok(found)
+    }
+
+    /// Adds the unions of a set of the one family and one of the other, in every combination.
+    fn add_unions(
+        &mut self,
+        alloc: Global,
+        sets: &Products,
+        others: &Products,
+    ) -> Result<(), OutOfMemory>
+        requires sets { sets.now.count ≡ self.old.count }
+        requires others { others.now.count ≡ self.old.count }
+        ensures count { self.new.count ≡ self.old.count }
+        ensures ok { OnOk result
+            (self.new.sets ≡ with_sets self.old.sets (unions sets.now.sets others.now.sets)) }
+    {
+        products_are_antichains(sets);
+        'sets: for at in 0..sets.len() {
+            let set = sets.copy_of(alloc, at)?;
+            self.add_united(alloc, &set, others)?;
+        }
+        Ok(())
     }
 
     /// Adds the union of a set and each of the others.
@@ -74,6 +95,128 @@ impl Products {
             others.union_into(at, &mut row);
             self.add(alloc, &row)?;
         }
+        Ok(())
+    }
+
+    /// Adds the set at a place of the sets, if it covers one of the others.
+    fn add_covered_at(
+        &mut self,
+        alloc: Global,
+        sets: &Products,
+        at: usize,
+        others: &Products,
+    ) -> Result<(), OutOfMemory>
+        requires sets { sets.now.count ≡ self.old.count }
+        requires others { others.now.count ≡ self.old.count }
+        requires at { at < length sets.now.sets }
+        ensures count { self.new.count ≡ self.old.count }
+        ensures covers { OnOk result
+            (AddsOfBoth self.old.sets sets.now.sets others.now.sets self.new.sets) }
+    {
+        products_are_antichains(sets);
+        let set = sets.copy_of(alloc, at)?;
+        if !others.covered(&set) {
+            return Ok(());
+        }
+        self.add(alloc, &set)?;
+        Ok(())
+    }
+
+    /// Adds those of the sets that cover one of the others.
+    fn add_covered(
+        &mut self,
+        alloc: Global,
+        sets: &Products,
+        others: &Products,
+    ) -> Result<(), OutOfMemory>
+        requires sets { sets.now.count ≡ self.old.count }
+        requires others { others.now.count ≡ self.old.count }
+        ensures count { self.new.count ≡ self.old.count }
+        ensures covers { OnOk result
+            (AddsOfBoth self.old.sets sets.now.sets others.now.sets self.new.sets) }
+    {
+        'sets: for at in 0..sets.len() {
+            self.add_covered_at(alloc, sets, at, others)?;
+        }
+        Ok(())
+    }
+
+    /// Adds the set at a place of the sets, unless it covers one of the others.
+    fn add_uncovered_at(
+        &mut self,
+        alloc: Global,
+        sets: &Products,
+        at: usize,
+        others: &Products,
+    ) -> Result<(), OutOfMemory>
+        requires sets { sets.now.count ≡ self.old.count }
+        requires others { others.now.count ≡ self.old.count }
+        requires at { at < length sets.now.sets }
+        ensures count { self.new.count ≡ self.old.count }
+        ensures covers { OnOk result ((set : List Bool)
+            × (slice_get sets.now.sets at ≡ Some set)
+            × CoversAlsoBeside others.now.sets self.old.sets set self.new.sets) }
+    {
+        products_are_antichains(sets);
+        let set = sets.copy_of(alloc, at)?;
+        if others.covered(&set) {
+            return Ok(());
+        }
+        self.add(alloc, &set)?;
+        Ok(())
+    }
+
+    /// Those of the kept sets that cover none of the others.
+    fn left_by(&self, alloc: Global, others: &Products) -> Result<Products, OutOfMemory>
+        requires { others.now.count ≡ self.now.count }
+        ensures count { IfOk result (λ it. it.count ≡ self.now.count) }
+        ensures covers { IfOk result
+            (λ it. CoverAlikeBeside others.now.sets self.now.sets it.sets) }
+    {
+        let mut left = Products::new(alloc, self.count());
+        'sets: for at in 0..self.len() {
+            left.add_uncovered_at(alloc, self, at, others)?;
+        }
+        Ok(left)
+    }
+
+    /// Adds the unions of a set of the one family and one of the other that are covered by neither family alone.
+    fn add_rest(
+        &mut self,
+        alloc: Global,
+        sets: &Products,
+        others: &Products,
+    ) -> Result<(), OutOfMemory>
+        requires sets { sets.now.count ≡ self.old.count }
+        requires others { others.now.count ≡ self.old.count }
+        ensures count { self.new.count ≡ self.old.count }
+        ensures covers { OnOk result ((set : List Bool) → Covers self.new.sets set
+            ↔ (Covers self.old.sets set ⊎ (Covers sets.now.sets set × Covers others.now.sets set))) }
+    {
+        let ones = sets.left_by(alloc, self)?;
+        let rest = others.left_by(alloc, self)?;
+        self.add_unions(alloc, &ones, &rest)?;
+        Ok(())
+    }
+
+    /// Adds the unions of a set of the one family and one of the other, in every combination, as far as they are minimal. A
+    /// set of either that covers one of the other is added alone, and first, since its unions with the rest are no less: then
+    /// few sets are added that others take the place of.
+    pub fn add_both(
+        &mut self,
+        alloc: Global,
+        sets: &Products,
+        others: &Products,
+    ) -> Result<(), OutOfMemory>
+        requires sets { sets.now.count ≡ self.old.count }
+        requires others { others.now.count ≡ self.old.count }
+        ensures count { self.new.count ≡ self.old.count }
+        ensures covers { OnOk result ((set : List Bool) → Covers self.new.sets set
+            ↔ (Covers self.old.sets set ⊎ (Covers sets.now.sets set × Covers others.now.sets set))) }
+    {
+        self.add_covered(alloc, sets, others)?;
+        self.add_covered(alloc, others, sets)?;
+        self.add_rest(alloc, sets, others)?;
         Ok(())
     }
 }

@@ -5,6 +5,7 @@
 mod joins;
 pub mod lanes;
 mod packed;
+mod pages;
 mod products;
 mod row_bits;
 mod words;

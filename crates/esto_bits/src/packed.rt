@@ -1,45 +1,37 @@
 //! Sets of one count in one vector of words.
-ghost use Rattle.std.specs.Prelude.{◌≡◌, ◌↔◌, ◌<◌, ◌≤◌, ◌+◌, ◌*◌, ◌++◌, ◌∷◌, [], Some, filter, length, not, slice_get, slice_range, IsTrue, IfOk, IfSome, OnOk};
+ghost use Rattle.std.specs.Prelude.{◌≡◌, ◌↔◌, ◌<◌, ◌≤◌, ◌+◌, ◌*◌, ◌++◌, ◌∷◌, [], Some, filter, length, not, slice_get, IsTrue, IfOk, IfSome, OnOk};
 ghost use Rattle.std.specs.Prelude.{OnErr};
 ghost use Rattle.esto_semantics.specs.Sets.{Covers};
 ghost use Rattle.esto_bits.specs.Kept.{HasSuperset, in_place_of_supersets, is_within, kept, unless_superset};
 ghost use Rattle.esto_bits.specs.Words.{AreWordsBelow, set_of};
 
-use crate::lanes::{any_around, any_within, row_within};
-use crate::words::words_for;
+use crate::lanes::row_within;
+use crate::pages::{Page, any_around_by, any_within_by, note_page};
+use crate::words::{part, words_for};
 use esto_term::{OutOfMemory, Replicate};
 use std::alloc::Global;
 use std::marker::Model;
 
 /// Sets of numbers below one count, in the order in which they came, in one vector of words: each set has equally many of
-/// them, and at least one. Contracts see the count and the list of the sets.
+/// them, and at least one. Whole pages of them are noted beside. Contracts see the count and the list of the sets.
 #[derive(Drop)]
 pub struct PackedSets {
     count: usize,
     many: usize,
     words: Vec<u64>,
+    pages: Vec<Page>,
 }
 
 impl Model for PackedSets {
     ghost use Rattle.esto_bits.specs.Kept.{Kept, kept};
-    ghost use Rattle.esto_bits.specs.Words.{sets_of, ArePacked};
+    ghost use Rattle.esto_bits.specs.Pages.{ArePaged};
+    ghost use Rattle.esto_bits.specs.Words.{sets_of};
 
     ghost Value = { Kept };
 
     ghost view = { λ it. kept it.count (sets_of it.words.items it.count it.many) };
 
-    ghost invariant = { λ it. ArePacked it.words.items it.count it.many };
-}
-
-/// So many words, from a multiple of their number on.
-fn part(words: &[u64], at: usize, width: usize) -> &[u64]
-    requires { at * width + width ≤ length words.now }
-    ensures { result.now ≡ slice_range words.now (at * width) (at * width + width) }
-{
-    // the length is read so that it is known to fit
-    let _length = words.len();
-    let from = at * width;
-    &words[from..from + width]
+    ghost invariant = { λ it. ArePaged it.words.items it.count it.many it.pages.items };
 }
 
 impl PackedSets {
@@ -51,6 +43,7 @@ impl PackedSets {
             count,
             many: 0,
             words: Vec::new(alloc),
+            pages: Vec::new(alloc),
         }
     }
 
@@ -82,7 +75,12 @@ impl PackedSets {
         requires { AreWordsBelow row.now self.now.count }
         ensures { IsTrue result ↔ Covers self.now.sets (set_of row.now self.now.count) }
     {
-        any_within(self.words.as_slice(), words_for(self.count), row)
+        any_within_by(
+            self.words.as_slice(),
+            words_for(self.count),
+            self.pages.as_slice(),
+            row,
+        )
     }
 
     /// Whether some set is a superset of the one that the words keep.
@@ -90,7 +88,12 @@ impl PackedSets {
         requires { AreWordsBelow row.now self.now.count }
         ensures { IsTrue result ↔ HasSuperset self.now.sets (set_of row.now self.now.count) }
     {
-        any_around(self.words.as_slice(), words_for(self.count), row)
+        any_around_by(
+            self.words.as_slice(),
+            words_for(self.count),
+            self.pages.as_slice(),
+            row,
+        )
     }
 
     /// Puts the set that the words keep at the end.
@@ -103,6 +106,12 @@ impl PackedSets {
         match self.words.extend_from_slice(row) {
             Ok(()) => {
                 self.many += 1;
+                note_page(
+                    self.words.as_slice(),
+                    words_for(self.count),
+                    self.many,
+                    &mut self.pages,
+                );
                 Ok(())
             }
             Err(_) => Err(OutOfMemory),
@@ -162,13 +171,25 @@ impl PackedSets {
     }
 }
 
+/// A copy of the pages.
+fn copied(alloc: Global, pages: &[Page]) -> Result<Vec<Page>, OutOfMemory>
+    ensures { IfOk result (λ it. it.items ≡ pages.now) }
+{
+    match Vec::from_slice(alloc, pages) {
+        Ok(own) => Ok(own),
+        Err(_) => Err(OutOfMemory),
+    }
+}
+
 impl Replicate for PackedSets {
     fn copy(&self, alloc: Global) -> Result<PackedSets, OutOfMemory> {
+        let pages = copied(alloc, self.pages.as_slice())?;
         match Vec::from_slice(alloc, self.words.as_slice()) {
             Ok(words) => Ok(PackedSets {
                 count: self.count,
                 many: self.many,
                 words,
+                pages,
             }),
             Err(_) => Err(OutOfMemory),
         }

@@ -1,5 +1,5 @@
 //! Plain loops over 64-bit words.
-ghost use Rattle.std.specs.Prelude.{ℕ, ◌≡◌, ◌<◌, ◌^◌, count_ones, length, min, slice_index_or, sum_by};
+ghost use Rattle.std.specs.Prelude.{ℕ, ◌≡◌, ◌<◌, ◌≤◌, ◌+◌, ◌*◌, ◌^◌, count_ones, length, min, slice_index_or, slice_range, sum_by};
 ghost use Rattle.esto_bits.specs.Words.{HaveBitsOf, words_for};
 
 /// How many words a set of numbers below the count has: at least one.
@@ -30,4 +30,15 @@ pub fn bits_in(words: &[u64]) -> usize
         bits = bits.saturating_add(word.count_ones() as usize);
     }
     bits
+}
+
+/// So many words, from a multiple of their number on.
+pub fn part(words: &[u64], at: usize, width: usize) -> &[u64]
+    requires { at * width + width ≤ length words.now }
+    ensures { result.now ≡ slice_range words.now (at * width) (at * width + width) }
+{
+    // the length is read so that it is known to fit
+    let _length = words.len();
+    let from = at * width;
+    &words[from..from + width]
 }

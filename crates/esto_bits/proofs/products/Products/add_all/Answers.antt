@@ -2,8 +2,8 @@ use Rattle.std.proofs.Common.{◌≡◌, ◌∙◌, ap, arith, length, subst, sy
 use Rattle.std.proofs.lemmas.List.{take_all}
 use Rattle.std.proofs.lemmas.List.Elements.{All-contains}
 use Rattle.esto_term.proofs.ListLemmas.{Contains-at}
-use Rattle.esto_bits.specs.Kept.{CoversEither, with_sets}
-use Rattle.esto_bits.proofs.JoinLemmas.{added_next, covers-with_sets}
+use Rattle.esto_bits.specs.Kept.{CoversEither, Kept, with_sets}
+use Rattle.esto_bits.proofs.JoinLemmas.{added_next, covers-with_sets, with_sets-antichain}
 use Rattle.esto_bits.proofs.products.Products.add_all.Goals as goal
 
 pub add-requires : goal.add-requires
@@ -28,3 +28,13 @@ returns-clause-ok c =
 pub returns-clause-covers : goal.returns-clause-covers
 returns-clause-covers c =
     subst (CoversEither c.args.self.now.sets c.args.others.now.sets) (sym (returns-clause-ok c)) (covers-with_sets c.args.self.now.sets c.args.others.now.sets)
+
+pub returns-then-is_empty-clause-ok : goal.returns-then-is_empty-clause-ok
+returns-then-is_empty-clause-ok c =
+    ap (λ (it : Kept). it.sets) c.in_ok-self.ensures
+    ∙ with_sets-antichain c.args.self.now.sets c.args.others.now.sets (c.is_empty.ensures.0 c.if-is_empty.true) c.products_are_antichains.ensures.antichain
+
+pub returns-then-is_empty-clause-covers : goal.returns-then-is_empty-clause-covers
+returns-then-is_empty-clause-covers c =
+    subst (CoversEither c.args.self.now.sets c.args.others.now.sets) (sym (returns-then-is_empty-clause-ok c))
+    (covers-with_sets c.args.self.now.sets c.args.others.now.sets)

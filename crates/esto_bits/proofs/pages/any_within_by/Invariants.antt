@@ -1,0 +1,8 @@
+use Rattle.std.proofs.Common.{◌*◌}
+use Rattle.esto_bits.specs.Pages.{HasWithin}
+use Rattle.esto_bits.proofs.LaneLemmas.{NoGroupBelow}
+use Rattle.esto_bits.proofs.pages.any_within_by.Given as goal
+
+-- no group of the pages so far fits
+abbrev pub invariant-pages : goal.invariant-pages
+invariant-pages l = NoGroupBelow l.rows l.width (HasWithin l.row) (l.place * 64)

@@ -1,0 +1,13 @@
+use Rattle.std.proofs.Common.{refl}
+use Rattle.esto_bits.specs.Pages.{HasAround}
+use Rattle.esto_bits.proofs.PageLemmas.{page_says, page_whole}
+use Rattle.esto_bits.proofs.pages.page_has_around.Goals as goal
+
+pub any_around-requires-clause-whole : goal.any_around-requires-clause-whole
+any_around-requires-clause-whole c =
+    page_whole c.args.rows.now c.args.width c.requires.width (HasAround c.args.row.now) c.args.place _ c.part.result.now c.requires.room refl c.part.ensures
+
+pub returns : goal.returns
+returns c =
+    page_says c.args.rows.now c.args.width c.requires.width (HasAround c.args.row.now) c.args.place _ c.part.result.now c.requires.room refl c.part.ensures
+    c.any_around.result c.any_around.ensures.around
