@@ -1,11 +1,13 @@
 -- Turns of the loops that gather what is known and what is reached.
-use Rattle.std.proofs.Common.{◌≡◌, ◌≢◌, ◌⊎◌, ◌↔◌, ◌<◌, ◌≤◌, ◌+◌, inl, inr, ℕ, Bool, List, [], ◌∷◌, ◌++◌, length, map, take, get_or, slice_get, Some, Contains}
+use Rattle.std.proofs.Common.{◌≡◌, ◌≢◌, ◌⊎◌, ◌↔◌, ◌<◌, ◌≤◌, ◌+◌, inl, inr, ℕ, Bool, List, [], ◌∷◌, ◌++◌, length, map, set, take, get_or, slice_get, Some, Contains}
 use Rattle.std.proofs.Common.{refl, sym, ap, ◌∙◌, subst, arith}
 use Rattle.std.specs.List.{AllZip}
-use Rattle.std.proofs.lemmas.List.{nil_from_length, take_all}
+use Rattle.std.proofs.lemmas.Bool.{cases_lt}
+use Rattle.std.proofs.lemmas.List.{get_or-set_other, get_or-set_same, get_or_default, length-set, nil_from_length, take_all}
 use Rattle.std.proofs.lemmas.List.Elements.{All-contains, Contains-append_cases, Contains-append_left, Contains-append_right, Contains-push, Contains-push_cases}
 use Rattle.esto_term.specs.declared.term.Term.{Term}
-use Rattle.esto_term.proofs.ListLemmas.{Contains-nil, Contains-at, Contains-head, Contains-one}
+use Rattle.esto_term.proofs.ListLemmas.{Contains-nil, Contains-head, Contains-one}
+use Rattle.std.proofs.lemmas.Option.{same_Some}
 use Rattle.esto_term.proofs.PlaceLemmas.{take-item}
 use Rattle.esto_term.proofs.ZipLemmas.{zip_append, zip_split}
 use Rattle.esto_semantics.specs.Sets.{Within, Covers}
@@ -17,7 +19,7 @@ use Rattle.esto_world_laws.specs.declared.entry.Claim.{Claim}
 use Rattle.esto_world_laws.specs.declared.entry.Claim.TheVariants.{Fact as Stated, Same}
 use Rattle.esto_world_laws.specs.declared.entry.Entry.{Entry}
 use Rattle.esto_condchase.specs.Products.{IsKnownBy, IsKnownThen, AreKnown, AreKnownOf, AreLinked, AreTouching, Reach, AreReachedOf, StepsBy, StepsWith}
-use Rattle.esto_condchase.specs.Products.{IsJoinedThen, IsFirst}
+use Rattle.esto_condchase.specs.Products.{IsFirst, IsReachedBy}
 use Rattle.esto_condchase.specs.declared.known.KnownBy.{KnownBy}
 use Rattle.esto_condchase.specs.declared.reached.Reached.{Reached}
 use Rattle.esto_condchase.proofs.WayLemmas.{same_take}
@@ -73,44 +75,17 @@ known_more entries entry count knowns later own is exact counted grown = rw grow
 
 -- ---- touching
 
-pub over_at : (count : ℕ) (sets : List (List Bool)) (at : ℕ) (set : List Bool) → AreOver count sets → slice_get sets at ≡ Some set → length set ≡ count
-over_at count sets at set over is = All-contains (λ it. length it ≡ count) sets set over (Contains-at sets at set is)
-
-cover_up : (sets : List (List Bool)) (set own : List Bool) → Covers sets set → Within set own → Covers sets own
-cover_up sets set own (low, inside, within) up = (low, inside, (λ number has. up number (within number has)))
-
-pub alone : (earlier later others : List (List Bool)) (set : List Bool) → Covers others set → CoversAlso earlier set later
-    → (own : List Bool) → Covers later own ↔ (Covers earlier own ⊎ (Within set own × Covers others own))
-alone earlier later others set covered also own = (
-  (λ covers. elim ((also own).0 covers) [ inl before ↦ inl before | inr within ↦ inr (within, cover_up others set own covered within) ]),
-  (λ which. (also own).1 (elim which [ inl before ↦ inl before | inr both ↦ inr both.0 ])),
-)
-
-pub united_with : (earlier later others one unions : List (List Bool)) (set : List Bool) → ((own : List Bool) → Covers one own ↔ Within set own)
-    → CoversBoth one others unions → CoversEither earlier unions later
-    → (own : List Bool) → Covers later own ↔ (Covers earlier own ⊎ (Within set own × Covers others own))
-united_with earlier later others one unions set only both either own = (
-  (λ covers. elim ((either own).0 covers) [
-    | inl before ↦ inl before
-    | inr its ↦ let parts = (both own).0 its in inr ((only own).0 parts.0, parts.1)
-  ]),
-  (λ which. (either own).1 (elim which [ inl before ↦ inl before | inr parts ↦ inr ((both own).1 ((only own).1 parts.0, parts.1)) ])),
-)
-
-pub both_all : (sets others found : List (List Bool))
-    → ((own : List Bool) → Covers found own ↔ ((set : List Bool) × Contains sets set × Within set own × Covers others own)) → CoversBoth sets others found
-both_all sets others found all own = (
-  (λ covers. let (set, inside, within, its) = (all own).0 covers in ((set, inside, within), its)),
-  (λ ((set, inside, within), its). (all own).1 (set, inside, within, its)),
-)
-
 none_covered : (sets : List (List Bool)) (set : List Bool) → length sets ≡ 0 → Covers sets set → ⊥
 none_covered sets set empty (low, inside, within) = Contains-nil low (subst (λ it. Contains it low) (nil_from_length sets empty) inside)
 
-pub both_none : (sets others found : List (List Bool)) → length others ≡ 0 → found ≡ [] → CoversBoth sets others found
-both_none sets others found empty none own = (
-  (λ covers. absurd (none_covered [] own refl (subst (λ it. Covers it own) none covers))),
-  (λ parts. absurd (none_covered others own empty parts.1)),
+pub both_from_none : (none sets others found : List (List Bool)) → none ≡ []
+    → ((set : List Bool) → Covers found set ↔ (Covers none set ⊎ (Covers sets set × Covers others set))) → CoversBoth sets others found
+both_from_none none sets others found empty all set = (
+  (λ covers. elim ((all set).0 covers) [
+    | inl before ↦ absurd (none_covered [] set refl (subst (λ it. Covers it set) empty before))
+    | inr both ↦ both
+  ]),
+  (λ both. (all set).1 (inr both)),
 )
 
 pub touch_nowhere : (knowns : List KnownBy) (sets : List (List Bool)) (term other : Term) → length sets ≡ 0
@@ -168,91 +143,148 @@ reach_more ones one to set = (
   ]),
 )
 
-pub reach_append : (ones more later : List Reached) → later ≡ ones ++ more → (to : List Term) (set : List Bool)
-    → Reach later to set ↔ (Reach ones to set ⊎ Reach more to set)
-reach_append ones more later grown to set = rw grown (
-  (λ (it, inside, is, covers). elim (Contains-append_cases ones more it inside) [
-    | inl earlier ↦ inl (it, earlier, is, covers)
-    | inr last ↦ inr (it, last, is, covers)
-  ]),
-  (λ which. elim which [
-    | inl (it, inside, is, covers) ↦ (it, Contains-append_left ones more it inside, is, covers)
-    | inr (it, inside, is, covers) ↦ (it, Contains-append_right ones more it inside, is, covers)
-  ]),
-)
+-- one is put in place of the one at a place
+module _ (ones : List Reached) (place : ℕ) (below : place < length ones) (one own : Reached) (is : get_or ones place one ≡ one) where
+  abbrev put : List Reached
+  put = set ones place own
 
-pub step_after : {Later Earlier More This : Type 0} → Later ↔ (Earlier ⊎ More) → More ↔ This → Later ↔ (Earlier ⊎ This)
-step_after one other = (
-  (λ later. elim (one.0 later) [ inl earlier ↦ inl earlier | inr more ↦ inr (other.0 more) ]),
-  (λ which. one.1 (elim which [ inl earlier ↦ inl earlier | inr this ↦ inr (other.1 this) ])),
-)
+  from_put : (it : Reached) → Contains put it → (it ≡ own) ⊎ Contains ones it
+  from_put it (at, within, read) = elim (cases_lt at place) [
+    | inl before ↦ inr (at, omega (arith, before, below), sym (get_or-set_other ones place at own it (λ same. omega (arith, before, same))) ∙ read)
+    | inr after ↦ elim (cases_lt place at) [
+      | inl behind ↦ inr (
+          at,
+          omega (arith, within, length-set ones place own),
+          sym (get_or-set_other ones place at own it (λ same. omega (arith, behind, same))) ∙ read,
+        )
+      | inr here ↦
+          let same : at ≡ place = omega (arith, after, here) in
+          inl (sym read ∙ ap (λ n. get_or put n it) same ∙ get_or-set_same ones place own it below)
+    ]
+  ]
 
-pub reached_append : (count : ℕ) (ones more later : List Reached) → later ≡ ones ++ more → AreReachedOf count ones → AreReachedOf count more
-    → AreReachedOf count later
-reached_append count ones more later grown one other = rw grown (λ it inside. elim (Contains-append_cases ones more it inside)
-    [ inl earlier ↦ one it earlier | inr last ↦ other it last ])
+  to_put : (it : Reached) → Contains ones it → (it ≡ one) ⊎ Contains put it
+  to_put it (at, within, read) = elim (cases_lt at place) [
+    | inl before ↦ inr (
+        at,
+        omega (arith, within, length-set ones place own),
+        get_or-set_other ones place at own it (λ same. omega (arith, before, same)) ∙ read,
+      )
+    | inr after ↦ elim (cases_lt place at) [
+      | inl behind ↦ inr (
+          at,
+          omega (arith, within, length-set ones place own),
+          get_or-set_other ones place at own it (λ same. omega (arith, behind, same)) ∙ read,
+        )
+      | inr here ↦
+          let same : at ≡ place = omega (arith, after, here) in
+          inl (sym read ∙ ap (λ n. get_or ones n it) same ∙ get_or_default ones place it one below ∙ is)
+    ]
+  ]
+
+  own_put : Contains put own
+  own_put = (place, omega (arith, below, length-set ones place own), get_or-set_same ones place own own below)
+
+  pub reach_at : (sets others : List (List Bool)) (later : List Reached) → later ≡ put → own.to ≡ one.to
+      → ((set : List Bool) → Covers own.by.sets set ↔ (Covers one.by.sets set ⊎ (Covers sets set × Covers others set)))
+      → (to : List Term) (set : List Bool) → Reach later to set ↔ (Reach ones to set ⊎ IsReachedBy one.to sets others to set)
+  reach_at sets others later grown same by to set = rw grown (
+    (λ (it, inside, to_is, covers). elim (from_put it inside) [
+      | inl its ↦
+          let own_to : own.to ≡ to = ap (λ (them : Reached). them.to) (sym its) ∙ to_is in
+          elim ((by set).0 (subst (λ (them : Reached). Covers them.by.sets set) its covers)) [
+            | inl before ↦ inl (one, (place, below, is), sym same ∙ own_to, before)
+            | inr both ↦ inr (sym same ∙ own_to, both.0, both.1)
+          ]
+      | inr there ↦ inl (it, there, to_is, covers)
+    ]),
+    (λ which. elim which [
+      | inl (it, inside, to_is, covers) ↦ elim (to_put it inside) [
+        | inl its ↦ (
+            own,
+            own_put,
+            same ∙ ap (λ (them : Reached). them.to) (sym its) ∙ to_is,
+            (by set).1 (inl (subst (λ (them : Reached). Covers them.by.sets set) its covers)),
+          )
+        | inr there ↦ (it, there, to_is, covers)
+      ]
+      | inr (to_is, covers, others_cover) ↦ (own, own_put, same ∙ to_is, (by set).1 (inr (covers, others_cover)))
+    ]),
+  )
+
+  pub reached_at : (count : ℕ) (later : List Reached) → later ≡ put → own.by.count ≡ count → AreReachedOf count ones → AreReachedOf count later
+  reached_at count later grown counted so_far = rw grown (λ it inside. elim (from_put it inside) [
+    | inl its ↦ subst (λ (them : Reached). them.by.count ≡ count) (sym its) counted
+    | inr there ↦ so_far it there
+  ])
+
+-- the one at the place has reached the terms
+pub reach_there : (ones later : List Reached) (place : ℕ) (to : List Term) (sets others : List (List Bool))
+    → (one : Reached) × (slice_get ones place ≡ Some one) × (one.to ≡ to)
+    → (one : Reached) × (slice_get ones place ≡ Some one)
+    × ((own : List Term) (set : List Bool) → Reach later own set ↔ (Reach ones own set ⊎ IsReachedBy one.to sets others own set))
+    → (own : List Term) (set : List Bool) → Reach later own set ↔ (Reach ones own set ⊎ IsReachedBy to sets others own set)
+reach_there ones later place to sets others (found, there, is) (one, read, adds) =
+    subst (λ it. (own : List Term) (set : List Bool) → Reach later own set ↔ (Reach ones own set ⊎ IsReachedBy it sets others own set))
+    (ap (λ (it : Reached). it.to) (same_Some one found (sym read ∙ there)) ∙ is) adds
+
+pub reach_new : (ones later : List Reached) (own : Reached) (sets others : List (List Bool)) → later ≡ ones ++ own ∷ [] → CoversBoth sets others own.by.sets
+    → (to : List Term) (set : List Bool) → Reach later to set ↔ (Reach ones to set ⊎ IsReachedBy own.to sets others to set)
+reach_new ones later own sets others grown both to set =
+    let more = reach_more ones own to set in rw grown (
+      (λ reach. elim (more.0 reach) [ inl before ↦ inl before | inr (is, covers) ↦ (let parts = (both set).0 covers in inr (is, parts.0, parts.1)) ]),
+      (λ which. more.1 (elim which [ inl before ↦ inl before | inr (is, covers, its) ↦ inr (is, (both set).1 (covers, its)) ])),
+    )
 
 module _ (knowns : List KnownBy) (from these : List Term) (atom : Fact Term) (one : Reached) (by : List (List Bool)) (fact : Fact Term)
-    (to to_items goals goal_items fact_items atom_items : List Term) (needs sets : List (List Bool)) (to_is : to ≡ one.to ++ fact.terms)
+    (to to_items goals goal_items fact_items atom_items : List Term) (needs : List (List Bool)) (to_is : to ≡ one.to ++ fact.terms)
     (to_same : to_items ≡ to) (fact_same : fact_items ≡ fact.terms) (goals_same : goal_items ≡ goals) (atom_same : atom_items ≡ atom.terms)
     (goals_are : goals ≡ map (taken from to_items) atom_items)
-    (touches : (set : List Bool) → Covers needs set ↔ (Covers by set × AllZip (AreTouching knowns set) fact_items goal_items))
-    (both : CoversBoth one.by.sets needs sets) (later : List Reached) where
+    (touches : (set : List Bool) → Covers needs set ↔ (Covers by set × AllZip (AreTouching knowns set) fact_items goal_items)) (later : List Reached) where
   abbrev Needs : List Bool → Type 0
-  Needs set = Covers one.by.sets set × Covers by set
-      × AllZip (AreTouching knowns set) fact.terms (map (taken from (one.to ++ fact.terms)) atom.terms)
+  Needs set = Covers by set × AllZip (AreTouching knowns set) fact.terms (map (taken from (one.to ++ fact.terms)) atom.terms)
 
   row_is : goal_items ≡ map (taken from (one.to ++ fact.terms)) atom.terms
   row_is = goals_same ∙ goals_are ∙ (λ i. map (taken from ((to_same ∙ to_is) i)) (atom_same i))
 
-  covers_needs : (set : List Bool) → Covers sets set ↔ Needs set
+  covers_needs : (set : List Bool) → Covers needs set ↔ Needs set
   covers_needs set = (
     (λ covers.
-        let parts = (both set).0 covers in
-        let own = (touches set).0 parts.1 in (
-          parts.0,
+        let own = (touches set).0 covers in (
           own.0,
           subst (λ it. AllZip (AreTouching knowns set) it (map (taken from (one.to ++ fact.terms)) atom.terms)) fact_same
               (subst (AllZip (AreTouching knowns set) fact_items) row_is own.1),
         )),
-    (λ (covers, covers_by, row). (both set).1 (
+    (λ (covers, row). (touches set).1 (
       covers,
-      (touches set).1 (
-        covers_by,
-        subst (AllZip (AreTouching knowns set) fact_items) (sym row_is)
-            (subst (λ it. AllZip (AreTouching knowns set) it (map (taken from (one.to ++ fact.terms)) atom.terms)) (sym fact_same) row),
-      ),
+      subst (AllZip (AreTouching knowns set) fact_items) (sym row_is)
+          (subst (λ it. AllZip (AreTouching knowns set) it (map (taken from (one.to ++ fact.terms)) atom.terms)) (sym fact_same) row),
     )),
   )
 
-  pub step_none : length sets ≡ 0 → (own : List Term) (set : List Bool)
+  pub step_none : length needs ≡ 0 → (own : List Term) (set : List Bool)
       → Reach later own set ↔ (Reach later own set ⊎ StepsBy knowns from these atom one by fact own set)
   step_none empty own set = (
     (λ reach. inl reach),
     (λ which. elim which [
       | inl reach ↦ reach
-      | inr (is, covers, covers_by, row) ↦
-          absurd (none_covered sets set empty ((covers_needs set).1 (covers, covers_by, row)))
+      | inr (is, covers, covers_by, row) ↦ absurd (none_covered needs set empty ((covers_needs set).1 (covers_by, row)))
     ]),
   )
 
-  pub step_more : (told told_items : List Term) (own_by : Kept) (after : List Reached) → told_items ≡ to → told ≡ map (taken from told_items) these
-      → own_by.sets ≡ sets → after ≡ later ++ (record { to = told; by = own_by }) ∷ [] → (own : List Term) (set : List Bool)
-      → Reach after own set ↔ (Reach later own set ⊎ StepsBy knowns from these atom one by fact own set)
-  step_more told told_items own_by after items_same told_is sets_same grown own set =
-      let told_all : told ≡ map (taken from (one.to ++ fact.terms)) these = told_is ∙ (λ i. map (taken from ((items_same ∙ to_is) i)) these) in
-      let more = reach_more later (record { to = told; by = own_by }) own set in (
-        (λ reach. elim (more.0 (subst (λ it. Reach it own set) grown reach)) [
+  pub step_more : (told told_items : List Term) (after : List Reached) → told_items ≡ to → told ≡ map (taken from told_items) these
+      → ((own : List Term) (set : List Bool) → Reach after own set ↔ (Reach later own set ⊎ IsReachedBy told one.by.sets needs own set))
+      → (own : List Term) (set : List Bool) → Reach after own set ↔ (Reach later own set ⊎ StepsBy knowns from these atom one by fact own set)
+  step_more told told_items after items_same told_is adds own set =
+      let told_all : told ≡ map (taken from (one.to ++ fact.terms)) these = told_is ∙ (λ i. map (taken from ((items_same ∙ to_is) i)) these) in (
+        (λ reach. elim ((adds own set).0 reach) [
           | inl earlier ↦ inl earlier
-          | inr (is, covers) ↦
-              let its = (covers_needs set).0 (subst (λ it. Covers it set) sets_same covers) in
-              inr (sym is ∙ told_all, its.0, its.1, its.2)
+          | inr (is, covers, its) ↦ (let (covers_by, row) = (covers_needs set).0 its in inr (sym is ∙ told_all, covers, covers_by, row))
         ]),
-        (λ which. subst (λ it. Reach it own set) (sym grown) (more.1 (elim which [
+        (λ which. (adds own set).1 (elim which [
           | inl earlier ↦ inl earlier
-          | inr (is, covers, covers_by, row) ↦
-              inr (told_all ∙ sym is, subst (λ it. Covers it set) (sym sets_same) ((covers_needs set).1 (covers, covers_by, row)))
-        ]))),
+          | inr (is, covers, covers_by, row) ↦ inr (told_all ∙ sym is, covers, (covers_needs set).1 (covers_by, row))
+        ])),
       )
 
 pub reached_more : (count : ℕ) (ones later : List Reached) (one : Reached) → later ≡ ones ++ one ∷ [] → one.by.count ≡ count → AreReachedOf count ones
@@ -278,58 +310,6 @@ module _ (knowns : List KnownBy) (from these : List Term) (atom : Fact Term) (on
           inr (subst (λ it. StepsBy knowns from these atom one known.by.sets it to set) same its)
     ])),
   )
-
--- ---- what is joined
-
-pub reach_then : (KnownBy : List Term → List Bool → Type 0) (later items joined : List Reached) → items ≡ later
-    → ((to : List Term) (set : List Bool) → Reach joined to set ↔ Reach items to set)
-    → ((to : List Term) (set : List Bool) → Reach later to set ↔ KnownBy to set) → (to : List Term) (set : List Bool) → Reach joined to set ↔ KnownBy to set
-reach_then KnownBy later items joined same joins reaches to set = (
-  (λ reach. (reaches to set).0 (subst (λ it. Reach it to set) same ((joins to set).0 reach))),
-  (λ known. (joins to set).1 (subst (λ it. Reach it to set) (sym same) ((reaches to set).1 known))),
-)
-
-pub record JoinedSoFar (ones : List Reached) (count place : ℕ) (joined : List Reached) : Type 0 where
-  pub exact : (it : Reached) → Contains joined it → ((set : List Bool) → Covers it.by.sets set ↔ Reach ones it.to set) × (it.by.count ≡ count)
-  pub there : (one : Reached) → Contains (take place ones) one → (it : Reached) × Contains joined it × (it.to ≡ one.to)
-
-pub joined_none : (ones : List Reached) (count : ℕ) (joined : List Reached) → joined ≡ [] → JoinedSoFar ones count 0 joined
-joined_none ones count joined none = rw none record {
-  exact = λ it inside. absurd (Contains-nil it inside);
-  there = λ one inside. absurd (Contains-nil one inside);
-}
-
-pub joined_turn : (ones : List Reached) (count place : ℕ) (one : Reached) (joined later : List Reached) → place < length ones → one ≡ get_or ones place one
-    → JoinedSoFar ones count place joined → IsJoinedThen ones one count joined later → JoinedSoFar ones count (place + 1) later
-joined_turn ones count place one joined later within is so_far then = record {
-  exact = λ it inside. elim (then.new it inside) [ inl earlier ↦ so_far.exact it earlier | inr new ↦ new ];
-  there = λ own inside. elim (Contains-push_cases (take place ones) one own (subst (λ it. Contains it own) (take-item ones place one within is) inside)) [
-    | inl earlier ↦ let it = so_far.there own earlier in (it.0, then.kept it.0 it.1, it.2)
-    | inr same ↦ subst (λ (its : Reached). (it : Reached) × Contains later it × (it.to ≡ its.to)) same then.there
-  ];
-}
-
-pub joined_all : (ones : List Reached) (count place : ℕ) (joined : List Reached) → length ones ≤ place → JoinedSoFar ones count place joined
-    → (to : List Term) (set : List Bool) → Reach joined to set ↔ Reach ones to set
-joined_all ones count place joined past so_far to set = (
-  (λ (it, inside, is, covers). subst (λ its. Reach ones its set) is (((so_far.exact it inside).0 set).0 covers)),
-  (λ (one, inside, is, covers).
-      let (it, in_joined, same) = so_far.there one (rw (take_all place ones past) inside) in
-      (it, in_joined, same ∙ is, ((so_far.exact it in_joined).0 set).1 (one, inside, sym same, covers))),
-)
-
-pub joined_more : (ones : List Reached) (one : Reached) (count : ℕ) (joined later : List Reached) (own : Reached) (to : List Term) → to ≡ one.to
-    → own.to ≡ one.to → ((set : List Bool) → Covers own.by.sets set ↔ Reach ones to set) → own.by.count ≡ count → later ≡ joined ++ own ∷ []
-    → IsJoinedThen ones one count joined later
-joined_more ones one count joined later own to to_is is exact counted grown = rw grown record {
-  kept = λ it its. Contains-append_left joined (own ∷ []) it its;
-  there = (own, Contains-push joined own, is);
-  new = λ it its. elim (Contains-push_cases joined own it its) [
-    | inl earlier ↦ inl earlier
-    | inr same ↦ inr (subst (λ (it : Reached). ((set : List Bool) → Covers it.by.sets set ↔ Reach ones it.to set) × (it.by.count ≡ count)) same
-        (subst (λ it. (set : List Bool) → Covers own.by.sets set ↔ Reach ones it set) (to_is ∙ sym is) exact, counted))
-  ];
-}
 
 -- ---- the begin
 

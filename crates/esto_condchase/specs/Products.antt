@@ -47,6 +47,10 @@ AreTouching knowns set term other = (term ≡ other) ⊎ AreLinked knowns set te
 abbrev pub Reach : List Reached → List Term → List Bool → Type 0
 Reach ones to set = (one : Reached) × Contains ones one × (one.to ≡ to) × Covers one.by.sets set
 
+-- These are the terms that are reached, in the worlds that both families cover.
+abbrev pub IsReachedBy : List Term → List (List Bool) → List (List Bool) → List Term → List Bool → Type 0
+IsReachedBy own sets others to set = (own ≡ to) × Covers sets set × Covers others set
+
 -- Their sets have the count.
 abbrev pub AreReachedOf : ℕ → List Reached → Type 0
 AreReachedOf count ones = (one : Reached) → Contains ones one → one.by.count ≡ count
@@ -70,13 +74,6 @@ StepsFrom knowns from these atom one to set = (known : KnownBy) × Contains know
 -- The same from any that were reached.
 abbrev pub Steps : List KnownBy → List Term → List Term → Fact Term → List Reached → List Term → List Bool → Type 0
 Steps knowns from these atom ones to set = (one : Reached) × Contains ones one × StepsFrom knowns from these atom one to set
-
--- What was joined stays; what one has reached is there; and what is new has all sets in whose worlds it is reached, of that count.
-pub record IsJoinedThen (ones : List Reached) (one : Reached) (count : ℕ) (joined later : List Reached) : Type 0 where
-  pub kept : (it : Reached) → Contains joined it → Contains later it
-  pub there : (it : Reached) × Contains later it × (it.to ≡ one.to)
-  pub new : (it : Reached) → Contains later it
-      → Contains joined it ⊎ (((set : List Bool) → Covers it.by.sets set ↔ Reach ones it.to set) × (it.by.count ≡ count))
 
 -- The targets are reached in the worlds in which they touch what the head meets first.
 abbrev pub IsFirst : List KnownBy → List Term → List Term → List Reached → Type 0

@@ -1,13 +1,13 @@
 //! In which worlds terms touch what they are to meet.
 ghost use Rattle.std.specs.Prelude.{◌≡◌, ◌↔◌, ◌⊎◌, List, Bool, length, Contains, IfOk, OnOk};
 ghost use Rattle.std.specs.List.{AllZip};
-ghost use Rattle.esto_semantics.specs.Sets.{Covers, Within};
+ghost use Rattle.esto_semantics.specs.Sets.{Covers};
 ghost use Rattle.esto_bits.specs.Kept.{CoversBoth};
 ghost use Rattle.esto_world_laws.specs.Worlds.{SaysOne};
 ghost use Rattle.esto_condchase.specs.Products.{AreKnownOf, AreLinked, AreTouching};
 
 use crate::known::KnownBy;
-use esto_bits::{Products, RowBits, products_are_antichains};
+use esto_bits::Products;
 use esto_term::{OutOfMemory, Replicate, Term};
 use std::alloc::Global;
 
@@ -52,30 +52,6 @@ fn links_of(
     Ok(sets)
 }
 
-/// Adds the unions of a set and each of the others. A set that covers one of the others goes on alone, since the unions with
-/// the rest are no less.
-fn add_unions(
-    alloc: Global,
-    set: &RowBits,
-    others: &Products,
-    sets: &mut Products,
-) -> Result<(), OutOfMemory>
-    requires set { length set.now ≡ sets.old.count }
-    requires others { others.now.count ≡ sets.old.count }
-    ensures count { OnOk result (sets.new.count ≡ sets.old.count) }
-    ensures covers { OnOk result ((own : List Bool) → Covers sets.new.sets own
-        ↔ (Covers sets.old.sets own ⊎ (Within set.now own × Covers others.now.sets own))) }
-{
-    if others.covered(set) {
-        sets.add(alloc, set)?;
-        return Ok(());
-    }
-    let one = Products::only(alloc, set)?;
-    let unions = one.joined(alloc, others)?;
-    sets.add_all(alloc, &unions)?;
-    Ok(())
-}
-
 /// The minimal unions of one of the sets and one of the others.
 pub fn both(alloc: Global, sets: &Products, others: &Products) -> Result<Products, OutOfMemory>
     requires { others.now.count ≡ sets.now.count }
@@ -83,14 +59,7 @@ pub fn both(alloc: Global, sets: &Products, others: &Products) -> Result<Product
     ensures covers { IfOk result (λ it. CoversBoth sets.now.sets others.now.sets it.sets) }
 {
     let mut found = Products::new(alloc, sets.count());
-    if others.is_empty() {
-        return Ok(found);
-    }
-    products_are_antichains(sets);
-    'sets: for at in 0..sets.len() {
-        let set = sets.copy_of(alloc, at)?;
-        add_unions(alloc, &set, others, &mut found)?;
-    }
+    found.add_both(alloc, sets, others)?;
     Ok(found)
 }
 
