@@ -1,14 +1,13 @@
 -- Pages: what is on them, and that a search by pages finds what a search through all sets does.
-use Rattle.std.proofs.Common.{◌≡◌, ◌↔◌, ℕ, ◌+◌, ◌-◌, ◌*◌, ◌%◌, ◌<◌, ◌≤◌, Bool, true, false, List, [], ◌∷◌, ◌++◌, length, get_or, take, drop, slice_range}
-use Rattle.std.proofs.Common.{IsTrue, bit_and, bit_or, refl, sym, ap, ◌∙◌, subst, inl, inr, arith}
+use Rattle.std.proofs.Common.{◌≡◌, ◌↔◌, ℕ, ◌+◌, ◌-◌, ◌*◌, ◌%◌, ◌<◌, ◌≤◌, Bool, List, [], ◌∷◌, ◌++◌, length, get_or, take, drop, slice_range}
+use Rattle.std.proofs.Common.{IsTrue, bit_and, bit_or, sym, ap, ◌∙◌, subst, inl, inr, arith}
 use lib.Bits.{and_comm, and_self, or_comm}
 use native.Mathlib.Nat.{add-mul-mod_self_right}
 use Rattle.std.proofs.Math.Nat.{mul-le-mul_right, mul-mod_left}
-use Rattle.std.proofs.lemmas.Bool.{cases_lt, false≢true}
+use Rattle.std.proofs.lemmas.Bool.{cases_lt}
 use Rattle.std.proofs.lemmas.List.{drop-drop, drop-take, get_or_append_left, get_or_push, get_or-drop, get_or-take, length-append, length-drop, length-take, take-take}
 use Rattle.std.proofs.lemmas.Nat.{and_assoc, and_or_self}
 use Rattle.esto_bits.specs.Pages.{ArePagesOf, HasAround, HasWithin, IsOnPage, IsPageOf, SomeOnPage}
-use Rattle.esto_bits.specs.Words.{LackNoBit, SomeAround, SomeWithin}
 use Rattle.esto_bits.specs.declared.pages.Page.{Page}
 use Rattle.esto_bits.proofs.LaneLemmas.{NoGroupBelow, SomeGroup}
 
@@ -93,7 +92,7 @@ module _ (rows : List ℕ) (width : ℕ) (some : 1 ≤ width) (P : List ℕ → 
     some_in_part holds start =
         let found = says.0 holds in
         let within : (base + found.0) * width + width ≤ to =
-            omega (arith, found.1, length-part rows (base * width) to room, start) in
+        omega (arith, found.1, length-part rows (base * width) to room, start) in
         (base + found.0, omega arith, within, subst P (group_of_part base to found.0 within) found.2)
 
     part_has_some : SomeFrom base to → IsTrue answer
@@ -113,7 +112,7 @@ module _ (rows : List ℕ) (width : ℕ) (some : 1 ≤ width) (P : List ℕ → 
       → IsTrue answer ↔ SomeOnPage rows width place P
   page_says place size part room wide is answer says = (
     λ holds. let (group, above, within, has) = some_in_part (place * 64) to room answer here holds (omega arith) in
-      (group, above, before group within, has),
+        (group, above, before group within, has),
     λ (group, above, below, has). part_has_some (place * 64) to room answer here (
       group,
       above,
@@ -214,7 +213,7 @@ pages_behind rows more width pages some are = record {
   each = λ place other below group above within.
       let most : (group + 1) * width ≤ length pages * 64 * width = mul-le-mul_right width (omega (arith, below, within)) in
       subst (IsOnPage (get_or pages place other)) (sym (get_or_append_left rows more 0 (group * width) (omega (arith, most, are.whole, some))))
-          (are.each place other below group above within);
+      (are.each place other below group above within);
 }
 
 pub no_pages : (rows : List ℕ) (width : ℕ) → ArePagesOf rows width []
@@ -225,7 +224,7 @@ pub page_more : (rows : List ℕ) (width place : ℕ) (pages : List Page) (page 
 page_more rows width place pages page last are is room = record {
   whole = subst (λ n. n * 64 * width ≤ length rows) (sym (length-append pages (page ∷ [])))
       (let same : (place * 64 + 64) * width ≡ (length pages + 1) * 64 * width = ap (λ n. (n * 64 + 64) * width) last ∙ (let it : (length pages * 64 + 64) * width ≡
-          (length pages + 1) * 64 * width = omega arith in it) in subst (λ n. n ≤ length rows) same room);
+      (length pages + 1) * 64 * width = omega arith in it) in subst (λ n. n ≤ length rows) same room);
   each = λ at other below. elim (cases_lt at (length pages)) [
     | inl early ↦ subst (IsPageOf rows width at) (sym (get_or_append_left pages (page ∷ []) other at early)) (are.each at other early)
     | inr late ↦
