@@ -1,9 +1,12 @@
 pub mod MeetLemmas
 pub mod CoverLemmas
-pub mod WayLemmas
 pub mod RoundLemmas
 pub mod LoopLemmas
+pub mod WayLemmas
+pub mod StepLemmas
 pub mod SumLemmas
 pub mod KnownLemmas
 pub mod ReachLemmas
 pub mod NewsLemmas
+pub mod FoundLemmas
+pub mod LiveLemmas

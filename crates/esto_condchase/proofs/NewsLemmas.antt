@@ -24,9 +24,9 @@ use Rattle.esto_world_laws.specs.Derived.{Claims, IsNamed}
 use Rattle.esto_world_laws.specs.Matches.{IsDirectMatch}
 use Rattle.esto_world_laws.specs.declared.entry.Claim.{Claim}
 use Rattle.esto_world_laws.proofs.LinkLemmas.{Touching-more}
-use Rattle.esto_condchase.specs.Ways.{AgreeOn, AreFound, AreCounted, IsFound}
+use Rattle.esto_condchase.specs.Ways.{AgreeOn, AreFound, AreCounted, IsFound, IsOldWay}
 use Rattle.esto_condchase.specs.declared.ways.Way.{Way}
-use Rattle.esto_condchase.specs.News.{IsApart, IsSettled, AreFoundAnew, IsOldWay, AreNewOf}
+use Rattle.esto_condchase.specs.News.{IsApart, IsSettled, AreFoundAnew}
 
 -- each entry from a place on, and before another, is apart from the body
 abbrev pub AreApartBelow : List Entry → ℕ → List (Fact Term) → ℕ → Type 0
@@ -127,57 +127,6 @@ module _ (entries : List Entry) (since : ℕ) (body : List (Fact Term)) (way : W
         (map (match_map body found.chosen) (terms_of body))
         (λ s t _ one. Touching-more link_held s t one) found.is_way.fits,
   )
-
--- the new ways of all are the matches anew
-pub new_anew : (entries : List Entry) (since : ℕ) (body : List (Fact Term)) (live : List Term) (items ways kept : List Way) → items ≡ ways
-    → AreFound entries body live ways → AreNewOf since items kept → AreFoundAnew entries since body live kept
-new_anew entries since body live items ways kept same found new = record {
-  sound = λ way inside. found.sound way (subst (λ it. Contains it way) same (new.of_given way inside));
-  complete = λ atoms chosen matches.
-      let way = found.complete atoms chosen matches in
-      let its = found.sound way.0 way.1 in
-      elim (new.others way.0 (subst (λ it. Contains it way.0) (sym same) way.1)) [
-        | inl old ↦ inl (
-          its.chosen,
-          subst (λ it. AgreeOn live (terms_of body) it (terms_of chosen)) its.is_way.to_is way.2,
-          old_match entries since body way.0 its old atoms way.3,
-        )
-        | inr inside ↦ inr (way.0, inside, way.2, way.3)
-      ];
-}
-
-pub new_counted : (count since : ℕ) (items ways kept : List Way) → items ≡ ways → AreCounted count ways → AreNewOf since items kept → AreCounted count kept
-new_counted count since items ways kept same counted new way inside = counted way (subst (λ it. Contains it way) same (new.of_given way inside))
-
--- one way more is kept or old
-pub new_none : (since : ℕ) (kept : List Way) → kept ≡ [] → AreNewOf since [] kept
-new_none since kept none = rw none record { of_given = λ way inside. inside; others = λ way inside. absurd (Contains-nil way inside) }
-
-pub new_kept : (since : ℕ) (items kept later : List Way) (place : ℕ) (way copied : Way) → place < length items → way ≡ get_or items place way → copied ≡ way
-    → later ≡ kept ++ copied ∷ [] → AreNewOf since (take place items) kept → AreNewOf since (take (place + 1) items) later
-new_kept since items kept later place way copied within is same grown so_far = rw (take-item items place way within is, grown, same) record {
-  of_given = λ its inside. elim (Contains-push_cases kept way its inside) [
-    | inl earlier ↦ Contains-append_left (take place items) (way ∷ []) its (so_far.of_given its earlier)
-    | inr last ↦ subst (Contains (take place items ++ way ∷ [])) last (Contains-push (take place items) way)
-  ];
-  others = λ its inside. elim (Contains-push_cases (take place items) way its inside) [
-    | inl earlier ↦ elim (so_far.others its earlier) [ inl old ↦ inl old | inr there ↦ inr (Contains-append_left kept (way ∷ []) its there) ]
-    | inr last ↦ inr (subst (Contains (kept ++ way ∷ [])) last (Contains-push kept way))
-  ];
-}
-
-pub new_passed : (since : ℕ) (items kept : List Way) (place : ℕ) (way : Way) → place < length items → way ≡ get_or items place way → IsOldWay since way
-    → AreNewOf since (take place items) kept → AreNewOf since (take (place + 1) items) kept
-new_passed since items kept place way within is old so_far = rw (take-item items place way within is) record {
-  of_given = λ its inside. Contains-append_left (take place items) (way ∷ []) its (so_far.of_given its inside);
-  others = λ its inside. elim (Contains-push_cases (take place items) way its inside) [
-    | inl earlier ↦ so_far.others its earlier
-    | inr last ↦ inl (subst (IsOldWay since) last old)
-  ];
-}
-
-pub new_all : (since : ℕ) (items kept : List Way) (place : ℕ) → length items ≤ place → AreNewOf since (take place items) kept → AreNewOf since items kept
-new_all since items kept place past so_far = subst (λ it. AreNewOf since it kept) (take_all place items past) so_far
 
 -- one place more is below
 pub below_more : (items : List ℕ) (at since item : ℕ) → at < length items → item ≡ get_or items at item → item < since

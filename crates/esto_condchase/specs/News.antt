@@ -36,12 +36,3 @@ pub record AreFoundAnew (entries : List Entry) (since : ℕ) (body : List (Fact 
   pub complete : (atoms : List Bool) (chosen : List (Fact Term)) → IsDirectMatch (InWorld entries atoms) body chosen
       → IsOlder entries since body live atoms (terms_of chosen)
       ⊎ ((way : Way) × Contains ways way × AgreeOn live (terms_of body) way.to (terms_of chosen) × Within way.product atoms)
-
--- All entries that the way uses are among the first few.
-abbrev pub IsOldWay : ℕ → Way → Type 0
-IsOldWay since way = (place : ℕ) → Contains (way.facts ++ way.links) place → place < since
-
--- The kept ways are some of the given ones, and of these all but old ones are kept.
-pub record AreNewOf (since : ℕ) (given kept : List Way) : Type 0 where
-  pub of_given : (way : Way) → Contains kept way → Contains given way
-  pub others : (way : Way) → Contains given way → IsOldWay since way ⊎ Contains kept way

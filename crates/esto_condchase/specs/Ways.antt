@@ -1,16 +1,19 @@
 -- Ways to match the first atoms of a body, with the entries that they use.
-use Rattle.std.specs.Prelude.{◌≡◌, ◌⊎◌, ℕ, Bool, List, [], ◌∷◌, ◌++◌, length, map, replicate, false, Contains, Some, slice_get}
+use Rattle.std.specs.Prelude.{◌≡◌, ◌⊎◌, ◌<◌, ◌≤◌, ℕ, Bool, List, [], ◌∷◌, ◌++◌, length, map, replicate, false, take, Contains, Some, slice_get}
 use Rattle.std.specs.List.{AllZip}
+use Rattle.std.specs.Prelude.{◌==◌, cond}
 use Rattle.esto_term.specs.declared.term.Term.{Term}
-use Rattle.esto_semantics.specs.Sets.{Within, united}
+use Rattle.esto_semantics.specs.Sets.{Within}
 use Rattle.esto_semantics.specs.declared.fact.Fact.{Fact}
 use Rattle.esto_world_laws.specs.Worlds.{InWorld, SaysOne}
 use Rattle.esto_semantics.specs.Facts.{terms_of}
+use Rattle.esto_views.specs.Spreads.{substituted}
 use Rattle.esto_world_laws.specs.Matches.{IsLike, taken, Touching, Fits, IsDirectMatch}
 use Rattle.esto_world_laws.specs.Derived.{Claims, IsNamed, IsUnion, IsEquality}
 use Rattle.esto_world_laws.specs.declared.entry.Claim.{Claim}
 use Rattle.esto_world_laws.specs.declared.entry.Claim.TheVariants.{Fact as Stated, Same}
 use Rattle.esto_world_laws.specs.declared.entry.Entry.{Entry}
+use Rattle.esto_condchase.specs.declared.passing.Support.{Support}
 use Rattle.esto_condchase.specs.declared.ways.Way.{Way}
 
 -- Each way's product has the count.
@@ -21,17 +24,10 @@ AreCounted count ways = (way : Way) → Contains ways way → length way.product
 abbrev pub empty_way : ℕ → Way
 empty_way count = record { to = []; facts = []; links = []; product = replicate count false }
 
--- The way with one more term met.
-abbrev pub met : Way → Term → Way
-met way own = record { to = way.to ++ own ∷ []; facts = way.facts; links = way.links; product = way.product }
-
--- The way with one more term met, by the equality of an entry at a place with that product.
-abbrev pub met_by : Way → Term → ℕ → List Bool → Way
-met_by way own place product = record { to = way.to ++ own ∷ []; facts = way.facts; links = way.links ++ place ∷ []; product = united way.product product }
-
--- The way with one more fact, of an entry at a place with that product.
-abbrev pub begun : Way → ℕ → List Bool → Way
-begun way place product = record { to = way.to; facts = way.facts ++ place ∷ []; links = way.links; product = united way.product product }
+-- The way with a fact more, of the entry at a place, whose terms go through with a support.
+abbrev pub extended : Way → ℕ → List Term → Support → Way
+extended way place owns support =
+    record { to = way.to ++ owns; facts = way.facts ++ place ∷ []; links = support.links; product = support.product }
 
 -- The way has these facts; the terms `from` of the atoms so far meet the terms `to`, by its links, which are equalities; and its product is exactly the union
 -- of what it uses.
@@ -42,46 +38,6 @@ pub record IsWay (entries : List Entry) (facts : List ℕ) (from to : List Term)
   pub fits : Fits (Touching (IsNamed entries way.links)) from to
   pub equalities : (place : ℕ) → Contains way.links place → IsEquality entries place
   pub union : IsUnion entries (way.facts ++ way.links) way.product
-
--- The entry at the place is an equality of the terms, whose product is within the set.
-abbrev pub IsFreeLink : List Entry → Term → Term → List Bool → ℕ → Entry → Type 0
-IsFreeLink entries own goal product place entry =
-    (slice_get entries place ≡ Some entry) × SaysOne entry.claim own goal × Within entry.product product
-
--- The ways are the given ones with one term more: each comes from one, and each goes on in each world that has its product and makes the term one with what it
--- has to meet.
-pub record AreLonger (entries : List Entry) (from : List Term) (term own : Term) (given ways : List Way) : Type 0 where
-  pub come_from : (way : Way) → Contains ways way → (before : Way) × Contains given before × (way.to ≡ before.to ++ own ∷ [])
-      × ((facts : List ℕ) (to : List Term) → IsWay entries facts from to before → IsWay entries facts (from ++ term ∷ []) (to ++ own ∷ []) way)
-  pub go_on : (atoms : List Bool) (before : Way) → Contains given before → Within before.product atoms
-      → Touching (InWorld entries atoms) own (taken (from ++ term ∷ []) (before.to ++ own ∷ []) term)
-      → (way : Way) × Contains ways way × (way.to ≡ before.to ++ own ∷ []) × Within way.product atoms
-
--- The ways are those that begin with the start and go through a row of terms and what they meet.
-pub record AreRows (entries : List Entry) (from terms owns : List Term) (start : Way) (ways : List Way) : Type 0 where
-  pub come_from : (way : Way) → Contains ways way → (way.to ≡ start.to ++ owns)
-      × ((facts : List ℕ) (to : List Term) → IsWay entries facts from to start → IsWay entries facts (from ++ terms) (to ++ owns) way)
-  pub go_on : (atoms : List Bool) → length from ≡ length start.to → Within start.product atoms
-      → AllZip (Touching (InWorld entries atoms)) owns (map (taken (from ++ terms) (start.to ++ owns)) terms)
-      → (way : Way) × Contains ways way × (way.to ≡ start.to ++ owns) × Within way.product atoms
-
--- The ways are those that go on from one, where the claim of the entry at a place, with that product, is a fact alike to the atom; else there is none.
-abbrev pub AreThrough : List Entry → List Term → Fact Term → Way → ℕ → List Bool → Claim → List Way → Type 0
-AreThrough entries from atom before place product (Stated fact) ways =
-    (IsLike atom fact × AreRows entries from atom.terms fact.terms (begun before place product) ways) ⊎ ((IsLike atom fact → ⊥) × (ways ≡ []))
-AreThrough entries from atom before place product (Same left right) ways = ways ≡ []
-
--- The ways are given ones with a fact for one atom more: each comes from a given one; and where a given one goes on in a world that has its product, so does
--- one of these, with the same terms.
-pub record AreMatched (entries : List Entry) (from : List Term) (atom : Fact Term) (given ways : List Way) : Type 0 where
-  pub come_from : (way : Way) → Contains ways way → (before : Way) × Contains given before × ((place : ℕ) × (fact : Fact Term)
-      × Claims entries place (Stated fact) × (fact.relation ≡ atom.relation) × (length fact.terms ≡ length atom.terms)
-      × ((facts : List ℕ) (to : List Term) → IsWay entries facts from to before
-      → IsWay entries (facts ++ place ∷ []) (from ++ atom.terms) (to ++ fact.terms) way))
-  pub go_on : (atoms : List Bool) (before : Way) (fact : Fact Term) → Contains given before → length from ≡ length before.to → Within before.product atoms
-      → InWorld entries atoms (Stated fact) → fact.relation ≡ atom.relation → length fact.terms ≡ length atom.terms
-      → AllZip (Touching (InWorld entries atoms)) fact.terms (map (taken (from ++ atom.terms) (before.to ++ fact.terms)) atom.terms)
-      → (way : Way) × Contains ways way × (way.to ≡ before.to ++ fact.terms) × Within way.product atoms
 
 -- Each of the terms meets the same first, whether those of `from` have met `to` or the others.
 abbrev pub AgreeOn : List Term → List Term → List Term → List Term → Type 0
@@ -98,20 +54,139 @@ pub record IsPut (from : List Term) (term : Term) (these later : List Term) : Ty
   pub told : Contains later term ⊎ ¬ (Contains from term)
   pub among : (own : Term) → Contains later own → Contains these own ⊎ Contains from own
 
--- Some way agrees with the way on the terms, with a product within that of the way.
-abbrev pub CoversWay : List Term → List Term → List Way → Way → Type 0
-CoversWay from terms ways way = (other : Way) × Contains ways other × AgreeOn terms from other.to way.to × Within other.product way.product
+-- The new list has all of the old one, and what it has more is so.
+pub record Grown {X : Type 0} (Comes : X → Type 0) (old new : List X) : Type 0 where
+  pub kept : (thing : X) → Contains old thing → Contains new thing
+  pub come : (thing : X) → Contains new thing → Contains old thing ⊎ Comes thing
 
--- The kept ways are some of the given ones, and cover each of them.
-pub record CoverAll (from terms : List Term) (given kept : List Way) : Type 0 where
-  pub of_given : (way : Way) → Contains kept way → Contains given way
-  pub covers : (way : Way) → Contains given way → CoversWay from terms kept way
+-- A later entry, or the one at the place itself, says it at one of the places, with a product within that of this one.
+abbrev pub HasLater : List Entry → List ℕ → (Claim → Type 0) → ℕ → Entry → Type 0
+HasLater entries places Says place entry =
+    (later : ℕ) × (its : Entry) × Contains places later × place ≤ later × (slice_get entries later ≡ Some its) × Says its.claim × Within its.product entry.product
 
--- The ways are given ones with a fact for one atom more, as far as they tell it on the live terms: they cover all that there are.
-pub record AreNext (entries : List Entry) (from : List Term) (atom : Fact Term) (live : List Term) (given ways : List Way) : Type 0 where
-  pub matched : List Way
-  pub are_matched : AreMatched entries from atom given matched
-  pub cover : CoverAll (from ++ atom.terms) live matched ways
+-- Among the places is one for each entry that says so.
+abbrev pub AreAllLive : List Entry → List ℕ → (Claim → Type 0) → Type 0
+AreAllLive entries places Says = (place : ℕ) (entry : Entry) → slice_get entries place ≡ Some entry → Says entry.claim → HasLater entries places Says place entry
+
+-- Among the places is one for each fact of the relation.
+abbrev pub AreAllFacts : List Entry → ℕ → List ℕ → Type 0
+AreAllFacts entries relation places = (place : ℕ) (entry : Entry) (fact : Fact Term) → slice_get entries place ≡ Some entry → entry.claim ≡ Stated fact
+    → fact.relation ≡ relation → HasLater entries places (λ claim. claim ≡ Stated fact) place entry
+
+-- The place is the first one of the term.
+abbrev pub IsFirstAt : List Term → Term → ℕ → Type 0
+IsFirstAt from term place = place < length from
+    × ((to : List Term) (it : Term) → length from ≡ length to → slice_get to place ≡ Some it → it ≡ substituted from to term)
+
+-- The lists have the same at the places.
+abbrev pub AgreeAt : List ℕ → List Term → List Term → Type 0
+AgreeAt places to others = (place : ℕ) → Contains places place → slice_get to place ≡ slice_get others place
+
+-- What stands at the places tells what the term meets first.
+abbrev pub TellsOne : List Term → List ℕ → Term → Type 0
+TellsOne from places term = (to others : List Term) → length from ≡ length to → length from ≡ length others → AgreeAt places to others
+    → taken from to term ≡ taken from others term
+
+-- Some way has the same at the places, with a product within the set.
+abbrev pub HasWay : List ℕ → List Way → List Term → List Bool → Type 0
+HasWay places ways to set = (way : Way) × Contains ways way × AgreeAt places way.to to × Within way.product set
+
+-- Some support has a product within the set.
+abbrev pub HasSupport : List Support → List Bool → Type 0
+HasSupport supports set = (support : Support) × Contains supports support × Within support.product set
+
+-- What the terms of an atom and of a fact meet first, where they stand behind `from` and what these have met.
+abbrev pub meets : List Term → List Term → List Term → List Term → Term → Term
+meets from terms to owns = taken (from ++ terms) (to ++ owns)
+
+-- In the set's world the two terms are one by an equality of an entry from a place on.
+abbrev pub IsLinkedFrom : List Entry → ℕ → List Bool → Term → Term → Type 0
+IsLinkedFrom entries floor set own goal =
+    (place : ℕ) × (entry : Entry) × floor ≤ place × (slice_get entries place ≡ Some entry) × SaysOne entry.claim own goal × Within entry.product set
+
+-- The two terms are equal, or one by such an equality.
+abbrev pub TouchesFrom : List Entry → ℕ → List Bool → Term → Term → Type 0
+TouchesFrom entries floor set own goal = (own ≡ goal) ⊎ IsLinkedFrom entries floor set own goal
+
+-- At one place of a row a least place is asked for, else none.
+abbrev pub floor_of : ℕ → ℕ → ℕ → ℕ
+floor_of at floor index = cond (index == at) floor 0
+
+-- Each of the first few of a fact's terms is one with what it has to meet; at one of them by an equality from a place on.
+abbrev pub PassesTo : List Entry → (Term → Term) → List Term → List Term → ℕ → ℕ → List Bool → ℕ → Type 0
+PassesTo entries m terms owns at floor set count = (index : ℕ) (own term : Term) → index < count
+    → slice_get owns index ≡ Some own → slice_get terms index ≡ Some term → TouchesFrom entries (floor_of at floor index) set own (m term)
+
+-- Each of the fact's terms is one with what it has to meet, in the set's world.
+abbrev pub PassesIn : List Entry → (Term → Term) → List Term → List Term → List Bool → Type 0
+PassesIn entries m terms owns set = AllZip (Touching (InWorld entries set)) owns (map m terms)
+
+-- In each set's world in which each of a fact's terms is one with what it has to meet, and this one by an equality from a place on, it is settled.
+abbrev pub IsPassedAt : List Entry → (Term → Term) → List Term → List Term → ℕ → List Bool → (List Bool → Type 0) → ℕ → Type 0
+IsPassedAt entries m terms owns floor product Settled at = (set : List Bool) (own term : Term) → Within product set → PassesIn entries m terms owns set
+    → slice_get owns at ≡ Some own → slice_get terms at ≡ Some term → ¬ (own ≡ m term) → IsLinkedFrom entries floor set own (m term) → Settled set
+
+-- The support goes on from an earlier one by what makes two terms one.
+pub record IsLonger (entries : List Entry) (own goal : Term) (before support : Support) : Type 0 where
+  pub kept : (place : ℕ) → Contains before.links place → Contains support.links place
+  pub touch : Touching (IsNamed entries support.links) own goal
+  pub equalities : ((place : ℕ) → Contains before.links place → IsEquality entries place) → (place : ℕ) → Contains support.links place → IsEquality entries place
+  pub union : (facts : List ℕ) → IsUnion entries (facts ++ before.links) before.product → IsUnion entries (facts ++ support.links) support.product
+  pub count : length support.product ≡ length before.product
+
+-- The support goes on from the start by what makes each of the first few of a fact's terms one with what it has to meet.
+pub record IsSupport (entries : List Entry) (m : Term → Term) (terms owns : List Term) (start : Support) (few : ℕ) (support : Support) : Type 0 where
+  pub kept : (place : ℕ) → Contains start.links place → Contains support.links place
+  pub touch : (index : ℕ) (own term : Term) → index < few → slice_get owns index ≡ Some own → slice_get terms index ≡ Some term
+      → Touching (IsNamed entries support.links) own (m term)
+  pub equalities : ((place : ℕ) → Contains start.links place → IsEquality entries place) → (place : ℕ) → Contains support.links place → IsEquality entries place
+  pub union : (facts : List ℕ) → IsUnion entries (facts ++ start.links) start.product → IsUnion entries (facts ++ support.links) support.product
+  pub count : length support.product ≡ length start.product
+
+-- The later supports go on from the given ones by what makes two terms one: in each set's world one of them does, or some way is there already.
+pub record AreLonger (entries : List Entry) (own goal : Term) (floor : ℕ) (Settled : List Bool → Type 0) (given later : List Support) : Type 0 where
+  pub come : (support : Support) → Contains later support → (before : Support) × Contains given before × IsLonger entries own goal before support
+  pub go_on : (set : List Bool) (before : Support) → Contains given before → Within before.product set → TouchesFrom entries floor set own goal
+      → HasSupport later set ⊎ Settled set
+
+-- The supports go on from the start by the first few of a fact's terms: in each set's world one of them does, or some way is there already.
+pub record AreSupports (entries : List Entry) (m : Term → Term) (terms owns : List Term) (at floor : ℕ) (Settled : List Bool → Type 0) (start : Support)
+    (few : ℕ) (supports : List Support) : Type 0 where
+  pub come : (support : Support) → Contains supports support → IsSupport entries m terms owns start few support
+  pub go_on : (set : List Bool) → Within start.product set → PassesTo entries m terms owns at floor set few → HasSupport supports set ⊎ Settled set
+
+-- The way goes on from an earlier one with the fact of the entry at a place.
+abbrev pub ComesBy : List Entry → List Term → List Term → Way → ℕ → List Term → Way → Type 0
+ComesBy entries from terms before place owns way = (way.to ≡ before.to ++ owns) × ((facts : List ℕ) (to : List Term) → IsWay entries facts from to before
+    → IsWay entries (facts ++ place ∷ []) (from ++ terms) (to ++ owns) way)
+
+-- The way goes on from an earlier one with a fact for the atom.
+abbrev pub Comes : List Entry → List Term → Fact Term → Way → Way → Type 0
+Comes entries from atom before way = (place : ℕ) × (fact : Fact Term) × Claims entries place (Stated fact) × IsLike atom fact
+    × ComesBy entries from atom.terms before place fact.terms way
+
+-- All entries that the way uses are among the first few.
+abbrev pub IsOldWay : ℕ → Way → Type 0
+IsOldWay since way = (place : ℕ) → Contains (way.facts ++ way.links) place → place < since
+
+-- The first few entries alone let the way go on with the fact, in the set's world.
+abbrev pub GoesOld : List Entry → ℕ → List Term → Fact Term → Way → Fact Term → List Bool → Type 0
+GoesOld entries since from atom before fact set = IsOldWay since before × InWorld (take since entries) set (Stated fact)
+    × PassesIn (take since entries) (meets from atom.terms before.to fact.terms) atom.terms fact.terms set
+
+-- Where the way goes on with a fact in a set's world, one of the ways does so, as far as the places tell, or the first few entries alone let it.
+abbrev pub GoesOn : List Entry → ℕ → List Term → Fact Term → List ℕ → Way → List Way → Type 0
+GoesOn entries since from atom places before ways = (set : List Bool) (fact : Fact Term) → Within before.product set → InWorld entries set (Stated fact)
+    → IsLike atom fact → PassesIn entries (meets from atom.terms before.to fact.terms) atom.terms fact.terms set
+    → HasWay places ways (before.to ++ fact.terms) set ⊎ GoesOld entries since from atom before fact set
+
+-- The ways are given ones with a fact for one atom more, as far as they tell what the live terms meet, but for those that use the first few entries alone.
+pub record AreNext (entries : List Entry) (since : ℕ) (from : List Term) (atom : Fact Term) (live : List Term) (given ways : List Way) : Type 0 where
+  pub come : (way : Way) → Contains ways way → (before : Way) × Contains given before × Comes entries from atom before way
+  pub go_on : (set : List Bool) (before : Way) (fact : Fact Term) → Contains given before → length from ≡ length before.to → Within before.product set
+      → InWorld entries set (Stated fact) → IsLike atom fact → PassesIn entries (meets from atom.terms before.to fact.terms) atom.terms fact.terms set
+      → ((way : Way) × Contains ways way × AgreeOn live (from ++ atom.terms) way.to (before.to ++ fact.terms) × Within way.product set)
+      ⊎ GoesOld entries since from atom before fact set
 
 -- The way is a direct match of the body among the entries.
 pub record IsFound (entries : List Entry) (body : List (Fact Term)) (way : Way) : Type 0 where

@@ -6,13 +6,15 @@
 mod chase;
 mod covered;
 mod covering;
+mod kept;
 mod known;
+mod live;
 mod news;
 mod passing;
 mod products;
 mod reached;
 mod rounds;
-mod taking;
+mod steps;
 mod touching;
 mod ways;
 

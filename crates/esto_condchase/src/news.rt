@@ -1,14 +1,16 @@
 //! What is new since a round, and the matches that use something of it.
-ghost use Rattle.std.specs.Prelude.{◌≡◌, ◌↔◌, ◌<◌, ℕ, false, Contains, IsTrue, IfOk};
+ghost use Rattle.std.specs.Prelude.{◌≡◌, ◌↔◌, ◌<◌, ◌++◌, ◌∷◌, [], ℕ, false, Contains, IsTrue, IfOk};
 ghost use Rattle.esto_semantics.specs.declared.fact.Fact.{Fact};
 ghost use Rattle.esto_world_laws.specs.Worlds.{AreOfCount};
 ghost use Rattle.esto_acyclic.specs.Relations.{HasRelation};
-ghost use Rattle.esto_condchase.specs.News.{IsApart, IsSettled, AreFoundAnew, IsOldWay, AreNewOf};
-ghost use Rattle.esto_condchase.specs.Ways.{AreCounted};
+ghost use Rattle.esto_condchase.specs.News.{IsApart, IsSettled, AreFoundAnew};
+ghost use Rattle.esto_condchase.specs.Ways.{AreCounted, IsOldWay};
 
-use crate::ways::{Way, matches_of};
+use crate::ways::{Way, match_next, matches_of};
+use esto_known::Known;
+use esto_prov::terms_of;
 use esto_semantics::Atom;
-use esto_term::{List, OutOfMemory, Replicate, Term};
+use esto_term::{List, OutOfMemory, Replicate, Term, Terms};
 use esto_world_laws::{Claim, Entry};
 use std::alloc::Global;
 
@@ -61,30 +63,50 @@ fn has_later(places: &[usize], since: usize) -> bool
 }
 
 /// Whether the way uses an entry from a place on.
-fn is_new(way: &Way, since: usize) -> bool
+pub fn is_new(way: &Way, since: usize) -> bool
     ensures { result ≡ false → IsOldWay since way.now }
 {
     has_later(way.facts.items(), since) || has_later(way.links.items(), since)
 }
 
-/// The ways that use an entry from a place on.
-fn only_new(alloc: Global, ways: &[Way], since: usize) -> Result<List<Way>, OutOfMemory>
-    ensures { IfOk result (AreNewOf since ways.now) }
+/// The ways that go on by the last atom from ways for the others, and use an entry from a place on.
+fn anew(
+    alloc: Global,
+    known: &Known,
+    since: usize,
+    body: &[Atom],
+    last: &Atom,
+    asked: &[Term],
+    count: usize,
+) -> Result<List<Way>, OutOfMemory>
+    requires counts { AreOfCount count known.now }
+    ensures found { IfOk result
+        (AreFoundAnew known.now since (body.now ++ last.now ∷ []) asked.now) }
+    ensures counted { IfOk result (λ ways. AreCounted count ways) }
 {
-    let mut kept = List::new(alloc);
-    'ways: for way in ways {
-        if is_new(way, since) {
-            kept.push(way.copy(alloc)?)?;
-        }
+    let from = terms_of(alloc, body)?;
+    let live = met_terms(alloc, last, asked)?;
+    let given = matches_of(alloc, known, body, live.items(), count)?;
+    let ways = match_next(alloc, known, since, &from, last, asked, given.items(), count)?;
+    Ok(ways)
+}
+
+/// The terms of the atom, and then those that are asked for.
+fn met_terms(alloc: Global, atom: &Atom, asked: &[Term]) -> Result<Terms, OutOfMemory>
+    ensures { IfOk result (λ it. it ≡ atom.now.terms ++ asked.now) }
+{
+    let mut terms = atom.terms.copy(alloc)?;
+    'asked: for term in asked {
+        terms.push(term.copy(alloc)?)?;
     }
-    Ok(kept)
+    Ok(terms)
 }
 
 /// The direct matches of a body among the entries, as far as they tell what the terms asked for meet, each with what it uses, but
 /// for those that use the entries before a place alone.
 pub fn matches_since(
     alloc: Global,
-    entries: &[Entry],
+    entries: &Known,
     since: usize,
     body: &[Atom],
     asked: &[Term],
@@ -94,10 +116,11 @@ pub fn matches_since(
     ensures found { IfOk result (AreFoundAnew entries.now since body.now asked.now) }
     ensures counted { IfOk result (λ ways. AreCounted count ways) }
 {
-    if !has_news(entries, since, body) {
+    if !has_news(entries.items(), since, body) {
         return Ok(List::new(alloc));
     }
-    let found = matches_of(alloc, entries, body, asked, count)?;
-    let ways = only_new(alloc, found.items(), since)?;
-    Ok(ways)
+    match body.split_last() {
+        None => Ok(List::new(alloc)),
+        Some((last, others)) => anew(alloc, entries, since, others, last, asked, count),
+    }
 }

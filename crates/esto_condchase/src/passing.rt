@@ -1,15 +1,43 @@
-//! Whether a fact may go on from a way at all, before any way is copied.
-ghost use Rattle.std.specs.Prelude.{◌≡◌, ◌++◌, List, Bool, false, length, map};
-ghost use Rattle.std.specs.List.{AllZip};
-ghost use Rattle.esto_world_laws.specs.Matches.{taken, Touching};
-ghost use Rattle.esto_world_laws.specs.Worlds.{InWorld};
+//! How a fact goes on from a way: the equalities by which its terms are one with what they have to meet.
+ghost use Rattle.std.specs.Prelude.{◌≡◌, ◌++◌, ◌∷◌, ◌<◌, ◌≤◌, MatchOption, ◌⊎◌, [], List, Some, Bool, Contains, length, map, slice_get, IsTrue, IfOk, IfSome, OnOk, cond, ◌==◌};
+ghost use Rattle.esto_semantics.specs.Sets.{Within, united};
+ghost use Rattle.esto_world_laws.specs.Matches.{taken};
+ghost use Rattle.esto_world_laws.specs.Worlds.{AreOfCount, SaysOne};
+ghost use Rattle.esto_world_laws.specs.declared.entry.Entry.{Entry};
+ghost use Rattle.esto_condchase.specs.declared.passing.Support.{Support};
+ghost use Rattle.esto_condchase.specs.Ways.{AreCounted, AreAllLive, Grown, HasWay, HasSupport, IsLonger, IsLinkedFrom, AreLonger, AreSupports, floor_of, meets};
 
-use esto_prov::taken_term;
-use esto_term::{Term, has_term};
+use crate::kept::Kept;
+use crate::live::links_of;
+use esto_bits::RowBits;
+use esto_known::Known;
 use esto_world_laws::Entry;
+use esto_prov::taken_term;
+use esto_term::{List, OutOfMemory, Places, Replicate, Term, has_term};
+use std::alloc::Global;
+
+/// The equalities that a way uses, and the union of all products that it rests on.
+#[derive(Drop)]
+pub struct Support {
+    pub links: Places,
+    pub product: RowBits,
+}
+
+/// A fact that goes on from a way: `from` are the terms of the atoms so far, which meet `to`; `terms` and `owns` are those of the
+/// next atom and of the fact. What stands at the places tells all that is asked for later, and has this key.
+#[derive(Clone, Copy)]
+pub struct Step<'a> {
+    pub known: &'a Known,
+    pub from: &'a [Term],
+    pub terms: &'a [Term],
+    pub to: &'a [Term],
+    pub owns: &'a [Term],
+    pub places: &'a [usize],
+    pub key: u64,
+}
 
 /// What a term meets first, where the terms of an atom stand behind others.
-fn met_first<'a>(
+pub fn met_first<'a>(
     from: &[Term],
     to: &'a [Term],
     terms: &[Term],
@@ -25,42 +53,256 @@ fn met_first<'a>(
     taken_term(terms, owns, term)
 }
 
-/// Whether two terms touch in some world.
-fn may_touch(entries: &[Entry], term: &Term, other: &Term) -> bool
-    ensures { result ≡ false → (set : List Bool)
-        → ¬ (Touching (InWorld entries.now set) term.now other.now) }
+/// Whether a kept way tells the same as the step, with a product within the set.
+pub fn is_settled(step: &Step, product: &RowBits, kept: &Kept) -> bool
+    requires { AreCounted (length product.now) kept.now }
+    ensures { IsTrue result → HasWay step.now.places.now kept.now
+        (step.now.to.now ++ step.now.owns.now) product.now }
 {
-    if term.equal(other) {
-        return true;
-    }
-    'entries: for entry in entries {
-        if entry.claim.says_one(term, other) {
-            return true;
-        }
-    }
-    false
+    kept.covers(step.key, product, step.places, step.to, step.owns)
 }
 
-/// Whether each of the terms `owns` may touch what the term at its place meets first: where false comes, they do so
-/// together in no world.
-pub fn row_may_pass(
-    entries: &[Entry],
-    from: &[Term],
-    to: &[Term],
-    terms: &[Term],
-    owns: &[Term],
-) -> bool
-    requires lengths { length from.now ≡ length to.now }
-    requires rows { length owns.now ≡ length terms.now }
-    ensures { result ≡ false → (set : List Bool)
-        → ¬ (AllZip (Touching (InWorld entries.now set)) owns.now
-        (map (taken (from.now ++ terms.now) (to.now ++ owns.now)) terms.now)) }
+/// The support with the equality of an entry more, which has that product.
+fn with_link(
+    alloc: Global,
+    before: &Support,
+    place: usize,
+    product: RowBits,
+) -> Result<Support, OutOfMemory>
+    ensures { IfOk result (λ it. it ≡ record {
+      links = before.now.links ++ place ∷ [];
+      product = product;
+    }) }
 {
-    'row: for (place, own) in owns.iter().enumerate() {
-        let goal = met_first(from, to, terms, owns, &terms[place]);
-        if !may_touch(entries, own, goal) {
-            return false;
+    let mut links = before.links.copy(alloc)?;
+    links.push(place)?;
+    Ok(Support { links, product })
+}
+
+/// The union of two products.
+pub fn union_of(alloc: Global, one: &RowBits, other: &RowBits) -> Result<RowBits, OutOfMemory>
+    requires { length one.now ≡ length other.now }
+    ensures { IfOk result (λ it. it ≡ united one.now other.now) }
+{
+    let mut product = one.copy(alloc)?;
+    product.union(other);
+    Ok(product)
+}
+
+/// Adds the support with an equality more, unless a kept way tells the same with a product within its own.
+fn add_longer(
+    alloc: Global,
+    step: &Step,
+    before: &Support,
+    place: usize,
+    entry: &Entry,
+    kept: &Kept,
+    next: &mut List<Support>,
+) -> Result<(), OutOfMemory>
+    requires at { slice_get step.now.known.now place ≡ Some entry.now }
+    requires count { length before.now.product ≡ length entry.now.product }
+    requires counted { AreCounted (length before.now.product) kept.now }
+    ensures grown { OnOk result ((own goal : Term) → SaysOne entry.now.claim own goal
+        → Grown (IsLonger step.now.known.now own goal before.now) next.old next.new) }
+    ensures goes { OnOk result ((set : List Bool) → Within before.now.product set
+        → Within entry.now.product set → HasSupport next.new set
+        ⊎ HasWay step.now.places.now kept.now (step.now.to.now ++ step.now.owns.now) set) }
+{
+    let product = union_of(alloc, &before.product, &entry.product)?;
+    if is_settled(step, &product, kept) {
+        return Ok(());
+    }
+    next.push(with_link(alloc, before, place, product)?)?;
+    Ok(())
+}
+
+/// The entry at the place, if it says that the two terms are one.
+fn link_at<'a>(known: &'a Known, own: &Term, goal: &Term, place: usize) -> Option<&'a Entry>
+    ensures { MatchOption result
+        ((entry : Entry) → slice_get known.now place ≡ Some entry
+        → ¬ (SaysOne entry.claim own.now goal.now))
+        (λ entry. (slice_get known.now place ≡ Some entry.now)
+        × SaysOne entry.now.claim own.now goal.now) }
+{
+    match known.items().get(place) {
+        None => None,
+        Some(entry) => {
+            if entry.claim.says_one(own, goal) {
+                return Some(entry);
+            }
+            None
         }
     }
-    true
+}
+
+/// Adds the support with the equality of the entry at the place more, if it is one of the two terms, from a place on.
+fn longer_at(
+    alloc: Global,
+    step: &Step,
+    own: &Term,
+    goal: &Term,
+    floor: usize,
+    before: &Support,
+    place: usize,
+    kept: &Kept,
+    next: &mut List<Support>,
+) -> Result<(), OutOfMemory>
+    requires counts { AreOfCount (length before.now.product) step.now.known.now }
+    requires counted { AreCounted (length before.now.product) kept.now }
+    ensures grown { OnOk result
+        (Grown (IsLonger step.now.known.now own.now goal.now before.now) next.old next.new) }
+    ensures goes { OnOk result ((set : List Bool) (entry : Entry) → floor ≤ place
+        → slice_get step.now.known.now place ≡ Some entry → SaysOne entry.claim own.now goal.now
+        → Within before.now.product set → Within entry.product set → HasSupport next.new set
+        ⊎ HasWay step.now.places.now kept.now (step.now.to.now ++ step.now.owns.now) set) }
+{
+    if place < floor {
+        return Ok(());
+    }
+    match link_at(step.known, own, goal, place) {
+        None => Ok(()),
+        Some(entry) => add_longer(alloc, step, before, place, entry, kept, next),
+    }
+}
+
+/// Adds the support with one of the equalities of the two terms more, each of which is tried.
+fn longer(
+    alloc: Global,
+    step: &Step,
+    own: &Term,
+    goal: &Term,
+    floor: usize,
+    before: &Support,
+    links: &[usize],
+    kept: &Kept,
+    next: &mut List<Support>,
+) -> Result<(), OutOfMemory>
+    requires links { AreAllLive step.now.known.now links.now
+        (λ claim. SaysOne claim own.now goal.now) }
+    requires counts { AreOfCount (length before.now.product) step.now.known.now }
+    requires counted { AreCounted (length before.now.product) kept.now }
+    ensures grown { OnOk result
+        (Grown (IsLonger step.now.known.now own.now goal.now before.now) next.old next.new) }
+    ensures goes { OnOk result ((set : List Bool) → Within before.now.product set
+        → IsLinkedFrom step.now.known.now floor set own.now goal.now → HasSupport next.new set
+        ⊎ HasWay step.now.places.now kept.now (step.now.to.now ++ step.now.owns.now) set) }
+{
+    'links: for place in links {
+        longer_at(alloc, step, own, goal, floor, before, *place, kept, next)?;
+    }
+    Ok(())
+}
+
+/// All of the given supports, each with one of the equalities of the two terms more.
+fn all_longer(
+    alloc: Global,
+    step: &Step,
+    own: &Term,
+    goal: &Term,
+    floor: usize,
+    given: &[Support],
+    kept: &Kept,
+    count: usize,
+) -> Result<List<Support>, OutOfMemory>
+    requires apart { ¬ (own.now ≡ goal.now) }
+    requires given { (support : Support) → Contains given.now support
+        → length support.product ≡ count }
+    requires counts { AreOfCount count step.now.known.now }
+    requires counted { AreCounted count kept.now }
+    ensures { IfOk result (AreLonger step.now.known.now own.now goal.now floor
+        (HasWay step.now.places.now kept.now (step.now.to.now ++ step.now.owns.now)) given.now) }
+{
+    let links = links_of(step.known, own, goal);
+    let mut next = List::new(alloc);
+    'given: for before in given {
+        longer(alloc, step, own, goal, floor, before, links, kept, &mut next)?;
+    }
+    Ok(next)
+}
+
+/// Goes on by one of the fact's terms.
+fn pass_term(
+    alloc: Global,
+    step: &Step,
+    index: usize,
+    floor: usize,
+    kept: &Kept,
+    count: usize,
+    supports: &mut List<Support>,
+) -> Result<(), OutOfMemory>
+    requires lengths { length step.now.from.now ≡ length step.now.to.now }
+    requires owns { index < length step.now.owns.now }
+    requires terms { index < length step.now.terms.now }
+    requires given { (support : Support) → Contains supports.old support
+        → length support.product ≡ count }
+    requires counts { AreOfCount count step.now.known.now }
+    requires counted { AreCounted count kept.now }
+    ensures { OnOk result ((own term : Term) → slice_get step.now.owns.now index ≡ Some own
+        → slice_get step.now.terms.now index ≡ Some term
+        → AreLonger step.now.known.now own (meets step.now.from.now step.now.terms.now
+        step.now.to.now step.now.owns.now term) floor
+        (HasWay step.now.places.now kept.now (step.now.to.now ++ step.now.owns.now))
+        supports.old supports.new) }
+{
+    let own = &step.owns[index];
+    let goal = met_first(step.from, step.to, step.terms, step.owns, &step.terms[index]);
+    if own.equal(goal) {
+        return Ok(());
+    }
+    *supports = all_longer(alloc, step, own, goal, floor, supports.items(), kept, count)?;
+    Ok(())
+}
+
+/// At one place of a row a least place is asked for, else none.
+fn floor_of(at: usize, floor: usize, index: usize) -> usize
+    ensures { result ≡ floor_of at floor index }
+{
+    if index == at { floor } else { 0 }
+}
+
+/// The list of the start alone.
+fn only(alloc: Global, start: &Support) -> Result<List<Support>, OutOfMemory>
+    ensures { IfOk result (λ it. it ≡ start.now ∷ []) }
+{
+    let links = start.links.copy(alloc)?;
+    let product = start.product.copy(alloc)?;
+    let mut supports = List::new(alloc);
+    supports.push(Support { links, product })?;
+    Ok(supports)
+}
+
+/// What goes on from the start by all of the fact's terms; at one of them by an equality from a place on.
+pub fn through_row(
+    alloc: Global,
+    step: &Step,
+    at: usize,
+    floor: usize,
+    start: &Support,
+    kept: &Kept,
+    count: usize,
+) -> Result<List<Support>, OutOfMemory>
+    requires lengths { length step.now.from.now ≡ length step.now.to.now }
+    requires rows { length step.now.owns.now ≡ length step.now.terms.now }
+    requires count { length start.now.product ≡ count }
+    requires counts { AreOfCount count step.now.known.now }
+    requires counted { AreCounted count kept.now }
+    ensures { IfOk result (AreSupports step.now.known.now (meets step.now.from.now
+        step.now.terms.now step.now.to.now step.now.owns.now) step.now.terms.now
+        step.now.owns.now at floor
+        (HasWay step.now.places.now kept.now (step.now.to.now ++ step.now.owns.now)) start.now
+        (length step.now.owns.now)) }
+{
+    let mut supports = only(alloc, start)?;
+    'row: for index in 0..step.owns.len() {
+        pass_term(
+            alloc,
+            step,
+            index,
+            floor_of(at, floor, index),
+            kept,
+            count,
+            &mut supports,
+        )?;
+    }
+    Ok(supports)
 }

@@ -173,7 +173,7 @@ fn answer_tuples(
     let asked = terms_of(alloc, rule.head.items())?;
     let found = matches_since(
         alloc,
-        entries.items(),
+        entries,
         since,
         rule.body.items(),
         asked.items(),
@@ -223,7 +223,7 @@ fn answer_equalities(
     let asked = sides_of(alloc, rule)?;
     let found = matches_since(
         alloc,
-        entries.items(),
+        entries,
         since,
         rule.body.items(),
         asked.items(),

@@ -1,19 +1,18 @@
 //! Ways to match a body among entries, modulo equalities.
-ghost use Rattle.std.specs.Prelude.{◌≡◌, ◌≢◌, ◌<◌, ◌∷◌, ◌++◌, [], List, length, Contains, IfOk, IfSome, OnOk};
+ghost use Rattle.std.specs.Prelude.{◌≡◌, ◌++◌, ◌∷◌, [], ◌<◌, ℕ, length, Contains, IsTrue, IfOk, OnOk};
 ghost use Rattle.esto_semantics.specs.Facts.{terms_of};
-ghost use Rattle.esto_world_laws.specs.Matches.{taken};
 ghost use Rattle.esto_world_laws.specs.Worlds.{AreOfCount};
-ghost use Rattle.esto_condchase.specs.Ways.{AreCounted, IsFreeLink, empty_way, met, met_by, begun, AreLonger, AreRows, AreThrough, AreMatched, AreNext, AreFound};
+ghost use Rattle.esto_condchase.specs.Ways.{AreCounted, empty_way, Comes, GoesOn, TellsOne, AreNext, AreFound};
 ghost use Rattle.esto_condchase.specs.declared.ways.Way.{Way};
 
-use crate::covered::without_covered;
-use crate::passing::row_may_pass;
-use crate::taking::to_meet;
+use crate::kept::{Kept, telling_places};
+use crate::live::facts_of;
+use crate::steps::{Level, match_all};
 use esto_bits::RowBits;
+use esto_known::Known;
 use esto_prov::terms_of;
 use esto_semantics::Atom;
 use esto_term::{List, OutOfMemory, Places, Replicate, Term, Terms, Values};
-use esto_world_laws::{Claim, Entry};
 use std::alloc::Global;
 
 /// A way to match the first atoms of a body: the terms that theirs meet, the entries of the facts and of the
@@ -27,7 +26,7 @@ pub struct Way {
 }
 
 /// The way that has matched nothing.
-pub fn empty_way(alloc: Global, count: usize) -> Result<Way, OutOfMemory>
+fn empty_way(alloc: Global, count: usize) -> Result<Way, OutOfMemory>
     ensures { IfOk result (λ it. it ≡ empty_way count) }
 {
     let product = RowBits::new(alloc, count)?;
@@ -39,354 +38,91 @@ pub fn empty_way(alloc: Global, count: usize) -> Result<Way, OutOfMemory>
     })
 }
 
-/// The list of one way.
-fn only(alloc: Global, way: Way) -> Result<List<Way>, OutOfMemory>
-    ensures { IfOk result (λ it. it ≡ way ∷ []) }
+/// The list of the way that has matched nothing.
+fn begun(alloc: Global, count: usize) -> Result<List<Way>, OutOfMemory>
+    ensures { IfOk result (λ it. it ≡ empty_way count ∷ []) }
 {
     let mut ways = List::new(alloc);
-    ways.push(way)?;
+    ways.push(empty_way(alloc, count)?)?;
     Ok(ways)
 }
 
-/// The way with one more term met.
-fn met(alloc: Global, way: &Way, own: &Term) -> Result<Way, OutOfMemory>
-    ensures { IfOk result (λ it. it ≡ met way.now own.now) }
-{
-    let mut longer = way.copy(alloc)?;
-    longer.to.push(own.copy(alloc)?)?;
-    Ok(longer)
-}
-
-/// The way with one more term met, by the equality of an entry.
-fn met_by(
+/// The ways that go on from the given ones by the next atom.
+fn kept_of(
     alloc: Global,
-    way: &Way,
-    own: &Term,
-    place: usize,
-    product: &RowBits,
-) -> Result<Way, OutOfMemory>
-    requires { length way.now.product ≡ length product.now }
-    ensures { IfOk result (λ it. it ≡ met_by way.now own.now place product.now) }
-{
-    let mut next = met(alloc, way, own)?;
-    next.links.push(place)?;
-    next.product.union(product);
-    Ok(next)
-}
-
-/// The way with one more fact, of an entry.
-fn begun(alloc: Global, way: &Way, place: usize, product: &RowBits) -> Result<Way, OutOfMemory>
-    requires { length way.now.product ≡ length product.now }
-    ensures { IfOk result (λ it. it ≡ begun way.now place product.now) }
-{
-    let mut further = way.copy(alloc)?;
-    further.facts.push(place)?;
-    further.product.union(product);
-    Ok(further)
-}
-
-/// An equality of the two terms that rests on no atom beyond the set, if there is one.
-fn free_link<'a>(
-    entries: &'a [Entry],
-    own: &Term,
-    goal: &Term,
-    product: &RowBits,
-) -> Option<(usize, &'a Entry)>
-    requires { AreOfCount (length product.now) entries.now }
-    ensures { IfSome result (λ it.
-        IsFreeLink entries.now own.now goal.now product.now it.0 it.1.now) }
-{
-    'entries: for (place, entry) in entries.iter().enumerate() {
-        if entry.product.within(product) && entry.claim.says_one(own, goal) {
-            return Some((place, entry));
-        }
-    }
-    None
-}
-
-/// One way, with one term more, which is made what it has to meet by an equality. Where an equality rests on no atom that
-/// the way does not rest on, it is enough.
-fn longer_by_links(
-    alloc: Global,
-    entries: &[Entry],
-    from: &[Term],
-    term: &Term,
-    own: &Term,
-    goal: &Term,
-    before: &Way,
+    level: &Level,
+    given: &[Way],
+    count: usize,
 ) -> Result<List<Way>, OutOfMemory>
-    requires goal { goal.now
-        ≡ taken (from.now ++ term.now ∷ []) (before.now.to ++ own.now ∷ []) term.now }
-    requires apart { own.now ≢ goal.now }
-    requires counts { AreOfCount (length before.now.product) entries.now }
-    ensures longer { IfOk result
-        (λ ways. AreLonger entries.now from.now term.now own.now (before.now ∷ []) ways) }
-    ensures counted { IfOk result (λ ways. AreCounted (length before.now.product) ways) }
+    requires lengths { (way : Way) → Contains given.now way
+        → length level.now.from.now ≡ length way.to }
+    requires given { AreCounted count given.now }
+    requires counts { AreOfCount count level.now.known.now }
+    ensures come { IfOk result (λ ways. (way : Way) → Contains ways way
+        → (before : Way) × Contains given.now before
+        × Comes level.now.known.now level.now.from.now level.now.atom.now before way) }
+    ensures goes { IfOk result (λ ways. (before : Way) → Contains given.now before
+        → GoesOn level.now.known.now level.now.since level.now.from.now level.now.atom.now
+        level.now.places.now before ways) }
+    ensures counted { IfOk result (AreCounted count) }
 {
-    if let Some((place, entry)) = free_link(entries, own, goal, &before.product) {
-        let ways = only(alloc, met_by(alloc, before, own, place, &entry.product)?)?;
-        return Ok(ways);
-    }
-    let mut ways = List::new(alloc);
-    'entries: for (place, entry) in entries.iter().enumerate() {
-        if entry.claim.says_one(own, goal) {
-            ways.push(met_by(alloc, before, own, place, &entry.product)?)?;
-        }
-    }
-    Ok(ways)
+    let facts = facts_of(alloc, level.known, level.atom.relation)?;
+    let mut kept = Kept::new(alloc, given.len().max(64))?;
+    match_all(alloc, level, given, facts.items(), count, &mut kept)?;
+    Ok(kept.into_list())
 }
 
-/// One way, with one term more.
-fn longer(
+/// The places among the terms so far and those of the atom that tell what the live terms meet.
+fn places_for(
     alloc: Global,
-    entries: &[Entry],
-    from: &[Term],
-    term: &Term,
-    own: &Term,
-    before: &Way,
-) -> Result<List<Way>, OutOfMemory>
-    requires lengths { length from.now ≡ length before.now.to }
-    requires counts { AreOfCount (length before.now.product) entries.now }
-    ensures longer { IfOk result
-        (λ ways. AreLonger entries.now from.now term.now own.now (before.now ∷ []) ways) }
-    ensures counted { IfOk result (λ ways. AreCounted (length before.now.product) ways) }
+    from: &Terms,
+    atom: &Atom,
+    live: &[Term],
+) -> Result<Places, OutOfMemory>
+    ensures { IfOk result (λ it. (term : Term) → Contains live.now term
+        → TellsOne (from.now ++ atom.now.terms) it term) }
 {
-    let goal = to_meet(from, before.to.items(), term, own);
-    if own.equal(goal) {
-        let ways = only(alloc, met(alloc, before, own)?)?;
-        return Ok(ways);
-    }
-    let ways = longer_by_links(alloc, entries, from, term, own, goal, before)?;
-    Ok(ways)
+    let mut terms = from.copy(alloc)?;
+    terms.append(atom.terms.copy(alloc)?)?;
+    let places = telling_places(alloc, terms.items(), live)?;
+    Ok(places)
 }
 
-/// All of the given ways, with one term more.
-fn all_longer(
+/// The ways that go on from the given ones by one atom, as far as they tell what the live terms meet: the terms of the atoms that
+/// are still to come, and those that are asked for in the end. Those that use nothing from a place on are left out, unless that is 0.
+pub fn match_next(
     alloc: Global,
-    entries: &[Entry],
-    from: &[Term],
-    term: &Term,
-    own: &Term,
+    known: &Known,
+    since: usize,
+    from: &Terms,
+    atom: &Atom,
+    live: &[Term],
     given: &[Way],
     count: usize,
 ) -> Result<List<Way>, OutOfMemory>
     requires lengths { (way : Way) → Contains given.now way → length from.now ≡ length way.to }
-    requires counted { AreCounted count given.now }
-    requires counts { AreOfCount count entries.now }
-    ensures longer { IfOk result
-        (λ ways. AreLonger entries.now from.now term.now own.now given.now ways) }
-    ensures counted { IfOk result (λ ways. AreCounted count ways) }
+    requires given { AreCounted count given.now }
+    requires counts { AreOfCount count known.now }
+    ensures next { IfOk result
+        (AreNext known.now since from.now atom.now live.now given.now) }
+    ensures counted { IfOk result (AreCounted count) }
 {
-    let mut ways = List::new(alloc);
-    'given: for before in given {
-        ways.append(longer(alloc, entries, from, term, own, before)?)?;
-    }
+    let places = places_for(alloc, from, atom, live)?;
+    let level = Level {
+        known,
+        since,
+        from: from.items(),
+        atom,
+        places: places.items(),
+    };
+    let ways = kept_of(alloc, &level, given, count)?;
     Ok(ways)
 }
 
-impl Replicate for Way {
-    fn copy(&self, alloc: Global) -> Result<Way, OutOfMemory> {
-        Ok(Way {
-            to: self.to.copy(alloc)?,
-            facts: self.facts.copy(alloc)?,
-            links: self.links.copy(alloc)?,
-            product: self.product.copy(alloc)?,
-        })
-    }
-}
-
-/// Goes on by one term, and what it meets, from the terms before it and the ways that go through them.
+/// Goes on by one atom, from the terms of those before it and the ways that match them.
 fn go_on(
     alloc: Global,
-    entries: &[Entry],
-    term: &Term,
-    own: &Term,
-    count: usize,
-    from: &mut Terms,
-    ways: &mut List<Way>,
-) -> Result<(), OutOfMemory>
-    requires lengths { (way : Way) → Contains ways.old way → length from.old ≡ length way.to }
-    requires counted { AreCounted count ways.old }
-    requires counts { AreOfCount count entries.now }
-    ensures longer { OnOk result
-        (AreLonger entries.now from.old term.now own.now ways.old ways.new) }
-    ensures counted { OnOk result (AreCounted count ways.new) }
-    ensures from { OnOk result (from.new ≡ from.old ++ term.now ∷ []) }
-{
-    let longer = all_longer(alloc, entries, from.items(), term, own, ways.items(), count)?;
-    *ways = longer;
-    from.push(term.copy(alloc)?)?;
-    Ok(())
-}
-
-/// The ways that begin with the start and go through a row of terms and what they meet.
-pub fn through_row(
-    alloc: Global,
-    entries: &[Entry],
-    from: &Terms,
-    terms: &[Term],
-    owns: &[Term],
-    start: &Way,
-    count: usize,
-) -> Result<List<Way>, OutOfMemory>
-    requires lengths { length from.now ≡ length start.now.to }
-    requires rows { length owns.now ≡ length terms.now }
-    requires counted { length start.now.product ≡ count }
-    requires counts { AreOfCount count entries.now }
-    ensures rows { IfOk result
-        (λ ways. AreRows entries.now from.now terms.now owns.now start.now ways) }
-    ensures counted { IfOk result (λ ways. AreCounted count ways) }
-{
-    let mut ways = only(alloc, start.copy(alloc)?)?;
-    let mut earlier = from.copy(alloc)?;
-    'row: for (place, term) in terms.iter().enumerate() {
-        go_on(
-            alloc,
-            entries,
-            term,
-            &owns[place],
-            count,
-            &mut earlier,
-            &mut ways,
-        )?;
-    }
-    Ok(ways)
-}
-
-/// The ways that go on from one through the row of a fact, of an entry at a place with that product.
-pub fn through_fact(
-    alloc: Global,
-    entries: &[Entry],
-    from: &Terms,
-    atom: &Atom,
-    before: &Way,
-    place: usize,
-    product: &RowBits,
-    fact: &Atom,
-    count: usize,
-) -> Result<List<Way>, OutOfMemory>
-    requires lengths { length from.now ≡ length before.now.to }
-    requires rows { length fact.now.terms ≡ length atom.now.terms }
-    requires counted { length before.now.product ≡ count }
-    requires counts { AreOfCount count entries.now }
-    requires product { length product.now ≡ count }
-    ensures rows { IfOk result (λ ways. AreRows entries.now from.now atom.now.terms fact.now.terms
-        (begun before.now place product.now) ways) }
-    ensures counted { IfOk result (λ ways. AreCounted count ways) }
-{
-    let start = begun(alloc, before, place, product)?;
-    let ways = through_row(
-        alloc,
-        entries,
-        from,
-        atom.terms.items(),
-        fact.terms.items(),
-        &start,
-        count,
-    )?;
-    Ok(ways)
-}
-
-/// The ways through the fact of an entry, where it has one that is alike to the atom.
-fn ways_through(
-    alloc: Global,
-    entries: &[Entry],
-    from: &Terms,
-    atom: &Atom,
-    before: &Way,
-    place: usize,
-    entry: &Entry,
-    count: usize,
-) -> Result<List<Way>, OutOfMemory>
-    requires lengths { length from.now ≡ length before.now.to }
-    requires counted { length before.now.product ≡ count }
-    requires counts { AreOfCount count entries.now }
-    requires product { length entry.now.product ≡ count }
-    ensures through { IfOk result (λ ways. AreThrough entries.now from.now atom.now before.now
-        place entry.now.product entry.now.claim ways) }
-    ensures counted { IfOk result (λ ways. AreCounted count ways) }
-{
-    match &entry.claim {
-        Claim::Same(_, _) => Ok(List::new(alloc)),
-        Claim::Fact(fact) => {
-            if fact.relation != atom.relation || fact.terms.len() != atom.terms.len() {
-                return Ok(List::new(alloc));
-            }
-            if !row_may_pass(
-                entries,
-                from.items(),
-                before.to.items(),
-                atom.terms.items(),
-                fact.terms.items(),
-            ) {
-                return Ok(List::new(alloc));
-            }
-            through_fact(
-                alloc,
-                entries,
-                from,
-                atom,
-                before,
-                place,
-                &entry.product,
-                fact,
-                count,
-            )
-        }
-    }
-}
-
-/// One way, with a fact for one atom more.
-fn matched(
-    alloc: Global,
-    entries: &[Entry],
-    from: &Terms,
-    atom: &Atom,
-    before: &Way,
-    count: usize,
-) -> Result<List<Way>, OutOfMemory>
-    requires lengths { length from.now ≡ length before.now.to }
-    requires counted { length before.now.product ≡ count }
-    requires counts { AreOfCount count entries.now }
-    ensures matched { IfOk result
-        (λ ways. AreMatched entries.now from.now atom.now (before.now ∷ []) ways) }
-    ensures counted { IfOk result (λ ways. AreCounted count ways) }
-{
-    let mut ways = List::new(alloc);
-    'entries: for (place, entry) in entries.iter().enumerate() {
-        ways.append(ways_through(alloc, entries, from, atom, before, place, entry, count)?)?;
-    }
-    Ok(ways)
-}
-
-/// All of the given ways, with a fact for one atom more.
-fn all_matched(
-    alloc: Global,
-    entries: &[Entry],
-    from: &Terms,
-    atom: &Atom,
-    given: &[Way],
-    count: usize,
-) -> Result<List<Way>, OutOfMemory>
-    requires lengths { (way : Way) → Contains given.now way → length from.now ≡ length way.to }
-    requires counted { AreCounted count given.now }
-    requires counts { AreOfCount count entries.now }
-    ensures matched { IfOk result
-        (λ ways. AreMatched entries.now from.now atom.now given.now ways) }
-    ensures counted { IfOk result (λ ways. AreCounted count ways) }
-{
-    let mut ways = List::new(alloc);
-    'given: for before in given {
-        ways.append(matched(alloc, entries, from, atom, before, count)?)?;
-    }
-    Ok(ways)
-}
-
-/// Goes on by one atom, from the terms of those before it and the ways that match them. Of the ways, those are kept that
-/// tell what the live terms meet: the terms of the atoms that are still to come, and those that are asked for in the end.
-fn match_next(
-    alloc: Global,
-    entries: &[Entry],
+    known: &Known,
     atom: &Atom,
     live: &[Term],
     count: usize,
@@ -395,20 +131,19 @@ fn match_next(
 ) -> Result<(), OutOfMemory>
     requires lengths { (way : Way) → Contains ways.old way → length from.old ≡ length way.to }
     requires counted { AreCounted count ways.old }
-    requires counts { AreOfCount count entries.now }
+    requires counts { AreOfCount count known.now }
     ensures next { OnOk result
-        (AreNext entries.now from.old atom.now live.now ways.old ways.new) }
+        (AreNext known.now 0 from.old atom.now live.now ways.old ways.new) }
     ensures counted { OnOk result (AreCounted count ways.new) }
     ensures from { OnOk result (from.new ≡ from.old ++ atom.now.terms) }
 {
-    let matched = all_matched(alloc, entries, from, atom, ways.items(), count)?;
+    *ways = match_next(alloc, known, 0, from, atom, live, ways.items(), count)?;
     from.append(atom.terms.copy(alloc)?)?;
-    *ways = without_covered(alloc, from.items(), live, matched.items(), count)?;
     Ok(())
 }
 
 /// The terms of the atoms, and then those that are asked for.
-fn live_terms(alloc: Global, atoms: &[Atom], asked: &[Term]) -> Result<Terms, OutOfMemory>
+pub fn live_terms(alloc: Global, atoms: &[Atom], asked: &[Term]) -> Result<Terms, OutOfMemory>
     ensures { IfOk result (λ it. it ≡ terms_of atoms.now ++ asked.now) }
 {
     let mut terms = terms_of(alloc, atoms)?;
@@ -422,22 +157,22 @@ fn live_terms(alloc: Global, atoms: &[Atom], asked: &[Term]) -> Result<Terms, Ou
 /// asked for: in each world, each direct match agrees on these with one of them, whose product is within the world's set.
 pub fn matches_of(
     alloc: Global,
-    entries: &[Entry],
+    known: &Known,
     body: &[Atom],
     asked: &[Term],
     count: usize,
 ) -> Result<List<Way>, OutOfMemory>
-    requires counts { AreOfCount count entries.now }
-    ensures found { IfOk result (λ ways. AreFound entries.now body.now asked.now ways) }
+    requires counts { AreOfCount count known.now }
+    ensures found { IfOk result (λ ways. AreFound known.now body.now asked.now ways) }
     ensures counted { IfOk result (λ ways. AreCounted count ways) }
 {
-    let mut ways = only(alloc, empty_way(alloc, count)?)?;
+    let mut ways = begun(alloc, count)?;
     let mut from = List::new(alloc);
     'atoms: for (place, atom) in body.iter().enumerate() {
         let live = live_terms(alloc, &body[place + 1..], asked)?;
-        match_next(
+        go_on(
             alloc,
-            entries,
+            known,
             atom,
             live.items(),
             count,

@@ -1,12 +1,13 @@
--- Indexes of entries: one entry more, and what is found by them.
+-- Indexes of claims: a walk along the chain of a key, and what it finds.
 use Rattle.std.proofs.Common.{◌≡◌, inl, inr, ℕ, zero, suc, ◌+◌, ◌<◌, ◌≤◌, Bool, true, false, cond, List, [], ◌∷◌, ◌++◌, length, map, take, get_or, Some, slice_get}
 use Rattle.std.proofs.Common.{Contains, refl, sym, ap, ◌∙◌, subst, arith, max, min}
 use Rattle.std.proofs.lemmas.Bool.{false≢true, cases_order}
-use Rattle.std.proofs.lemmas.List.{length-append, length-map, map-append, take_all}
+use Rattle.std.proofs.lemmas.List.{map-append, take_all}
 use Rattle.std.proofs.lemmas.List.Elements.{Contains-append_left, Contains-append_right}
-use Rattle.std.proofs.lemmas.Option.{slice_get_within}
+use Rattle.std.proofs.lemmas.Option.{none-some, slice_get_within, get_or_from_slice_get}
 use Rattle.esto_term.specs.declared.term.Term.{Term}
-use Rattle.esto_term.proofs.ListLemmas.{Contains-at, Contains-head, Contains-rest, place-from_Contains, map_at, at_left, at_end, at_pushed}
+use Rattle.esto_semantics.specs.declared.fact.Fact.{Fact}
+use Rattle.esto_term.proofs.ListLemmas.{Contains-at, Contains-head, Contains-rest, place-from_Contains, map_at}
 use Rattle.esto_term.proofs.PlaceLemmas.{take-item}
 use Rattle.esto_columns.specs.Indexed.{Index, IsIndexOf, LeadsOn, AreAmongPlaces, bucket_of, mixed}
 use Rattle.esto_columns.specs.Picked.{places_where}
@@ -14,77 +15,34 @@ use Rattle.esto_world_laws.specs.Worlds.{SaysOne}
 use Rattle.esto_world_laws.specs.Claims.{AreSameClaim}
 use Rattle.esto_world_laws.specs.declared.entry.Claim.{Claim}
 use Rattle.esto_world_laws.specs.declared.entry.Claim.TheVariants.{Fact as Stated, Same}
-use Rattle.esto_world_laws.specs.declared.entry.Entry.{Entry}
-use Rattle.esto_known.specs.Hashes.{claim_key, left_key, right_key, pair_hash, term_hash}
-use Rattle.esto_known.specs.Indexes.{Indexes, HasSide, CoversClaim, CoversAt}
+use Rattle.esto_known.specs.Hashes.{claim_key, first_key, second_key, pair_hash, term_hash, relation_hash}
+use Rattle.esto_known.specs.Indexes.{AreKeysOf, HasSide}
+use Rattle.esto_known.specs.Groups.{claims_of, StatesAt, LinksAt}
+use Rattle.esto_known.specs.declared.group.Group.{Group}
+use Rattle.esto_known.specs.declared.keys.Keys.{Keys}
 
--- ---- one entry more
+-- ---- one claim more
 
--- the index is that of the entries and of one claim more
-pub record IsAhead (key : Claim → List ℕ) (entries : List Entry) (claim : Claim) (index : Index) : Type 0 where
-  pub listed : List (List ℕ)
-  pub is : IsIndexOf index listed
-  pub at : (place : ℕ) (entry : Entry) → slice_get entries place ≡ Some entry → slice_get listed place ≡ Some (key entry.claim)
-  pub last : slice_get listed (length entries) ≡ Some (key claim)
-  pub long : length listed ≡ length entries + 1
+pub key_more : (key : Claim → List ℕ) (claims : List Claim) (claim : Claim) (own : List ℕ) (index later : Index) → own ≡ key claim
+    → IsIndexOf index (map key claims)
+    → ((listed : List (List ℕ)) → IsIndexOf index listed → IsIndexOf later (listed ++ own ∷ [])) → IsIndexOf later (map key (claims ++ claim ∷ []))
+key_more key claims claim own index later own_is its put =
+    subst (IsIndexOf later) (ap (λ it. map key claims ++ it ∷ []) own_is ∙ sym (map-append key claims (claim ∷ []))) (put (map key claims) its)
 
-module _ (key : Claim → List ℕ) where
-  pub indexes_none : (entries : List Entry) (whole : Bool) (index : Index) → entries ≡ [] → IsIndexOf index [] → Indexes key entries whole index
-  indexes_none entries whole index none is = rw none record { listed = []; is = is; at = λ place entry at. absurd (cc); long = λ _. refl }
+-- the keys of one group more
+pub groups_turn : (groups items : List Group) (place : ℕ) (group : Group) (keys later : Keys) → items ≡ groups → place < length items
+    → group ≡ get_or items place group → AreKeysOf keys (claims_of (take place groups))
+    → ((claims : List Claim) → AreKeysOf keys claims → AreKeysOf later (claims ++ group.claim ∷ [])) → AreKeysOf later (claims_of (take (place + 1) groups))
+groups_turn groups items place group keys later same within is so_far put =
+    let more : take (place + 1) groups ≡ take place groups ++ group ∷ [] =
+    subst (λ its. take (place + 1) its ≡ take place its ++ group ∷ []) same (take-item items place group within is) in
+    subst (AreKeysOf later) (sym (map-append (λ (it : Group). it.claim) (take place groups) (group ∷ [])) ∙ ap claims_of (sym more))
+    (put (claims_of (take place groups)) so_far)
 
-  pub indexes_torn : (entries : List Entry) (whole : Bool) (index : Index) → Indexes key entries whole index → Indexes key entries false index
-  indexes_torn entries whole index its = record { listed = its.listed; is = its.is; at = its.at; long = λ wrong. absurd (false≢true wrong) }
-
-  pub index_ahead : (entries : List Entry) (whole : Bool) (index later : Index) (claim : Claim) (own : List ℕ) → whole ≡ true
-      → Indexes key entries whole index → own ≡ key claim
-      → ((listed : List (List ℕ)) → IsIndexOf index listed → IsIndexOf later (listed ++ own ∷ [])) → IsAhead key entries claim later
-  index_ahead entries whole index later claim own is_whole its own_is put =
-      let long = its.long is_whole in record {
-        listed = its.listed ++ own ∷ [];
-        is = put its.listed its.is;
-        at = λ place entry at. at_left its.listed (own ∷ []) place (key entry.claim) (its.at place entry at);
-        last = ap (slice_get (its.listed ++ own ∷ [])) (sym long) ∙ at_end its.listed own ∙ ap Some own_is;
-        long = length-append its.listed (own ∷ []) ∙ ap (λ n. n + 1) long;
-      }
-
-  pub ahead_torn : (entries : List Entry) (claim : Claim) (index : Index) → IsAhead key entries claim index → Indexes key entries false index
-  ahead_torn entries claim index its = record { listed = its.listed; is = its.is; at = its.at; long = λ wrong. absurd (false≢true wrong) }
-
-  pub ahead_whole : (entries later : List Entry) (entry : Entry) (index : Index) → later ≡ entries ++ entry ∷ []
-      → IsAhead key entries entry.claim index → Indexes key later true index
-  ahead_whole entries later entry index grown its = rw grown record {
-    listed = its.listed;
-    is = its.is;
-    at = λ place own at. elim (at_pushed entries entry place own at) [
-      | inl old ↦ its.at place own old
-      | inr new ↦ ap (slice_get its.listed) new.0 ∙ its.last ∙ ap (λ (it : Entry). Some (key it.claim)) new.1
-    ];
-    long = λ _. its.long ∙ sym (length-append entries (entry ∷ []));
-  }
-
-  -- ---- all entries
-
-  pub keys_more : (entries items : List Entry) (place : ℕ) (entry : Entry) (index later : Index) (own : List ℕ) → items ≡ entries → place < length items
-      → entry ≡ get_or items place entry → own ≡ key entry.claim
-      → IsIndexOf index (map (λ (it : Entry). key it.claim) (take place entries))
-      → ((listed : List (List ℕ)) → IsIndexOf index listed → IsIndexOf later (listed ++ own ∷ []))
-      → IsIndexOf later (map (λ (it : Entry). key it.claim) (take (place + 1) entries))
-  keys_more entries items place entry index later own same within is own_is so_far put =
-      let more : take (place + 1) entries ≡ take place entries ++ entry ∷ [] =
-      subst (λ its. take (place + 1) its ≡ take place its ++ entry ∷ []) same (take-item items place entry within is) in
-      let keys : map (λ (it : Entry). key it.claim) (take (place + 1) entries) ≡ map (λ (it : Entry). key it.claim) (take place entries) ++ own ∷ [] =
-      ap (map (λ (it : Entry). key it.claim)) more ∙ map-append (λ (it : Entry). key it.claim) (take place entries) (entry ∷ [])
-      ∙ ap (λ it. map (λ (it : Entry). key it.claim) (take place entries) ++ it ∷ []) (sym own_is) in
-      subst (IsIndexOf later) (sym keys) (put (map (λ (it : Entry). key it.claim) (take place entries)) so_far)
-
-  pub keys_all : (entries items : List Entry) (place : ℕ) (index : Index) → items ≡ entries → length items ≤ place
-      → IsIndexOf index (map (λ (it : Entry). key it.claim) (take place entries)) → Indexes key entries true index
-  keys_all entries items place index same past so_far = record {
-    listed = map (λ (it : Entry). key it.claim) entries;
-    is = subst (λ its. IsIndexOf index (map (λ (it : Entry). key it.claim) its)) (take_all place entries (subst (λ its. length its ≤ place) same past)) so_far;
-    at = λ place entry at. map_at (λ (it : Entry). key it.claim) entries place entry at;
-    long = λ _. length-map entries (λ (it : Entry). key it.claim);
-  }
+pub groups_all : (groups items : List Group) (place : ℕ) (keys : Keys) → items ≡ groups → length items ≤ place → AreKeysOf keys (claims_of (take place groups))
+    → AreKeysOf keys (claims_of groups)
+groups_all groups items place keys same past so_far =
+    subst (λ its. AreKeysOf keys (claims_of its)) (take_all place groups (subst (λ its. length its ≤ place) same past)) so_far
 
 -- ---- a walk along the chain of a key
 
@@ -129,27 +87,36 @@ max_either one other =
     let high : max one other ≡ max other one = omega arith in
     let low : min one other ≡ min other one = omega arith in λ i. mixed (high i) (low i)
 
--- one claim has one key
-pub same_key : (claim other : Claim) → AreSameClaim claim other → claim_key claim ≡ claim_key other
-same_key (Stated fact) (Stated its) same = ap (λ it. claim_key (Stated it)) same
-same_key (Stated fact) (Same left right) same = absurd same
-same_key (Same left right) (Stated its) same = absurd same
-same_key (Same left right) (Same one other) (inl same) = λ i. pair_hash (term_hash (same.0 i)) (term_hash (same.1 i)) ∷ []
-same_key (Same left right) (Same one other) (inr same) =
-    (λ i. pair_hash (term_hash (same.0 i)) (term_hash (same.1 i)) ∷ []) ∙ ap (λ it. it ∷ []) (max_either (term_hash other) (term_hash one))
+says_key : (claim : Claim) (term other : Term) → SaysOne claim term other → claim_key claim ≡ claim_key (Same term other)
+says_key claim term other says = elim says [
+  | inl is ↦ ap claim_key is
+  | inr is ↦ ap claim_key is ∙ ap (λ it. it ∷ []) (max_either (term_hash other) (term_hash term))
+]
 
-pub covered_at : (entries : List Entry) (claim : Claim) (product : List Bool) (place : ℕ) → CoversAt entries claim product place → CoversClaim entries claim product
-covered_at entries claim product place (entry, at, same, within) = (entry, Contains-at entries place entry at, same, within)
+pub key_at : (key : Claim → List ℕ) (groups : List Group) (place : ℕ) (group : Group) → slice_get groups place ≡ Some group
+    → slice_get (map key (claims_of groups)) place ≡ Some (key group.claim)
+key_at key groups place group at =
+    map_at key (claims_of groups) place group.claim (map_at (λ (it : Group). it.claim) groups place group at)
 
--- no place of the claim's key is left that covers it
-pub none_left : (entries : List Entry) (claim : Claim) (product : List Bool) (index : Index) (whole : Bool) (its : Indexes claim_key entries whole index) (next : ℕ)
-    → Sought index its.listed (claim_key claim) (CoversAt entries claim product) next → next ≤ 0 → CoversClaim entries claim product → ⊥
-none_left entries claim product index whole its next sought none (entry, inside, same, within) =
-    let at = place-from_Contains entries entry inside in
-    let key : slice_get its.listed at.0 ≡ Some (claim_key claim) = its.at at.0 entry at.1 ∙ ap Some (same_key entry.claim claim same) in
-    let under = sought.left at.0 key (entry, at.1, same, within) in omega (arith, none, under)
+-- where nothing of the chain is left, no group states the fact
+pub stating_none : (groups : List Group) (index : Index) (fact : Fact Term) (next : ℕ) → next ≤ 0
+    → Sought index (map claim_key (claims_of groups)) (claim_key (Stated fact)) (StatesAt groups fact) next
+    → (group : Group) → Contains groups group → group.claim ≡ Stated fact → ⊥
+stating_none groups index fact next none sought group inside is =
+    let at = place-from_Contains groups group inside in
+    let under = sought.left at.0 (key_at claim_key groups at.0 group at.1 ∙ ap (λ it. Some (claim_key it)) is) (group, at.1, is) in
+    omega (arith, none, under)
 
--- ---- places of a side
+-- and none links the terms
+pub linking_none : (groups : List Group) (index : Index) (term other : Term) (next : ℕ) → next ≤ 0
+    → Sought index (map claim_key (claims_of groups)) (claim_key (Same term other)) (LinksAt groups term other) next
+    → (group : Group) → Contains groups group → SaysOne group.claim term other → ⊥
+linking_none groups index term other next none sought group inside says =
+    let at = place-from_Contains groups group inside in
+    let under = sought.left at.0 (key_at claim_key groups at.0 group at.1 ∙ ap Some (says_key group.claim term other says)) (group, at.1, says) in
+    omega (arith, none, under)
+
+-- ---- places of a key
 
 where_has : {X : Type 0} (test : X → Bool) (from : ℕ) (xs : List X) (place : ℕ) (x : X) → slice_get xs place ≡ Some x → test x ≡ true
     → Contains (places_where test from xs) (from + place)
@@ -171,27 +138,72 @@ pub among_has : (key : List ℕ) (listed : List (List ℕ)) (places : List ℕ) 
 among_has key listed places place (test, passes, are) at = subst (λ its. Contains its place) (sym are)
     (subst (Contains (places_where test 0 listed)) (omega arith) (where_has test 0 listed place key at passes))
 
--- the places of both keys of a term have all equalities with it as a side
-pub sides_found : (entries : List Entry) (term : Term) (left right : Index) (whole : Bool) (lefts rights places : List ℕ)
-    (its : Indexes left_key entries whole left) (others : Indexes right_key entries whole right)
-    → AreAmongPlaces (term_hash term ∷ []) its.listed lefts → AreAmongPlaces (term_hash term ∷ []) others.listed rights → places ≡ lefts ++ rights
-    → (place : ℕ) (entry : Entry) → slice_get entries place ≡ Some entry → HasSide entry.claim term → Contains places place
-sides_found entries term left right whole lefts rights places its others in_lefts in_rights are place entry at side =
-    subst (λ it. Contains it place) (sym are) (by entry.claim refl side)
-  where
-    by : (claim : Claim) → entry.claim ≡ claim → HasSide claim term → Contains (lefts ++ rights) place
-    by (Stated fact) is has = absurd has
-    by (Same one other) is (inl same) = Contains-append_left lefts rights place (among_has (term_hash term ∷ []) its.listed lefts place in_lefts
-        (its.at place entry at ∙ ap (λ it. Some (left_key it)) is ∙ ap (λ it. Some (term_hash it ∷ [])) same))
-    by (Same one other) is (inr same) = Contains-append_right lefts rights place (among_has (term_hash term ∷ []) others.listed rights place in_rights
-        (others.at place entry at ∙ ap (λ it. Some (right_key it)) is ∙ ap (λ it. Some (term_hash it ∷ [])) same))
+none_at : (groups : List Group) (place : ℕ) (group : Group) → groups ≡ [] → slice_get groups place ≡ Some group → ⊥
+none_at groups place group none at = none-some group (subst (λ its. slice_get its place ≡ Some group) none at)
 
--- the places of the key of two terms have all equalities that say that they are one
-pub saying_found : (entries : List Entry) (term other : Term) (index : Index) (whole : Bool) (places : List ℕ) (its : Indexes claim_key entries whole index)
-    → AreAmongPlaces (claim_key (Same term other)) its.listed places
-    → (place : ℕ) (entry : Entry) → slice_get entries place ≡ Some entry → SaysOne entry.claim term other → Contains places place
-saying_found entries term other index whole places its among place entry at says =
-    among_has (claim_key (Same term other)) its.listed places place among (its.at place entry at ∙ ap Some (elim says [
-      | inl is ↦ ap claim_key is
-      | inr is ↦ ap claim_key is ∙ same_key (Same other term) (Same term other) (inr (refl, refl))
-    ]))
+-- where the groups are whole, their keys are those of their claims, and else there is no group
+module _ (now inside : List Group) (keys : Keys) (whole : Bool) (view : inside ≡ now)
+    (kept : (whole ≡ true → AreKeysOf keys (claims_of inside)) × (whole ≡ false → inside ≡ [])) where
+  by_keys : (P : Type 0) (place : ℕ) (group : Group) → slice_get now place ≡ Some group
+      → (AreKeysOf keys (claims_of inside) → slice_get inside place ≡ Some group → P) → P
+  by_keys P place group at goes = by whole refl
+    where
+      inside_at : slice_get inside place ≡ Some group
+      inside_at = subst (λ its. slice_get its place ≡ Some group) (sym view) at
+
+      by : (its : Bool) → whole ≡ its → P
+      by true is = goes (kept.0 is) inside_at
+      by false is = absurd (none_at inside place group (kept.1 is) inside_at)
+
+  -- what is put after places of a key has all of the key
+  abbrev Puts : Index → ℕ → List ℕ → List ℕ → Type 0
+  Puts index hash old new =
+      (listed : List (List ℕ)) → IsIndexOf index listed → (found : List ℕ) × AreAmongPlaces (hash ∷ []) listed found × (new ≡ old ++ found)
+
+  put_old : (index : Index) (listed : List (List ℕ)) (hash : ℕ) (old new : List ℕ) → IsIndexOf index listed → Puts index hash old new → (place : ℕ)
+      → Contains old place → Contains new place
+  put_old index listed hash old new is puts place inside = let found = puts listed is in
+      subst (λ it. Contains it place) (sym found.2) (Contains-append_left old found.0 place inside)
+
+  put_found : (index : Index) (listed : List (List ℕ)) (hash : ℕ) (old new : List ℕ) → IsIndexOf index listed → Puts index hash old new → (place : ℕ)
+      → slice_get listed place ≡ Some (hash ∷ []) → Contains new place
+  put_found index listed hash old new is puts place at = let found = puts listed is in
+      subst (λ it. Contains it place) (sym found.2) (Contains-append_right old found.0 place (among_has (hash ∷ []) listed found.0 place found.1 at))
+
+  -- the places of the key of a relation have all groups of its facts
+  pub relation_found : (relation hash : ℕ) (places : List ℕ) → hash ≡ relation_hash relation → (none : List ℕ) → Puts keys.by_first hash none places
+      → (place : ℕ) (group : Group) (fact : Fact Term) → slice_get now place ≡ Some group → group.claim ≡ Stated fact → fact.relation ≡ relation
+      → Contains places place
+  relation_found relation hash places hash_is none puts place group fact at is same =
+      by_keys (Contains places place) place group at (λ own inside_at.
+      put_found keys.by_first (map first_key (claims_of inside)) hash none places own.by_first puts place
+      (key_at first_key inside place group inside_at ∙ ap (λ it. Some (first_key it)) is
+      ∙ ap (λ it. Some (it ∷ [])) (ap relation_hash same ∙ sym hash_is)))
+
+  -- the places of both keys of a term have all groups of equalities with it as a side
+  pub sides_found : (term : Term) (hash : ℕ) (firsts places : List ℕ) → hash ≡ term_hash term → (none : List ℕ) → Puts keys.by_first hash none firsts
+      → Puts keys.by_second hash firsts places
+      → (place : ℕ) (group : Group) → slice_get now place ≡ Some group → HasSide group.claim term → Contains places place
+  sides_found term hash firsts places hash_is none puts_first puts_second place group at side =
+      by_keys (Contains places place) place group at (λ own inside_at. by own inside_at group.claim refl side)
+    where
+      by : AreKeysOf keys (claims_of inside) → slice_get inside place ≡ Some group → (claim : Claim) → group.claim ≡ claim → HasSide claim term
+          → Contains places place
+      by own inside_at (Stated fact) is has = absurd has
+      by own inside_at (Same one other) is (inl same) = put_old keys.by_second (map second_key (claims_of inside)) hash firsts places own.by_second
+          puts_second place (put_found keys.by_first (map first_key (claims_of inside)) hash none firsts own.by_first puts_first place
+          (key_at first_key inside place group inside_at ∙ ap (λ it. Some (first_key it)) is
+          ∙ ap (λ it. Some (it ∷ [])) (ap term_hash same ∙ sym hash_is)))
+      by own inside_at (Same one other) is (inr same) = put_found keys.by_second (map second_key (claims_of inside)) hash firsts places own.by_second
+          puts_second place (key_at second_key inside place group inside_at ∙ ap (λ it. Some (second_key it)) is
+          ∙ ap (λ it. Some (it ∷ [])) (ap term_hash same ∙ sym hash_is))
+
+-- what is read at the place that was found is a group that fits
+pub found_group : (now inside items : List Group) (place : ℕ) (read : Group) (P : Group → Type 0) → items ≡ inside → inside ≡ now
+    → read ≡ get_or inside place read → (found : Group) → slice_get items place ≡ Some found → P found → Contains now read × P read
+found_group now inside items place read P items_are inside_is read_is found at fits =
+    let inside_at : slice_get inside place ≡ Some found = subst (λ its. slice_get its place ≡ Some found) items_are at in
+    let is : found ≡ read = sym (read_is ∙ get_or_from_slice_get inside place found read inside_at) in (
+      subst (Contains now) is (Contains-at now place found (subst (λ its. slice_get its place ≡ Some found) inside_is inside_at)),
+      subst P is fits,
+    )

@@ -1,2 +1,3 @@
 mod HashLemmas
 mod IndexLemmas
+mod GroupLemmas

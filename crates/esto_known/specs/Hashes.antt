@@ -18,9 +18,13 @@ level_hash (Term-F.Made rule variable hashes) = hash_from (mixed (mixed 2 rule) 
 abbrev pub term_hash : Term → ℕ
 term_hash = fold-Term ℕ level_hash
 
+-- The hash of a relation.
+abbrev pub relation_hash : ℕ → ℕ
+relation_hash relation = mixed 3 relation
+
 -- The hash of a fact.
 abbrev pub fact_hash : Fact Term → ℕ
-fact_hash fact = hash_from (mixed 3 fact.relation) (map term_hash fact.terms)
+fact_hash fact = hash_from (relation_hash fact.relation) (map term_hash fact.terms)
 
 -- The hash of two hashes in either order.
 abbrev pub pair_hash : ℕ → ℕ → ℕ
@@ -31,12 +35,12 @@ abbrev pub claim_key : Claim → List ℕ
 claim_key (Stated fact) = fact_hash fact ∷ []
 claim_key (Same left right) = pair_hash (term_hash left) (term_hash right) ∷ []
 
--- The key of the first side of an equality, and of a fact.
-abbrev pub left_key : Claim → List ℕ
-left_key (Stated fact) = fact_hash fact ∷ []
-left_key (Same left right) = term_hash left ∷ []
+-- The key of a fact's relation, and of the first side of an equality.
+abbrev pub first_key : Claim → List ℕ
+first_key (Stated fact) = relation_hash fact.relation ∷ []
+first_key (Same left right) = term_hash left ∷ []
 
--- The key of the second side of an equality, and of a fact.
-abbrev pub right_key : Claim → List ℕ
-right_key (Stated fact) = fact_hash fact ∷ []
-right_key (Same left right) = term_hash right ∷ []
+-- The key of a fact's relation, and of the second side of an equality.
+abbrev pub second_key : Claim → List ℕ
+second_key (Stated fact) = relation_hash fact.relation ∷ []
+second_key (Same left right) = term_hash right ∷ []

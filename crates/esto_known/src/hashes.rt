@@ -1,7 +1,7 @@
 //! Hashes of terms and of claims.
 ghost use Rattle.std.specs.Prelude.{◌≡◌, ◌∷◌, [], map};
 ghost use Rattle.esto_columns.specs.Indexed.{mixed, hash_from};
-ghost use Rattle.esto_known.specs.Hashes.{term_hash, fact_hash, pair_hash, claim_key, left_key, right_key};
+ghost use Rattle.esto_known.specs.Hashes.{term_hash, relation_hash, fact_hash, pair_hash, claim_key, first_key, second_key};
 
 use esto_semantics::Atom;
 use esto_term::Term;
@@ -45,11 +45,18 @@ pub fn term_hash(term: &Term) -> u64
     }
 }
 
+/// The hash of a relation.
+pub fn relation_hash(relation: u64) -> u64
+    ensures { result ≡ relation_hash relation }
+{
+    mixed(3, relation)
+}
+
 /// The hash of a fact.
 pub fn fact_hash(fact: &Atom) -> u64
     ensures { result ≡ fact_hash fact.now }
 {
-    let mut hash = mixed(3, fact.relation as u64);
+    let mut hash = relation_hash(fact.relation as u64);
     'terms: for term in fact.terms.items() {
         hash = mixed(hash, term_hash(term));
     }
@@ -73,22 +80,22 @@ pub fn claim_key(claim: &Claim) -> [u64; 1]
     }
 }
 
-/// The key of the first side of an equality, and of a fact.
-pub fn left_key(claim: &Claim) -> [u64; 1]
-    ensures { result ≡ left_key claim.now }
+/// The key of a fact's relation, and of the first side of an equality.
+pub fn first_key(claim: &Claim) -> [u64; 1]
+    ensures { result ≡ first_key claim.now }
 {
     match claim {
-        Claim::Fact(fact) => [fact_hash(fact)],
+        Claim::Fact(fact) => [relation_hash(fact.relation as u64)],
         Claim::Same(left, _) => [term_hash(left)],
     }
 }
 
-/// The key of the second side of an equality, and of a fact.
-pub fn right_key(claim: &Claim) -> [u64; 1]
-    ensures { result ≡ right_key claim.now }
+/// The key of a fact's relation, and of the second side of an equality.
+pub fn second_key(claim: &Claim) -> [u64; 1]
+    ensures { result ≡ second_key claim.now }
 {
     match claim {
-        Claim::Fact(fact) => [fact_hash(fact)],
+        Claim::Fact(fact) => [relation_hash(fact.relation as u64)],
         Claim::Same(_, right) => [term_hash(right)],
     }
 }

@@ -1,30 +1,24 @@
-//! Entries with indexes.
-ghost use Rattle.std.specs.Prelude.{◌≡◌, ◌++◌, ◌∷◌, [], ◌↔◌, ◌≤◌, ◌<◌, ℕ, List, Some, Contains, length, slice_get, IsTrue, IfOk, OnOk};
-ghost use Rattle.esto_columns.specs.Indexed.{IsIndexOf};
-ghost use Rattle.esto_term.specs.declared.term.Term.{Term};
-ghost use Rattle.esto_world_laws.specs.Worlds.{AreOfCount, SaysOne};
-ghost use Rattle.esto_world_laws.specs.declared.entry.Entry.{Entry};
-ghost use Rattle.esto_world_laws.specs.declared.entry.Claim.TheVariants.{Same};
-ghost use Rattle.esto_known.specs.Hashes.{claim_key, left_key, right_key};
-ghost use Rattle.esto_known.specs.Indexes.{Indexes, HasSide, CoversClaim, CoversAt, IsPassed};
+//! Entries with their groups.
+ghost use Rattle.std.specs.Prelude.{◌≡◌, ◌++◌, ◌∷◌, [], ◌↔◌, length, IsTrue, IfOk, OnOk};
+ghost use Rattle.esto_world_laws.specs.Worlds.{AreOfCount};
+ghost use Rattle.esto_world_laws.specs.declared.entry.Claim.TheVariants.{Fact as Stated, Same};
+ghost use Rattle.esto_known.specs.Indexes.{CoversClaim};
+ghost use Rattle.esto_known.specs.Groups.{AreGroups};
 
-use crate::hashes::{claim_key, left_key, pair_hash, right_key, term_hash};
+use crate::groups::Groups;
 use esto_bits::RowBits;
-use esto_columns::Index;
-use esto_term::{List, OutOfMemory, Places, Term, Values};
+use esto_semantics::Atom;
+use esto_term::{List, OutOfMemory, Term};
 use esto_world_laws::{Claim, Entry};
 use std::alloc::Global;
 use std::marker::Model;
 
-/// Entries, which are found by their claims, and equalities by the terms that are their sides. Contracts see the list of the
-/// entries. Where a push found no memory, all further pushes find none.
+/// Entries, in the order in which they came, and their groups. Contracts see the list of the entries. Where memory was
+/// wanting, there are none from then on.
 #[derive(Drop)]
 pub struct Known {
     entries: List<Entry>,
-    claims: Index,
-    lefts: Index,
-    rights: Index,
-    whole: bool,
+    groups: Groups,
 }
 
 impl Model for Known {
@@ -32,8 +26,7 @@ impl Model for Known {
     ghost use Rattle.std.specs.Coded.{coded_list};
     ghost use Rattle.esto_world_laws.specs.contracts.entry.Entry as entry;
     ghost use Rattle.esto_world_laws.specs.declared.entry.Entry.{Entry};
-    ghost use Rattle.esto_known.specs.Hashes.{claim_key, left_key, right_key};
-    ghost use Rattle.esto_known.specs.Indexes.{Indexes};
+    ghost use Rattle.esto_known.specs.Groups.{AreGroups};
 
     ghost Value = { List Entry };
 
@@ -41,64 +34,48 @@ impl Model for Known {
 
     ghost view = { λ it. it.entries };
 
-    ghost invariant = { λ it. Indexes claim_key it.entries it.whole it.claims
-        × (Indexes left_key it.entries it.whole it.lefts
-        × Indexes right_key it.entries it.whole it.rights) };
+    ghost invariant = { λ it. AreGroups it.entries it.groups };
+}
+
+/// Puts an entry into the group of its claim, and at the end.
+fn push(
+    alloc: Global,
+    entry: Entry,
+    entries: &mut List<Entry>,
+    groups: &mut Groups,
+) -> Result<(), OutOfMemory>
+    requires groups { AreGroups entries.old groups.old }
+    requires counts { AreOfCount (length entry.product) entries.old }
+    ensures entries { OnOk result (entries.new ≡ entries.old ++ entry ∷ []) }
+    ensures groups { OnOk result (AreGroups entries.new groups.new) }
+{
+    groups.take(alloc, entries.items(), &entry)?;
+    entries.push(entry)
 }
 
 impl Known {
-    /// No entries, with room to find so many fast.
-    pub fn new(alloc: Global, count: usize) -> Result<Known, OutOfMemory>
+    /// No entries.
+    pub fn new(alloc: Global) -> Result<Known, OutOfMemory>
         ensures { IfOk result (λ it. it ≡ []) }
     {
-        let claims = Index::new(alloc, count)?;
-        let lefts = Index::new(alloc, count)?;
-        let rights = Index::new(alloc, count)?;
+        let groups = Groups::new(alloc)?;
         Ok(Known {
             entries: List::new(alloc),
-            claims,
-            lefts,
-            rights,
-            whole: true,
-        })
-    }
-
-    /// The entries, with indexes.
-    pub fn of(alloc: Global, entries: List<Entry>) -> Result<Known, OutOfMemory>
-        ensures { IfOk result (λ it. it ≡ entries) }
-    {
-        let count = entries.len();
-        let mut claims = Index::new(alloc, count)?;
-        let mut lefts = Index::new(alloc, count)?;
-        let mut rights = Index::new(alloc, count)?;
-        'entries: for entry in entries.items() {
-            claims.add(&claim_key(&entry.claim))?;
-            lefts.add(&left_key(&entry.claim))?;
-            rights.add(&right_key(&entry.claim))?;
-        }
-        Ok(Known {
-            entries,
-            claims,
-            lefts,
-            rights,
-            whole: true,
+            groups,
         })
     }
 
     /// Puts an entry at the end.
-    pub fn push(&mut self, entry: Entry) -> Result<(), OutOfMemory>
+    pub fn push(&mut self, alloc: Global, entry: Entry) -> Result<(), OutOfMemory>
+        requires { AreOfCount (length entry.product) self.old }
         ensures { OnOk result (self.new ≡ self.old ++ entry ∷ []) }
     {
-        if !self.whole {
-            return Err(OutOfMemory);
+        let pushed = push(alloc, entry, &mut self.entries, &mut self.groups);
+        if pushed.is_err() {
+            self.entries.truncate(0);
+            self.groups.clear();
         }
-        self.whole = false;
-        self.claims.add(&claim_key(&entry.claim))?;
-        self.lefts.add(&left_key(&entry.claim))?;
-        self.rights.add(&right_key(&entry.claim))?;
-        self.entries.push(entry)?;
-        self.whole = true;
-        Ok(())
+        pushed
     }
 
     /// The entries.
@@ -108,18 +85,18 @@ impl Known {
         self.entries.items()
     }
 
+    /// The entries by their claims.
+    pub fn groups(&self) -> &Groups
+        ensures { AreGroups self.now result.now }
+    {
+        &self.groups
+    }
+
     /// How many entries there are.
     pub fn len(&self) -> usize
         ensures { result ≡ length self.now }
     {
         self.entries.len()
-    }
-
-    /// Whether there is no entry.
-    pub fn is_empty(&self) -> bool
-        ensures { IsTrue result ↔ (length self.now ≡ 0) }
-    {
-        self.entries.is_empty()
     }
 
     /// The entries alone.
@@ -129,24 +106,14 @@ impl Known {
         self.entries
     }
 
-    /// The entries with others after them, with indexes for all.
-    pub fn grown(self, alloc: Global, others: Known) -> Result<Known, OutOfMemory>
-        ensures { IfOk result (λ it. it ≡ self ++ others) }
-    {
-        let mut entries = self.into_list();
-        entries.append(others.into_list())?;
-        let grown = Known::of(alloc, entries)?;
-        Ok(grown)
-    }
-
-    /// Whether the entry at the place has the claim, with a product within the set.
-    fn covers_at(&self, place: usize, claim: &Claim, product: &RowBits) -> bool
+    /// Whether some entry states the fact, with a product within the set.
+    pub fn states(&self, fact: &Atom, product: &RowBits) -> bool
         requires { AreOfCount (length product.now) self.now }
-        ensures { IsTrue result ↔ CoversAt self.now claim.now product.now place }
+        ensures { IsTrue result ↔ CoversClaim self.now (Stated fact.now) product.now }
     {
-        match self.entries.items().get(place) {
+        match self.groups.stating(fact) {
             None => false,
-            Some(entry) => entry.product.within(product) && entry.claim.is_same(claim),
+            Some(group) => group.by.covered(product),
         }
     }
 
@@ -155,46 +122,9 @@ impl Known {
         requires { AreOfCount (length product.now) self.now }
         ensures { IsTrue result ↔ CoversClaim self.now claim.now product.now }
     {
-        let mut next = self.claims.last_of(&claim_key(claim));
-        'places: while next > 0 {
-            let place = next - 1;
-            if self.covers_at(place, claim, product) {
-                return true;
-            }
-            next = self.claims.before(place);
-        }
-        false
-    }
-
-    /// Whether a later entry covers the one at the place: true comes only where one does.
-    // That true comes wherever one does is not claimed: it costs time alone where it does not.
-    pub fn is_passed(&self, place: usize, entry: &Entry) -> bool
-        requires at { slice_get self.now place ≡ Some entry.now }
-        requires counts { AreOfCount (length entry.now.product) self.now }
-        ensures { IsTrue result → IsPassed self.now place }
-    {
-        let mut next = self.claims.last_of(&claim_key(&entry.claim));
-        'places: while next > 0 {
-            let at = next - 1;
-            if at <= place {
-                return false;
-            }
-            if self.covers_at(at, &entry.claim, &entry.product) {
-                return true;
-            }
-            next = self.claims.before(at);
-        }
-        false
-    }
-
-    /// Whether the entry at the place says that the two terms are one, with a product within the set.
-    fn says_at(&self, place: usize, term: &Term, other: &Term, product: &RowBits) -> bool
-        requires { AreOfCount (length product.now) self.now }
-        ensures { IsTrue result ↔ CoversAt self.now (Same term.now other.now) product.now place }
-    {
-        match self.entries.items().get(place) {
-            None => false,
-            Some(entry) => entry.product.within(product) && entry.claim.says_one(term, other),
+        match claim {
+            Claim::Fact(fact) => self.states(fact, product),
+            Claim::Same(left, right) => self.says_one(left, right, product),
         }
     }
 
@@ -203,47 +133,9 @@ impl Known {
         requires { AreOfCount (length product.now) self.now }
         ensures { IsTrue result ↔ CoversClaim self.now (Same term.now other.now) product.now }
     {
-        let key = [pair_hash(term_hash(term), term_hash(other))];
-        let mut next = self.claims.last_of(&key);
-        'places: while next > 0 {
-            let place = next - 1;
-            if self.says_at(place, term, other, product) {
-                return true;
-            }
-            next = self.claims.before(place);
+        match self.groups.linking(term, other) {
+            None => false,
+            Some(group) => group.by.covered(product),
         }
-        false
-    }
-
-    /// Places, among which are all of the equalities that say that the two terms are one.
-    pub fn saying(
-        &self,
-        alloc: Global,
-        term: &Term,
-        other: &Term,
-    ) -> Result<Vec<usize>, OutOfMemory>
-        ensures { IfOk result (λ it. (place : ℕ) (entry : Entry)
-            → slice_get self.now place ≡ Some entry → SaysOne entry.claim term.now other.now
-            → Contains it.items place) }
-    {
-        let key = [pair_hash(term_hash(term), term_hash(other))];
-        let places = self.claims.places(alloc, &key)?;
-        Ok(places)
-    }
-
-    /// Places, among which are all of the equalities that have the term as a side.
-    pub fn with_side(&self, alloc: Global, term: &Term) -> Result<Places, OutOfMemory>
-        ensures { IfOk result (λ it. (place : ℕ) (entry : Entry)
-            → slice_get self.now place ≡ Some entry → HasSide entry.claim term.now
-            → Contains it place) }
-    {
-        let key = [term_hash(term)];
-        let lefts = self.lefts.places(alloc, &key)?;
-        let rights = self.rights.places(alloc, &key)?;
-        let mut places = Values::from_slice(alloc, lefts.as_slice())?;
-        'rights: for place in rights.as_slice() {
-            places.push(*place)?;
-        }
-        Ok(places)
     }
 }

@@ -1,4 +1,4 @@
-use Rattle.std.proofs.Common.{ap, ◌∙◌}
+use Rattle.std.proofs.Common.{refl, ap, ◌∙◌}
 use Rattle.esto_semantics.specs.Rules.{tuple}
 use Rattle.esto_semantics.specs.Facts.{terms_of}
 use Rattle.esto_constraint.specs.Constraints.{rules_of}
@@ -21,6 +21,6 @@ pub returns-clause-answered : goal.returns-clause-answered
 returns-clause-answered c =
     ways_all (rules_of c.args.rules.now) c.args.count c.args.entries.now c.args.number (tuple c.args.rule.now.body c.args.rule.now.head) c.in_ok-found.found
     c.items-way-items.result.now c.items-way-items.ensures c.args.since c.found.way-index _ c.found-test.false
-    (found_of c.args.entries.now _ c.args.since c.args.rule.now.body _ _ _ c.in_ok-found.found c.items-5.ensures c.items-6.ensures
-    (c.items-7.ensures ∙ c.in_ok-asked.ensures ∙ ap terms_of c.items-4.ensures) c.in_ok-found.ensures.found) c.requires.before
+    (found_of c.args.entries.now _ c.args.since c.args.rule.now.body _ _ _ c.in_ok-found.found refl c.items-5.ensures
+    (c.items-6.ensures ∙ c.in_ok-asked.ensures ∙ ap terms_of c.items-4.ensures) c.in_ok-found.ensures.found) c.requires.before
     c.found.invariant.answered

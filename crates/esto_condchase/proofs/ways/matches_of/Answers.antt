@@ -1,45 +1,48 @@
 use Rattle.std.proofs.Common.{◌++◌, List, false, refl, ap, ◌∙◌, subst, length}
 use Rattle.std.proofs.lemmas.List.{length-replicate}
-use Rattle.esto_semantics.specs.Sets.{Has}
 use Rattle.esto_semantics.specs.Facts.{terms_of}
 use Rattle.esto_semantics.specs.declared.fact.Fact.{Fact}
 use Rattle.esto_term.specs.declared.term.Term.{Term}
 use Rattle.esto_bits.proofs.SetLemmas.{Has-replicate}
-use Rattle.esto_condchase.specs.declared.ways.Way.{Way}
-use Rattle.esto_condchase.proofs.WayLemmas.{found_none, found_lengths, body_turn, body_all, rest_after, from_turn, counted_one}
+use Rattle.esto_condchase.specs.Ways.{empty_way}
+use Rattle.esto_condchase.proofs.WayLemmas.{found_none, found_lengths, body_all, rest_after, from_turn, counted_one}
+use Rattle.esto_condchase.proofs.FoundLemmas.{body_turn}
 use Rattle.esto_condchase.proofs.ways.matches_of.Goals as goal
 
 pub atoms-init : goal.atoms-init
 atoms-init c =
-    let way : Way = c.in_ok-empty_way.field-0 in
-    let is = c.in_ok-empty_way.ensures in
     let are = c.in_ok-ways.ensures in
     record {
-      found = found_none c.args.entries.now (terms_of c.args.body.now ++ c.args.asked.now) c.in_ok-ways.ways way are (ap (λ (it : Way). it.to) is)
-          (ap (λ (it : Way). it.facts) is) (ap (λ (it : Way). it.links) is)
-          (λ number has. Has-replicate c.args.count number (subst (λ (it : Way). Has it.product number) is has));
+      found = found_none c.args.known.now (terms_of c.args.body.now ++ c.args.asked.now) c.in_ok-ways.ways (empty_way c.args.count) are refl refl refl
+          (λ number has. Has-replicate c.args.count number has);
       from_is = c.new-from.ensures;
-      counted = counted_one c.args.count c.in_ok-ways.ways way are (ap (λ (it : Way). length it.product) is ∙ length-replicate c.args.count false);
+      counted = counted_one c.args.count c.in_ok-ways.ways (empty_way c.args.count) are (length-replicate c.args.count false);
     }
 
-pub match_next-requires-clause-lengths : goal.match_next-requires-clause-lengths
-match_next-requires-clause-lengths c =
-    found_lengths c.args.entries.now _ _ c.atoms.ways c.atoms.ways c.atoms.from c.atoms.invariant.found refl c.atoms.invariant.from_is
+pub go_on-requires-clause-lengths : goal.go_on-requires-clause-lengths
+go_on-requires-clause-lengths c =
+    found_lengths c.args.known.now _ _ c.atoms.ways c.atoms.ways c.atoms.from c.atoms.invariant.found refl c.atoms.invariant.from_is
+
+pub go_on-requires-clause-counted : goal.go_on-requires-clause-counted
+go_on-requires-clause-counted c = c.atoms.invariant.counted
 
 pub returns-clause-found : goal.returns-clause-found
 returns-clause-found c =
-    body_all c.args.entries.now c.args.body.now c.args.asked.now c.atoms.place c.atoms.ways c.atoms-test.false c.atoms.invariant.found
+    body_all c.args.known.now c.args.body.now c.args.asked.now c.atoms.place c.atoms.ways c.atoms-test.false c.atoms.invariant.found
+
+pub returns-clause-counted : goal.returns-clause-counted
+returns-clause-counted c = c.atoms.invariant.counted
 
 pub atoms-preserved : goal.atoms-preserved
 atoms-preserved c =
     let atom = c.index-body-place.result in
     record {
-      found = body_turn c.args.entries.now c.args.body.now c.args.asked.now c.items.result.now c.atoms.place atom c.atoms.ways c.match_next.new.ways
+      found = body_turn c.args.known.now c.args.body.now c.args.asked.now c.items.result.now c.atoms.place atom c.atoms.ways c.go_on.new.ways
           c.atoms.from c.atoms-test.true c.index-body-place.is
           (c.items.ensures ∙ c.in_ok-live.ensures ∙ ap (λ (it : List (Fact Term)). terms_of it ++ c.args.asked.now)
           (rest_after c.args.body.now c.atoms.place c.atoms-test.true))
-          c.atoms.invariant.from_is c.atoms.invariant.found c.in_ok-match_next.ensures.next;
-      from_is = from_turn c.args.body.now c.atoms.place atom c.atoms.from c.match_next.new.from _ c.atoms-test.true c.index-body-place.is
-          c.atoms.invariant.from_is refl c.in_ok-match_next.ensures.from;
-      counted = c.in_ok-match_next.ensures.counted;
+          c.atoms.invariant.from_is c.atoms.invariant.found c.in_ok-go_on.ensures.next;
+      from_is = from_turn c.args.body.now c.atoms.place atom c.atoms.from c.go_on.new.from _ c.atoms-test.true c.index-body-place.is
+          c.atoms.invariant.from_is refl c.in_ok-go_on.ensures.from;
+      counted = c.in_ok-go_on.ensures.counted;
     }

@@ -1,0 +1,92 @@
+-- Live entries of a claim: the places of its group.
+use Rattle.std.proofs.Common.{inl, inr, ap, ◌∙◌, ◌≡◌, ◌≤◌, ℕ, List, [], ◌++◌, Some, slice_get, Contains, refl, sym, subst}
+use Rattle.std.proofs.lemmas.List.Elements.{Contains-append_left, Contains-append_right}
+use Rattle.esto_term.specs.declared.term.Term.{Term}
+use Rattle.esto_semantics.specs.declared.fact.Fact.{Fact}
+use Rattle.esto_term.proofs.ListLemmas.{Contains-at, place-from_Contains}
+use Rattle.esto_world_laws.specs.Worlds.{SaysOne}
+use Rattle.esto_world_laws.specs.Claims.{AreSameClaim}
+use Rattle.esto_world_laws.specs.declared.entry.Claim.{Claim}
+use Rattle.esto_world_laws.specs.declared.entry.Claim.TheVariants.{Fact as Stated, Same}
+use Rattle.esto_world_laws.specs.declared.entry.Entry.{Entry}
+use Rattle.esto_known.specs.Groups.{AreGroups}
+use Rattle.esto_known.specs.declared.group.Group.{Group}
+use Rattle.esto_condchase.specs.Ways.{AreAllLive, AreAllFacts}
+
+-- ---- claims that are one
+
+same_stated : (fact : Fact Term) (claim : Claim) → AreSameClaim (Stated fact) claim → claim ≡ Stated fact
+same_stated fact (Stated other) same = ap Stated (sym same)
+same_stated fact (Same left right) same = absurd same
+
+says_same : (left right : Term) (claim : Claim) → SaysOne claim left right → AreSameClaim (Same left right) claim
+says_same left right claim (inl is) = subst (AreSameClaim (Same left right)) (sym is) (inl (refl, refl))
+says_same left right claim (inr is) = subst (AreSameClaim (Same left right)) (sym is) (inr (refl, refl))
+
+same_says : (left right : Term) (claim : Claim) → AreSameClaim (Same left right) claim → SaysOne claim left right
+same_says left right (Stated fact) same = absurd same
+same_says left right (Same one other) (inl same) = inl (λ i. Same (sym same.0 i) (sym same.1 i))
+same_says left right (Same one other) (inr same) = inr (λ i. Same (sym same.1 i) (sym same.0 i))
+
+-- two claims that are one with a third are one
+same_both : (third claim other : Claim) → AreSameClaim third claim → AreSameClaim third other → AreSameClaim claim other
+same_both (Stated fact) claim other one two =
+    subst (λ it. AreSameClaim it other) (sym (same_stated fact claim one)) (subst (AreSameClaim (Stated fact)) (sym (same_stated fact other two)) refl)
+same_both (Same left right) (Stated fact) other one two = absurd one
+same_both (Same left right) (Same s t) (Stated fact) one two = absurd two
+same_both (Same left right) (Same s t) (Same u v) (inl one) (inl two) = inl (sym one.0 ∙ two.0, sym one.1 ∙ two.1)
+same_both (Same left right) (Same s t) (Same u v) (inl one) (inr two) = inr (sym one.0 ∙ two.0, sym one.1 ∙ two.1)
+same_both (Same left right) (Same s t) (Same u v) (inr one) (inl two) = inr (sym one.1 ∙ two.1, sym one.0 ∙ two.0)
+same_both (Same left right) (Same s t) (Same u v) (inr one) (inr two) = inl (sym one.1 ∙ two.1, sym one.0 ∙ two.0)
+
+same_itself : (claim : Claim) → AreSameClaim claim claim
+same_itself (Stated fact) = refl
+same_itself (Same left right) = inl (refl, refl)
+
+same_back : (claim other : Claim) → AreSameClaim claim other → AreSameClaim other claim
+same_back claim other same = same_both claim other claim same (same_itself claim)
+
+-- ---- live entries
+
+module _ (entries : List Entry) (groups : List Group) (are : AreGroups entries groups) where
+  pub links_nowhere : (own goal : Term) → ((group : Group) → Contains groups group → SaysOne group.claim own goal → ⊥) → (place : ℕ) (entry : Entry)
+      → slice_get entries place ≡ Some entry → SaysOne entry.claim own goal → ⊥
+  links_nowhere own goal none place entry at says =
+      let it = are.all entry (Contains-at entries place entry at) in
+      let one = same_back (Same own goal) entry.claim (says_same own goal entry.claim says) in
+      none it.0 it.1 (same_says own goal it.0.claim (same_both entry.claim (Same own goal) it.0.claim one it.2))
+
+  pub links_some : (own goal : Term) (group : Group) → Contains groups group → SaysOne group.claim own goal → (places : List ℕ) → places ≡ group.places
+      → AreAllLive entries places (λ claim. SaysOne claim own goal)
+  links_some own goal group inside group_says places same place entry at says =
+      let own_group = says_same own goal group.claim group_says in
+      let it = (are.each group inside).live place entry at (same_both (Same own goal) entry.claim group.claim (says_same own goal entry.claim says) own_group) in
+      let its = it.3.0 in
+      let its_says = same_says own goal its.claim (same_both group.claim (Same own goal) its.claim (same_back (Same own goal) group.claim own_group)
+      (same_back its.claim group.claim it.3.2)) in
+      (it.0, its, subst (λ them. Contains them it.0) (sym same) it.1, it.2, it.3.1, its_says, it.3.3)
+
+  pub facts_all : (relation : ℕ) (found places : List ℕ)
+      → ((place : ℕ) (group : Group) (fact : Fact Term) → slice_get groups place ≡ Some group → group.claim ≡ Stated fact → fact.relation ≡ relation
+      → Contains found place)
+      → ((at : ℕ) → Contains found at → (group : Group) → slice_get groups at ≡ Some group → (place : ℕ) → Contains group.places place → Contains places place)
+      → AreAllFacts entries relation places
+  facts_all relation found places are_found all place entry fact at states same =
+      let it = are.all entry (Contains-at entries place entry at) in
+      let group_is : it.0.claim ≡ Stated fact = same_stated fact it.0.claim (subst (λ claim. AreSameClaim claim it.0.claim) states it.2) in
+      let there = place-from_Contains groups it.0 it.1 in
+      let live = (are.each it.0 it.1).live place entry at it.2 in
+      let its = live.3.0 in
+      let its_is : its.claim ≡ Stated fact = same_stated fact its.claim (subst (λ claim. AreSameClaim claim its.claim) group_is
+      (same_back its.claim it.0.claim live.3.2)) in
+      (live.0, its, all there.0 (are_found there.0 it.0 fact there.1 group_is same) it.0 there.1 live.0 live.1, live.2, live.3.1, its_is, live.3.3)
+
+pub kept_all : (places more later : List ℕ) → later ≡ places ++ more → (place : ℕ) → Contains places place → Contains later place
+kept_all places more later grown place inside = rw grown (Contains-append_left places more place inside)
+
+pub has_all : (places more later its : List ℕ) → later ≡ places ++ more → more ≡ its → (place : ℕ) → Contains its place → Contains later place
+has_all places more later its grown same place inside =
+    rw grown (Contains-append_right places more place (subst (λ it. Contains it place) (sym same) inside))
+
+pub read_items : (items groups : List Group) (at : ℕ) (group : Group) → items ≡ groups → slice_get groups at ≡ Some group → slice_get items at ≡ Some group
+read_items items groups at group same is = ap (λ (it : List Group). slice_get it at) same ∙ is

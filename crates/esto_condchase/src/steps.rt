@@ -1,0 +1,430 @@
+//! Goes on from ways by one atom, with each fact that is alike to it. A way is made only where no kept way tells the same.
+ghost use Rattle.std.specs.Prelude.{◌≡◌, ◌++◌, ◌⊎◌, ◌<◌, ℕ, List, Bool, false, MatchOption, Some, Contains, length, slice_get, take, IsTrue, IfOk, OnOk};
+ghost use Rattle.esto_term.specs.declared.term.Term.{Term};
+ghost use Rattle.esto_semantics.specs.Sets.{Within, united};
+ghost use Rattle.esto_semantics.specs.declared.fact.Fact.{Fact};
+ghost use Rattle.esto_world_laws.specs.Matches.{IsLike};
+ghost use Rattle.esto_world_laws.specs.Worlds.{AreOfCount};
+ghost use Rattle.esto_world_laws.specs.declared.entry.Claim.TheVariants.{Fact as Stated};
+ghost use Rattle.esto_world_laws.specs.declared.entry.Entry.{Entry};
+ghost use Rattle.esto_condchase.specs.declared.passing.Support.{Support};
+ghost use Rattle.esto_condchase.specs.declared.ways.Way.{Way};
+ghost use Rattle.esto_condchase.specs.Ways.{AreCounted, AreAllFacts, Grown, HasWay, extended, meets, PassesTo, PassesIn, IsPassedAt, ComesBy, Comes, IsOldWay, GoesOn};
+
+use crate::kept::{Kept, hash_at};
+use crate::news::is_new;
+use crate::passing::{Step, Support, is_settled, met_first, through_row, union_of};
+use crate::ways::Way;
+use esto_bits::RowBits;
+use esto_known::Known;
+use esto_semantics::Atom;
+use esto_term::{List, OutOfMemory, Replicate, Term, Terms};
+use esto_world_laws::{Claim, Entry};
+use std::alloc::Global;
+
+/// Two lists of terms in one.
+fn both(alloc: Global, to: &[Term], owns: &[Term]) -> Result<Terms, OutOfMemory>
+    ensures { IfOk result (λ it. it ≡ to.now ++ owns.now) }
+{
+    let mut terms = List::new(alloc);
+    'to: for term in to {
+        terms.push(term.copy(alloc)?)?;
+    }
+    'owns: for own in owns {
+        terms.push(own.copy(alloc)?)?;
+    }
+    Ok(terms)
+}
+
+/// The way with a fact more, of the entry at a place, whose terms go through with a support.
+fn extended(
+    alloc: Global,
+    step: &Step,
+    before: &Way,
+    place: usize,
+    support: &Support,
+) -> Result<Way, OutOfMemory>
+    requires { step.now.to.now ≡ before.now.to }
+    ensures { IfOk result (λ it. it ≡ extended before.now place step.now.owns.now support.now) }
+{
+    let to = both(alloc, step.to, step.owns)?;
+    let mut facts = before.facts.copy(alloc)?;
+    facts.push(place)?;
+    let links = support.links.copy(alloc)?;
+    let product = support.product.copy(alloc)?;
+    Ok(Way {
+        to,
+        facts,
+        links,
+        product,
+    })
+}
+
+/// Keeps the way that goes on with a support, unless a kept one tells the same.
+fn keep(
+    alloc: Global,
+    step: &Step,
+    before: &Way,
+    place: usize,
+    support: &Support,
+    kept: &mut Kept,
+) -> Result<(), OutOfMemory>
+    requires to { step.now.to.now ≡ before.now.to }
+    requires counted { AreCounted (length support.now.product) kept.old }
+    ensures grown { OnOk result (Grown
+        (λ way. way ≡ extended before.now place step.now.owns.now support.now)
+        kept.old kept.new) }
+    ensures there { OnOk result (HasWay step.now.places.now kept.new
+        (step.now.to.now ++ step.now.owns.now) support.now.product) }
+{
+    if is_settled(step, &support.product, kept) {
+        return Ok(());
+    }
+    let way = extended(alloc, step, before, place, support)?;
+    kept.push(step.key, way)
+}
+
+/// Keeps the ways that go on with the supports.
+fn keep_all(
+    alloc: Global,
+    step: &Step,
+    before: &Way,
+    place: usize,
+    supports: &[Support],
+    count: usize,
+    kept: &mut Kept,
+) -> Result<(), OutOfMemory>
+    requires to { step.now.to.now ≡ before.now.to }
+    requires supports { (support : Support) → Contains supports.now support
+        → length support.product ≡ count }
+    requires counted { AreCounted count kept.old }
+    ensures grown { OnOk result (Grown
+        (λ way. (support : Support) × Contains supports.now support
+        × (way ≡ extended before.now place step.now.owns.now support))
+        kept.old kept.new) }
+    ensures there { OnOk result ((support : Support) → Contains supports.now support
+        → HasWay step.now.places.now kept.new (step.now.to.now ++ step.now.owns.now)
+        support.product) }
+{
+    'supports: for support in supports {
+        keep(alloc, step, before, place, support, kept)?;
+    }
+    Ok(())
+}
+
+/// What a step begins with: the way's equalities, and the product.
+fn start_of(alloc: Global, before: &Way, product: &RowBits) -> Result<Support, OutOfMemory>
+    ensures { IfOk result (λ it. it ≡ record { links = before.now.links; product = product.now }) }
+{
+    let links = before.links.copy(alloc)?;
+    let product = product.copy(alloc)?;
+    Ok(Support { links, product })
+}
+
+/// Keeps the ways that go on with the fact of the entry at a place; at one of its terms by an equality from a place on.
+fn pass(
+    alloc: Global,
+    step: &Step,
+    before: &Way,
+    place: usize,
+    at: usize,
+    floor: usize,
+    product: &RowBits,
+    count: usize,
+    kept: &mut Kept,
+) -> Result<(), OutOfMemory>
+    requires to { step.now.to.now ≡ before.now.to }
+    requires lengths { length step.now.from.now ≡ length step.now.to.now }
+    requires rows { length step.now.owns.now ≡ length step.now.terms.now }
+    requires product { (entry : Entry) × (slice_get step.now.known.now place ≡ Some entry)
+        × (product.now ≡ united before.now.product entry.product) }
+    requires count { length product.now ≡ count }
+    requires counts { AreOfCount count step.now.known.now }
+    requires counted { AreCounted count kept.old }
+    ensures grown { OnOk result (Grown (ComesBy step.now.known.now step.now.from.now
+        step.now.terms.now before.now place step.now.owns.now) kept.old kept.new) }
+    ensures there { OnOk result ((set : List Bool) → Within product.now set
+        → PassesTo step.now.known.now (meets step.now.from.now step.now.terms.now
+        step.now.to.now step.now.owns.now) step.now.terms.now step.now.owns.now at floor set
+        (length step.now.owns.now)
+        → HasWay step.now.places.now kept.new (step.now.to.now ++ step.now.owns.now) set) }
+    ensures counted { OnOk result (AreCounted count kept.new) }
+{
+    let start = start_of(alloc, before, product)?;
+    let supports = through_row(alloc, step, at, floor, &start, kept, count)?;
+    keep_all(alloc, step, before, place, supports.items(), count, kept)?;
+    Ok(())
+}
+
+/// The same by an equality from a place on at one of the terms, unless this term is what it has to meet.
+fn pass_at(
+    alloc: Global,
+    step: &Step,
+    before: &Way,
+    place: usize,
+    at: usize,
+    floor: usize,
+    product: &RowBits,
+    count: usize,
+    kept: &mut Kept,
+) -> Result<(), OutOfMemory>
+    requires to { step.now.to.now ≡ before.now.to }
+    requires lengths { length step.now.from.now ≡ length step.now.to.now }
+    requires rows { length step.now.owns.now ≡ length step.now.terms.now }
+    requires at { at < length step.now.owns.now }
+    requires product { (entry : Entry) × (slice_get step.now.known.now place ≡ Some entry)
+        × (product.now ≡ united before.now.product entry.product) }
+    requires count { length product.now ≡ count }
+    requires counts { AreOfCount count step.now.known.now }
+    requires counted { AreCounted count kept.old }
+    ensures grown { OnOk result (Grown (ComesBy step.now.known.now step.now.from.now
+        step.now.terms.now before.now place step.now.owns.now) kept.old kept.new) }
+    ensures there { OnOk result (IsPassedAt step.now.known.now (meets step.now.from.now
+        step.now.terms.now step.now.to.now step.now.owns.now) step.now.terms.now step.now.owns.now
+        floor product.now
+        (HasWay step.now.places.now kept.new (step.now.to.now ++ step.now.owns.now)) at) }
+    ensures counted { OnOk result (AreCounted count kept.new) }
+{
+    let goal = met_first(step.from, step.to, step.terms, step.owns, &step.terms[at]);
+    if step.owns[at].equal(goal) {
+        return Ok(());
+    }
+    pass(alloc, step, before, place, at, floor, product, count, kept)?;
+    Ok(())
+}
+
+/// Keeps the ways that go on with the fact of the entry at a place, at some of its terms by an equality from a place on.
+fn pass_anew(
+    alloc: Global,
+    step: &Step,
+    before: &Way,
+    place: usize,
+    floor: usize,
+    product: &RowBits,
+    count: usize,
+    kept: &mut Kept,
+) -> Result<(), OutOfMemory>
+    requires to { step.now.to.now ≡ before.now.to }
+    requires lengths { length step.now.from.now ≡ length step.now.to.now }
+    requires rows { length step.now.owns.now ≡ length step.now.terms.now }
+    requires product { (entry : Entry) × (slice_get step.now.known.now place ≡ Some entry)
+        × (product.now ≡ united before.now.product entry.product) }
+    requires count { length product.now ≡ count }
+    requires counts { AreOfCount count step.now.known.now }
+    requires counted { AreCounted count kept.old }
+    ensures grown { OnOk result (Grown (ComesBy step.now.known.now step.now.from.now
+        step.now.terms.now before.now place step.now.owns.now) kept.old kept.new) }
+    ensures there { OnOk result ((at : ℕ) → at < length step.now.owns.now
+        → IsPassedAt step.now.known.now (meets step.now.from.now
+        step.now.terms.now step.now.to.now step.now.owns.now) step.now.terms.now step.now.owns.now
+        floor product.now
+        (HasWay step.now.places.now kept.new (step.now.to.now ++ step.now.owns.now)) at) }
+    ensures counted { OnOk result (AreCounted count kept.new) }
+{
+    'row: for at in 0..step.owns.len() {
+        pass_at(alloc, step, before, place, at, floor, product, count, kept)?;
+    }
+    Ok(())
+}
+
+/// Keeps the ways that go on with the fact of the entry at a place, but where a floor is given for those that use no equality from
+/// there on.
+fn pass_from(
+    alloc: Global,
+    step: &Step,
+    before: &Way,
+    place: usize,
+    entry: &Entry,
+    floor: usize,
+    count: usize,
+    kept: &mut Kept,
+) -> Result<(), OutOfMemory>
+    requires at { slice_get step.now.known.now place ≡ Some entry.now }
+    requires to { step.now.to.now ≡ before.now.to }
+    requires lengths { length step.now.from.now ≡ length step.now.to.now }
+    requires rows { length step.now.owns.now ≡ length step.now.terms.now }
+    requires count { length before.now.product ≡ count }
+    requires counts { AreOfCount count step.now.known.now }
+    requires counted { AreCounted count kept.old }
+    ensures grown { OnOk result (Grown (ComesBy step.now.known.now step.now.from.now
+        step.now.terms.now before.now place step.now.owns.now) kept.old kept.new) }
+    ensures there { OnOk result ((set : List Bool) → Within before.now.product set
+        → Within entry.now.product set
+        → PassesIn step.now.known.now (meets step.now.from.now step.now.terms.now
+        step.now.to.now step.now.owns.now) step.now.terms.now step.now.owns.now set
+        → HasWay step.now.places.now kept.new (step.now.to.now ++ step.now.owns.now) set
+        ⊎ ((0 < floor) × PassesIn (take floor step.now.known.now) (meets step.now.from.now
+        step.now.terms.now step.now.to.now step.now.owns.now) step.now.terms.now
+        step.now.owns.now set)) }
+    ensures counted { OnOk result (AreCounted count kept.new) }
+{
+    let product = union_of(alloc, &before.product, &entry.product)?;
+    if is_settled(step, &product, kept) {
+        return Ok(());
+    }
+    if floor == 0 {
+        let all = step.owns.len();
+        pass(alloc, step, before, place, all, 0, &product, count, kept)?;
+        return Ok(());
+    }
+    pass_anew(alloc, step, before, place, floor, &product, count, kept)?;
+    Ok(())
+}
+
+/// What a search goes on by: the entries, the terms of the atoms so far, the next atom, and the places of what tells all that is
+/// asked for later. A way that uses nothing from a place on is not looked for, unless that is 0.
+#[derive(Clone, Copy)]
+pub struct Level<'a> {
+    pub known: &'a Known,
+    pub since: usize,
+    pub from: &'a [Term],
+    pub atom: &'a Atom,
+    pub places: &'a [usize],
+}
+
+/// The fact, if the claim is one that is alike to the atom.
+fn like<'a>(claim: &'a Claim, atom: &Atom) -> Option<&'a Atom>
+    ensures { MatchOption result
+        ((fact : Fact Term) → claim.now ≡ Stated fact → ¬ (IsLike atom.now fact))
+        (λ fact. (claim.now ≡ Stated fact.now) × IsLike atom.now fact.now) }
+{
+    match claim {
+        Claim::Same(_, _) => None,
+        Claim::Fact(fact) => {
+            if fact.relation != atom.relation {
+                return None;
+            }
+            if fact.terms.len() != atom.terms.len() {
+                return None;
+            }
+            Some(fact)
+        }
+    }
+}
+
+/// The entry at the place and its fact, if it has one that is alike to the atom.
+fn fact_at<'a>(known: &'a Known, atom: &Atom, place: usize) -> Option<(&'a Entry, &'a Atom)>
+    ensures { MatchOption result
+        ((entry : Entry) (fact : Fact Term) → slice_get known.now place ≡ Some entry
+        → entry.claim ≡ Stated fact → ¬ (IsLike atom.now fact))
+        (λ it. (slice_get known.now place ≡ Some it.0.now) × (it.0.now.claim ≡ Stated it.1.now)
+        × IsLike atom.now it.1.now) }
+{
+    let entry = known.items().get(place)?;
+    let fact = like(&entry.claim, atom)?;
+    Some((entry, fact))
+}
+
+/// Keeps the ways that go on with the entry at a place, if it is a fact that is alike to the atom.
+fn match_entry(
+    alloc: Global,
+    level: &Level,
+    before: &Way,
+    key: u64,
+    place: usize,
+    floor: usize,
+    count: usize,
+    kept: &mut Kept,
+) -> Result<(), OutOfMemory>
+    requires lengths { length level.now.from.now ≡ length before.now.to }
+    requires count { length before.now.product ≡ count }
+    requires counts { AreOfCount count level.now.known.now }
+    requires counted { AreCounted count kept.old }
+    ensures grown { OnOk result (Grown (Comes level.now.known.now level.now.from.now
+        level.now.atom.now before.now) kept.old kept.new) }
+    ensures goes { OnOk result ((entry : Entry) (fact : Fact Term) (set : List Bool)
+        → slice_get level.now.known.now place ≡ Some entry → entry.claim ≡ Stated fact
+        → IsLike level.now.atom.now fact → Within before.now.product set
+        → Within entry.product set
+        → PassesIn level.now.known.now (meets level.now.from.now level.now.atom.now.terms
+        before.now.to fact.terms) level.now.atom.now.terms fact.terms set
+        → HasWay level.now.places.now kept.new (before.now.to ++ fact.terms) set
+        ⊎ ((0 < floor) × PassesIn (take floor level.now.known.now) (meets level.now.from.now
+        level.now.atom.now.terms before.now.to fact.terms) level.now.atom.now.terms fact.terms
+        set)) }
+    ensures counted { OnOk result (AreCounted count kept.new) }
+{
+    match fact_at(level.known, level.atom, place) {
+        None => Ok(()),
+        Some((entry, fact)) => {
+            let step = Step {
+                known: level.known,
+                from: level.from,
+                terms: level.atom.terms.items(),
+                to: before.to.items(),
+                owns: fact.terms.items(),
+                places: level.places,
+                key: key ^ hash_at(level.places, level.from.len(), fact.terms.items()),
+            };
+            pass_from(alloc, &step, before, place, entry, floor, count, kept)?;
+            Ok(())
+        }
+    }
+}
+
+/// The place from on which an equality is asked for: none, where the way or the entry is new.
+fn floor_for(new: bool, place: usize, since: usize) -> usize
+    ensures { 0 < result → (new ≡ false) × (place < since) × (result ≡ since) }
+{
+    if new || place >= since { 0 } else { since }
+}
+
+/// Keeps the ways that go on from one with any of the facts, each of which is tried.
+fn match_way(
+    alloc: Global,
+    level: &Level,
+    before: &Way,
+    facts: &[usize],
+    count: usize,
+    kept: &mut Kept,
+) -> Result<(), OutOfMemory>
+    requires facts { AreAllFacts level.now.known.now
+        level.now.atom.now.relation facts.now }
+    requires lengths { length level.now.from.now ≡ length before.now.to }
+    requires count { length before.now.product ≡ count }
+    requires counts { AreOfCount count level.now.known.now }
+    requires counted { AreCounted count kept.old }
+    ensures grown { OnOk result (Grown (Comes level.now.known.now level.now.from.now
+        level.now.atom.now before.now) kept.old kept.new) }
+    ensures goes { OnOk result (GoesOn level.now.known.now level.now.since level.now.from.now
+        level.now.atom.now level.now.places.now before.now kept.new) }
+    ensures counted { OnOk result (AreCounted count kept.new) }
+{
+    let new = is_new(before, level.since);
+    let key = hash_at(level.places, 0, before.to.items());
+    'facts: for place in facts {
+        let floor = floor_for(new, *place, level.since);
+        match_entry(alloc, level, before, key, *place, floor, count, kept)?;
+    }
+    Ok(())
+}
+
+/// Keeps the ways that go on from all of the given ones.
+pub fn match_all(
+    alloc: Global,
+    level: &Level,
+    given: &[Way],
+    facts: &[usize],
+    count: usize,
+    kept: &mut Kept,
+) -> Result<(), OutOfMemory>
+    requires facts { AreAllFacts level.now.known.now
+        level.now.atom.now.relation facts.now }
+    requires lengths { (way : Way) → Contains given.now way
+        → length level.now.from.now ≡ length way.to }
+    requires given { AreCounted count given.now }
+    requires counts { AreOfCount count level.now.known.now }
+    requires counted { AreCounted count kept.old }
+    ensures grown { OnOk result (Grown (λ way. (before : Way) × Contains given.now before
+        × Comes level.now.known.now level.now.from.now level.now.atom.now before way)
+        kept.old kept.new) }
+    ensures goes { OnOk result ((before : Way) → Contains given.now before
+        → GoesOn level.now.known.now level.now.since level.now.from.now level.now.atom.now
+        level.now.places.now before kept.new) }
+    ensures counted { OnOk result (AreCounted count kept.new) }
+{
+    'given: for before in given {
+        match_way(alloc, level, before, facts, count, kept)?;
+    }
+    Ok(())
+}
