@@ -20,7 +20,7 @@ use Rattle.esto_condchase.specs.News.{AreFoundAnew, IsOlder}
 use Rattle.esto_condchase.specs.Ways.{AgreeOn, IsWay, IsFound, AreFound, AreNext, Comes, GoesOn, GoesOld, HasWay, TellsOne, AreCounted}
 use Rattle.esto_condchase.specs.declared.ways.Way.{Way}
 use Rattle.esto_condchase.proofs.NewsLemmas.{old_match}
-use Rattle.esto_condchase.proofs.WayLemmas.{terms_of-push, last_chosen, chosen_length, AgreeOn-more, AgreeOn-same, row_agrees, live_turn}
+use Rattle.esto_condchase.proofs.WayLemmas.{terms_of-push, last_chosen, chosen_length, AgreeOn-more, AgreeOn-same, AgreeOn-from, row_agrees, live_turn}
 
 -- ---- one atom more
 
@@ -104,9 +104,9 @@ module _ (entries : List Entry) (since : ℕ) (body : List (Fact Term)) (atom : 
                 its.chosen ++ fact ∷ [],
                 AgreeOn-same live (terms_of body ++ atom.terms) (terms_of (body ++ atom ∷ [])) (terms_of (its.chosen ++ fact ∷ []))
                     (terms_of split.0 ++ fact.terms) (terms_of chosen) (terms_of-push body atom) chosen_is
-                    (λ term inside. subst (λ it. taken (terms_of body ++ atom.terms) it term
-                    ≡ taken (terms_of body ++ atom.terms) (terms_of split.0 ++ fact.terms) term) (ap (λ it. it ++ fact.terms) to_is ∙ sym its_is)
-                    (agree term (Contains-append_right atom.terms live term inside))),
+                    (AgreeOn-from live (terms_of body ++ atom.terms) (before.0.to ++ fact.terms) (terms_of (its.chosen ++ fact ∷ []))
+                    (terms_of split.0 ++ fact.terms) (ap (λ it. it ++ fact.terms) to_is ∙ sym its_is)
+                    (λ term inside. agree term (Contains-append_right atom.terms live term inside))),
                 (
                   zip_append _ body (atom ∷ []) its.chosen (fact ∷ []) older.0 ((stated, split.4.1, split.4.2), tt),
                   rw (terms_of-push body atom, its_is) (Fits-join (Touching (InWorld (take since entries) atoms)) (terms_of body) (terms_of its.chosen)

@@ -29,7 +29,7 @@ use Rattle.esto_world_laws.proofs.LinkLemmas.{Touching-more}
 use Rattle.esto_world_laws.proofs.TakenLemmas.{taken-Const, taken_cases, Fits-join}
 use Rattle.esto_condchase.proofs.WayLemmas.{IsUnion-more, last_more, fact_more, within_united, taken-apart, IsNamed-held}
 use Rattle.esto_condchase.specs.Ways.{AreCounted, IsWay, Grown, HasLater, AreAllLive, AreAllFacts, IsFirstAt, AgreeAt, TellsOne, HasWay, HasSupport, meets, IsLinkedFrom, TouchesFrom}
-use Rattle.esto_condchase.specs.Ways.{floor_of, PassesTo, PassesIn, IsPassedAt, IsLonger, IsSupport, AreLonger, AreSupports, ComesBy, Comes, extended, IsOldWay, GoesOld, GoesOn}
+use Rattle.esto_condchase.specs.Ways.{IsFreeLink, floor_of, PassesTo, PassesIn, IsPassedAt, IsLonger, IsSupport, AreLonger, AreSupports, ComesBy, Comes, extended, IsOldWay, GoesOld, GoesOn}
 use Rattle.esto_condchase.specs.declared.passing.Support.{Support}
 use Rattle.esto_condchase.specs.declared.ways.Way.{Way}
 
@@ -639,3 +639,10 @@ floor_goes entries m terms owns floor before entry product Settled is goes some 
 pub longer_items : (entries : List Entry) (own goal : Term) (floor : ℕ) (Settled : List Bool → Type 0) (given items later : List Support) → items ≡ given
     → AreLonger entries own goal floor Settled items later → AreLonger entries own goal floor Settled given later
 longer_items entries own goal floor Settled given items later same longer = subst (λ it. AreLonger entries own goal floor Settled it later) same longer
+
+pub free_goes : (entries : List Entry) (floor : ℕ) (own goal : Term) (product : List Bool) (place : ℕ) (Found : List Bool → Type 0)
+    → IsFreeLink entries floor own goal product place
+    → ((set : List Bool) (entry : Entry) → floor ≤ place → slice_get entries place ≡ Some entry → SaysOne entry.claim own goal
+    → Within product set → Within entry.product set → Found set) → (set : List Bool) → Within product set → IsLinkedFrom entries floor set own goal → Found set
+free_goes entries floor own goal product place Found (entry, late, at, says, free) goes set within link =
+    goes set entry late at says within (λ number has. within number (free number has))

@@ -294,3 +294,6 @@ pub from_turn : (body : List (Fact Term)) (place : ℕ) (atom : Fact Term) (from
     → later ≡ terms_of (take (place + 1) body)
 from_turn body place atom from later copied within is from_is copied_is grown =
     rw (take-item body place atom within is) (grown ∙ (λ i. from_is i ++ copied_is i) ∙ sym (terms_of-push (take place body) atom))
+
+pub AgreeOn-from : (terms from to its others : List Term) → to ≡ its → AgreeOn terms from to others → AgreeOn terms from its others
+AgreeOn-from terms from to its others same agree = subst (λ it. AgreeOn terms from it others) same agree

@@ -104,6 +104,11 @@ abbrev pub IsLinkedFrom : List Entry → ℕ → List Bool → Term → Term →
 IsLinkedFrom entries floor set own goal =
     (place : ℕ) × (entry : Entry) × floor ≤ place × (slice_get entries place ≡ Some entry) × SaysOne entry.claim own goal × Within entry.product set
 
+-- The entry at the place, from a place on, is an equality of the terms, whose product is within the set.
+abbrev pub IsFreeLink : List Entry → ℕ → Term → Term → List Bool → ℕ → Type 0
+IsFreeLink entries floor own goal product place =
+    (entry : Entry) × floor ≤ place × (slice_get entries place ≡ Some entry) × SaysOne entry.claim own goal × Within entry.product product
+
 -- The two terms are equal, or one by such an equality.
 abbrev pub TouchesFrom : List Entry → ℕ → List Bool → Term → Term → Type 0
 TouchesFrom entries floor set own goal = (own ≡ goal) ⊎ IsLinkedFrom entries floor set own goal

@@ -1,10 +1,10 @@
 //! Ways that are kept, which are found by what they tell.
-ghost use Rattle.std.specs.Prelude.{◌≡◌, ◌++◌, ◌∷◌, [], length, slice_get, Contains, IsTrue, IfOk, IfSome, OnOk, MatchOption, ℕ};
+ghost use Rattle.std.specs.Prelude.{◌≡◌, ◌<◌, ◌++◌, ◌∷◌, [], length, slice_get, Contains, IsTrue, IfOk, IfSome, OnOk, MatchOption, ℕ};
 ghost use Rattle.esto_term.specs.declared.term.Term.{Term};
 ghost use Rattle.esto_condchase.specs.Ways.{AreCounted, AgreeAt, IsFirstAt, TellsOne, HasWay};
 
 use crate::ways::Way;
-use esto_bits::RowBits;
+use esto_bits::{Products, RowBits};
 use esto_columns::Index;
 use esto_known::term_hash;
 use esto_term::{List, OutOfMemory, Places, Term, Values};
@@ -122,11 +122,128 @@ fn agree_at(places: &[usize], row: &[Term], to: &[Term], owns: &[Term]) -> bool
     true
 }
 
-/// Ways that are kept, which are found by a hash of what they tell. Contracts see the list of the ways.
+/// Kept ways of one key: their places, in the order in which they came, and the minimal ones of their products.
+#[derive(Drop)]
+struct Group {
+    key: u64,
+    places: Places,
+    by: Products,
+}
+
+/// The place of the group of the key, if there is one. The index leads to the groups.
+fn group_of(groups: &[Group], index: &Index, key: u64) -> Option<usize>
+    ensures { IfSome result (λ at. at < length groups.now) }
+{
+    let mut next = index.last_of(&[key]);
+    'groups: while next > 0 {
+        let at = next - 1;
+        if at < groups.len() && groups[at].key == key {
+            return Some(at);
+        }
+        next = index.before(at);
+    }
+    None
+}
+
+/// Puts a way into its group.
+fn put_way(
+    alloc: Global,
+    place: usize,
+    product: &RowBits,
+    group: &mut Group,
+) -> Result<(), OutOfMemory> {
+    group.places.push(place)?;
+    if group.by.count() == product.count() {
+        group.by.add(alloc, product)?;
+    }
+    Ok(())
+}
+
+/// The group of no ways yet.
+fn new_group(alloc: Global, key: u64, count: usize) -> Group {
+    Group {
+        key,
+        places: Values::new(alloc),
+        by: Products::new(alloc, count),
+    }
+}
+
+/// Puts a way into the group of its key, which begins with it where there is none.
+fn group_way(
+    alloc: Global,
+    key: u64,
+    place: usize,
+    product: &RowBits,
+    groups: &mut Vec<Group>,
+    index: &mut Index,
+) -> Result<(), OutOfMemory> {
+    if let Some(at) = group_of(groups.as_slice(), index, key) {
+        let group = &mut groups[at];
+        return put_way(alloc, place, product, group);
+    }
+    let mut group = new_group(alloc, key, product.count());
+    put_way(alloc, place, product, &mut group)?;
+    index.add(&[key])?;
+    match groups.push(group) {
+        Ok(()) => Ok(()),
+        Err(_) => Err(OutOfMemory),
+    }
+}
+
+/// Whether the products of a group tell at once that none of them is within the set.
+fn rules_out(group: &Group, product: &RowBits) -> bool {
+    group.by.count() == product.count() && !group.by.covered(product)
+}
+
+/// Whether the way at the place has at these places what stands in the one row and the other behind it, with a product within the
+/// set.
+fn covers_at(
+    ways: &[Way],
+    at: usize,
+    product: &RowBits,
+    places: &[usize],
+    to: &[Term],
+    owns: &[Term],
+) -> bool
+    requires { AreCounted (length product.now) ways.now }
+    ensures { IsTrue result → HasWay places.now ways.now (to.now ++ owns.now) product.now }
+{
+    match ways.get(at) {
+        None => false,
+        Some(way) => way.product.within(product) && agree_at(places, way.to.items(), to, owns),
+    }
+}
+
+/// Whether a way of the group has at these places what stands in the one row and the other behind it, with a product within the
+/// set: true comes only where one has.
+fn covers_in(
+    ways: &[Way],
+    group: &Group,
+    product: &RowBits,
+    places: &[usize],
+    to: &[Term],
+    owns: &[Term],
+) -> bool
+    requires { AreCounted (length product.now) ways.now }
+    ensures { IsTrue result → HasWay places.now ways.now (to.now ++ owns.now) product.now }
+{
+    if rules_out(group, product) {
+        return false;
+    }
+    'ways: for at in group.places.items() {
+        if covers_at(ways, *at, product, places, to, owns) {
+            return true;
+        }
+    }
+    false
+}
+
+/// Ways that are kept, in groups by a hash of what they tell. Contracts see the list of the ways: that a way is found wherever
+/// one tells the same is not promised.
 #[derive(Drop)]
 pub struct Kept {
     ways: List<Way>,
-    keys: Values<u64>,
+    groups: Vec<Group>,
     index: Index,
 }
 
@@ -144,14 +261,14 @@ impl Model for Kept {
 }
 
 impl Kept {
-    /// No ways, with room to find so many fast.
+    /// No ways, with room to find so many groups fast.
     pub fn new(alloc: Global, count: usize) -> Result<Kept, OutOfMemory>
         ensures { IfOk result (λ it. it ≡ []) }
     {
         let index = Index::new(alloc, count)?;
         Ok(Kept {
             ways: List::new(alloc),
-            keys: Values::new(alloc),
+            groups: Vec::new(alloc),
             index,
         })
     }
@@ -161,28 +278,6 @@ impl Kept {
         ensures { result ≡ self }
     {
         self.ways
-    }
-
-    /// Whether the kept way at the place has at these places what stands in the one row and the other behind it, with a product
-    /// within the set.
-    fn covers_at(
-        &self,
-        at: usize,
-        product: &RowBits,
-        places: &[usize],
-        to: &[Term],
-        owns: &[Term],
-    ) -> bool
-        requires { AreCounted (length product.now) self.now }
-        ensures { IsTrue result
-            → HasWay places.now self.now (to.now ++ owns.now) product.now }
-    {
-        match self.ways.items().get(at) {
-            None => false,
-            Some(way) => {
-                way.product.within(product) && agree_at(places, way.to.items(), to, owns)
-            }
-        }
     }
 
     /// Whether a kept way of this key has at these places what stands in the one row and the other behind it, with a product
@@ -199,25 +294,21 @@ impl Kept {
         ensures { IsTrue result
             → HasWay places.now self.now (to.now ++ owns.now) product.now }
     {
-        let mut next = self.index.last_of(&[key]);
-        'ways: while next > 0 {
-            let at = next - 1;
-            if self.keys.items().get(at).copied().unwrap_or(0) == key
-                && self.covers_at(at, product, places, to, owns)
-            {
-                return true;
+        match group_of(self.groups.as_slice(), &self.index, key) {
+            None => false,
+            Some(at) => {
+                let group = &self.groups[at];
+                covers_in(self.ways.items(), group, product, places, to, owns)
             }
-            next = self.index.before(at);
         }
-        false
     }
 
     /// Puts a way of this key at the end.
-    pub fn push(&mut self, key: u64, way: Way) -> Result<(), OutOfMemory>
+    pub fn push(&mut self, alloc: Global, key: u64, way: Way) -> Result<(), OutOfMemory>
         ensures { OnOk result (self.new ≡ self.old ++ way ∷ []) }
     {
-        self.index.add(&[key])?;
-        self.keys.push(key)?;
+        let place = self.ways.len();
+        group_way(alloc, key, place, &way.product, &mut self.groups, &mut self.index)?;
         self.ways.push(way)
     }
 }

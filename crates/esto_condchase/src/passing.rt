@@ -5,7 +5,7 @@ ghost use Rattle.esto_world_laws.specs.Matches.{taken};
 ghost use Rattle.esto_world_laws.specs.Worlds.{AreOfCount, SaysOne};
 ghost use Rattle.esto_world_laws.specs.declared.entry.Entry.{Entry};
 ghost use Rattle.esto_condchase.specs.declared.passing.Support.{Support};
-ghost use Rattle.esto_condchase.specs.Ways.{AreCounted, AreAllLive, Grown, HasWay, HasSupport, IsLonger, IsLinkedFrom, AreLonger, AreSupports, floor_of, meets};
+ghost use Rattle.esto_condchase.specs.Ways.{AreCounted, AreAllLive, Grown, HasWay, HasSupport, IsLonger, IsLinkedFrom, IsFreeLink, AreLonger, AreSupports, floor_of, meets};
 
 use crate::kept::Kept;
 use crate::live::links_of;
@@ -165,7 +165,49 @@ fn longer_at(
     }
 }
 
-/// Adds the support with one of the equalities of the two terms more, each of which is tried.
+/// Whether the entry at the place says that the two terms are one, from a place on, and rests on no atom beyond the set.
+fn is_free(
+    known: &Known,
+    own: &Term,
+    goal: &Term,
+    floor: usize,
+    product: &RowBits,
+    place: usize,
+) -> bool
+    requires { AreOfCount (length product.now) known.now }
+    ensures { IsTrue result → IsFreeLink known.now floor own.now goal.now product.now place }
+{
+    if place < floor {
+        return false;
+    }
+    match link_at(known, own, goal, place) {
+        None => false,
+        Some(entry) => entry.product.within(product),
+    }
+}
+
+/// The place of an equality of the two terms, from a place on, that rests on no atom beyond the set, if there is one.
+fn free_link(
+    known: &Known,
+    own: &Term,
+    goal: &Term,
+    floor: usize,
+    product: &RowBits,
+    links: &[usize],
+) -> Option<usize>
+    requires { AreOfCount (length product.now) known.now }
+    ensures { IfSome result (λ at. IsFreeLink known.now floor own.now goal.now product.now at) }
+{
+    'links: for place in links {
+        if is_free(known, own, goal, floor, product, *place) {
+            return Some(*place);
+        }
+    }
+    None
+}
+
+/// Adds the support with one of the equalities of the two terms more. One that rests on no atom beyond those of the support is enough;
+/// else each is tried.
 fn longer(
     alloc: Global,
     step: &Step,
@@ -187,6 +229,9 @@ fn longer(
         → IsLinkedFrom step.now.known.now floor set own.now goal.now → HasSupport next.new set
         ⊎ HasWay step.now.places.now kept.now (step.now.to.now ++ step.now.owns.now) set) }
 {
+    if let Some(place) = free_link(step.known, own, goal, floor, &before.product, links) {
+        return longer_at(alloc, step, own, goal, floor, before, place, kept, next);
+    }
     'links: for place in links {
         longer_at(alloc, step, own, goal, floor, before, *place, kept, next)?;
     }

@@ -81,7 +81,7 @@ fn keep(
         return Ok(());
     }
     let way = extended(alloc, step, before, place, support)?;
-    kept.push(step.key, way)
+    kept.push(alloc, step.key, way)
 }
 
 /// Keeps the ways that go on with the supports.
