@@ -136,7 +136,7 @@ fn seek<'a, 'b>(
     ensures decides { IfOk result (DecidesActive facts.now (rule_of rule.now)
         (with_trail start.now trail.old.items) left.old) }
 {
-    let Some(choice) = next_atom(start, facts, trail, left) else {
+    let Some(choice) = next_atom(start, facts, trail, &[], left) else {
         return is_active(alloc, start, rule, facts, trail);
     };
     let atom = left.take(choice.place);

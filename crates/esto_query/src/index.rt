@@ -199,6 +199,37 @@ pub fn places_for<'b, 'c, 'a: 'c>(
     best
 }
 
+/// How many places the term's bucket in the column has, if it is fewer, where the first atom goes to the fact.
+fn ways_by(
+    index: &Index,
+    first: &Atom,
+    fact: &Atom,
+    relation: usize,
+    column: usize,
+    term: &Term,
+) -> usize {
+    'columns: for (place, shared) in first.terms.items().iter().enumerate() {
+        if shared.equal(term) {
+            return match fact.terms.items().get(place) {
+                Some(value) => index.terms.at(key_hash(relation, column, value)).len(),
+                None => usize::MAX,
+            };
+        }
+    }
+    usize::MAX
+}
+
+/// How many places are left to the other atom of so many, where the first one goes to the fact.
+pub fn least_after(index: &Index, first: &Atom, fact: &Atom, other: &Atom, ways: usize) -> usize {
+    let mut least = ways;
+    'columns: for (column, term) in other.terms.items().iter().enumerate() {
+        if is_among(&index.columns, other.relation, column) {
+            least = least.min(ways_by(index, first, fact, other.relation, column, term));
+        }
+    }
+    least
+}
+
 /// The places at or after the given one.
 pub fn places_from(places: &[usize], least: usize) -> &[usize]
     requires { IsRising places.now }

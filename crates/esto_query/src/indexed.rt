@@ -7,7 +7,7 @@ ghost use Rattle.esto_query.specs.Trails.{with_trail, Tries};
 ghost use Rattle.esto_query.specs.Indexes.{AreCandidates};
 
 use crate::columns::Columns;
-use crate::index::{Index, index_of, places_for};
+use crate::index::{Index, index_of, least_after, places_for};
 use crate::trail::{Binding, bind_atom};
 use crate::valuation::Valuation;
 use esto_semantics::{Atom, Facts};
@@ -79,6 +79,17 @@ pub fn candidates<'b>(
     ensures { AreCandidates facts.now atom.now (with_trail start.now trail.now) result.now }
 {
     places_for(start, facts.facts, &facts.index, trail, atom)
+}
+
+/// How many places are left to the other atom of so many, where the first one goes to the fact.
+pub fn ways_after(
+    facts: &IndexedFacts,
+    first: &Atom,
+    fact: &Atom,
+    other: &Atom,
+    ways: usize,
+) -> usize {
+    least_after(&facts.index, first, fact, other, ways)
 }
 
 /// Gives variables terms, if need be, so that the atom becomes the fact at that place; where it
