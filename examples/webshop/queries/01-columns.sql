@@ -1,0 +1,1 @@
+select cid, name, country from Customer;

@@ -1,0 +1,1 @@
+select oid, day from Purchase where cid = 'c2' and state = 'paid';

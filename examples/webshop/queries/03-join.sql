@@ -1,0 +1,1 @@
+select oid, name, city from Purchase join Customer using (cid) join Address using (aid, cid);

@@ -1,0 +1,1 @@
+select oid from Purchase join Parcel using (oid) where state = 'open';

@@ -1,0 +1,1 @@
+select aid, street from Address;

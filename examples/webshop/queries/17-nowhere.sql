@@ -1,0 +1,1 @@
+select key, value from Stock where field = 'note';
