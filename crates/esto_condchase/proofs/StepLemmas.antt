@@ -16,6 +16,7 @@ use Rattle.esto_views.specs.Spreads.{substituted}
 use Rattle.esto_semantics.specs.Sets.{Has, Within, united}
 use Rattle.esto_semantics.specs.declared.fact.Fact.{Fact}
 use Rattle.esto_semantics.proofs.SetLemmas.{has_united, length-united}
+use Rattle.esto_bits.proofs.SetLemmas.{Has-replicate}
 use Rattle.esto_term.proofs.ListLemmas.{Contains-nil, Contains-at, Contains-head, Contains-one, thing_at, place-from_Contains, map_at, HoldsBelow}
 use Rattle.esto_term.proofs.PlaceLemmas.{Contains-take, item_at}
 use Rattle.esto_term.proofs.ZipLemmas.{zip_both, zip_by_places, zip_weaker}
@@ -621,7 +622,7 @@ entry_goes entries from terms to owns atom fact places before place floor entry 
     let fact_is : fact ≡ its_fact = cc in
     let all : owns ≡ its_fact.terms = owns_is ∙ ap (λ (it : Fact Term). it.terms) fact_is in
     let Goes : List Term → List Term → List Term → Type 0 = λ terms to owns. PassesIn entries (meets from terms to owns) terms owns set
-        → HasWay places later (to ++ owns) set ⊎ ((0 < floor) × PassesIn (take floor entries) (meets from terms to owns) terms owns set) in
+    → HasWay places later (to ++ owns) set ⊎ ((0 < floor) × PassesIn (take floor entries) (meets from terms to owns) terms owns set) in
     subst (λ it. Goes atom.terms before.to it) all (subst (λ it. Goes atom.terms it owns) to_is (subst (λ it. Goes it to owns) terms_is
     (there set within (subst (λ (it : Entry). Within it.product set) (sym entry_is) its_within)))) passes
 
@@ -646,3 +647,27 @@ pub free_goes : (entries : List Entry) (floor : ℕ) (own goal : Term) (product 
     → Within product set → Within entry.product set → Found set) → (set : List Bool) → Within product set → IsLinkedFrom entries floor set own goal → Found set
 free_goes entries floor own goal product place Found (entry, late, at, says, free) goes set within link =
     goes set entry late at says within (λ number has. within number (free number has))
+
+pub passed_unlinked : (entries : List Entry) (m : Term → Term) (terms owns : List Term) (at floor : ℕ) (product : List Bool) (Settled : List Bool → Type 0)
+    (read d read_term e goal : Term) (links : List ℕ) → at < length owns → at < length terms → read ≡ get_or owns at d → read_term ≡ get_or terms at e
+    → goal ≡ m read_term → AreAllLive entries links (λ claim. SaysOne claim read goal) → ((place : ℕ) → Contains links place → place < floor)
+    → IsPassedAt entries m terms owns floor product Settled at
+passed_unlinked entries m terms owns at floor product Settled read d read_term e goal links within within_terms read_is read_term_is goal_is live low set own term
+    in_set passes at_own at_term apart (place, entry, late, at_entry, says, entry_within) =
+    let own_is = read_is ∙ get_or_default owns at d read within in
+    let its_is = read_term_is ∙ get_or_default terms at e read_term within_terms in
+    let is_own : own ≡ read = same_Some own read (sym at_own ∙ item_at owns at read within own_is) in
+    let is_term : term ≡ read_term = same_Some term read_term (sym at_term ∙ item_at terms at read_term within_terms its_is) in
+    let its_says : SaysOne entry.claim read goal = subst (λ it. SaysOne entry.claim read it) (ap m is_term ∙ sym goal_is)
+    (subst (λ it. SaysOne entry.claim it (m term)) is_own says) in
+    let it = live place entry at_entry its_says in
+    let below = low it.0 it.2 in
+    let above = it.3 in
+    absurd (omega (arith, below, above, late))
+
+pub all_old : (entries : List Entry) (m : Term → Term) (terms owns : List Term) (floor few : ℕ) → length owns ≡ length terms → length owns ≤ few
+    → ((at : ℕ) → at < few → IsPassedAt entries m terms owns floor [] (λ _. ⊥) at)
+    → (set : List Bool) → PassesIn entries m terms owns set → PassesIn (take floor entries) m terms owns set
+all_old entries m terms owns floor few rows past each set passes =
+    elim (anew_end entries m terms owns floor [] (λ _. ⊥) rows (λ at below. each at (omega (arith, below, past))) set (λ number has. absurd (Has-replicate 0 number has))
+    passes) [ inl never ↦ absurd never | inr all ↦ all ]

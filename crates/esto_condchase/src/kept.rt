@@ -59,11 +59,7 @@ fn put_place(from: &[Term], term: &Term, places: &mut Places) -> Result<(), OutO
 }
 
 /// The places that tell what the terms meet first.
-pub fn telling_places(
-    alloc: Global,
-    from: &[Term],
-    terms: &[Term],
-) -> Result<Places, OutOfMemory>
+pub fn telling_places(alloc: Global, from: &[Term], terms: &[Term]) -> Result<Places, OutOfMemory>
     ensures { IfOk result (λ it. (term : Term) → Contains terms.now term
         → TellsOne from.now it term) }
 {
@@ -168,6 +164,26 @@ fn new_group(alloc: Global, key: u64, count: usize) -> Group {
     }
 }
 
+/// The group of one way.
+fn begun(
+    alloc: Global,
+    key: u64,
+    place: usize,
+    product: &RowBits,
+) -> Result<Group, OutOfMemory> {
+    let mut group = new_group(alloc, key, product.count());
+    put_way(alloc, place, product, &mut group)?;
+    Ok(group)
+}
+
+/// Puts a group at the end.
+fn push_group(groups: &mut Vec<Group>, group: Group) -> Result<(), OutOfMemory> {
+    match groups.push(group) {
+        Ok(()) => Ok(()),
+        Err(_) => Err(OutOfMemory),
+    }
+}
+
 /// Puts a way into the group of its key, which begins with it where there is none.
 fn group_way(
     alloc: Global,
@@ -181,13 +197,8 @@ fn group_way(
         let group = &mut groups[at];
         return put_way(alloc, place, product, group);
     }
-    let mut group = new_group(alloc, key, product.count());
-    put_way(alloc, place, product, &mut group)?;
     index.add(&[key])?;
-    match groups.push(group) {
-        Ok(()) => Ok(()),
-        Err(_) => Err(OutOfMemory),
-    }
+    push_group(groups, begun(alloc, key, place, product)?)
 }
 
 /// Whether the products of a group tell at once that none of them is within the set.
@@ -308,7 +319,14 @@ impl Kept {
         ensures { OnOk result (self.new ≡ self.old ++ way ∷ []) }
     {
         let place = self.ways.len();
-        group_way(alloc, key, place, &way.product, &mut self.groups, &mut self.index)?;
+        group_way(
+            alloc,
+            key,
+            place,
+            &way.product,
+            &mut self.groups,
+            &mut self.index,
+        )?;
         self.ways.push(way)
     }
 }

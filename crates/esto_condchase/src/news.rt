@@ -6,11 +6,12 @@ ghost use Rattle.esto_acyclic.specs.Relations.{HasRelation};
 ghost use Rattle.esto_condchase.specs.News.{IsApart, IsSettled, AreFoundAnew};
 ghost use Rattle.esto_condchase.specs.Ways.{AreCounted, IsOldWay};
 
+use crate::steps::both;
 use crate::ways::{Way, match_next, matches_of};
 use esto_known::Known;
 use esto_prov::terms_of;
 use esto_semantics::Atom;
-use esto_term::{List, OutOfMemory, Replicate, Term, Terms};
+use esto_term::{List, OutOfMemory, Term};
 use esto_world_laws::{Claim, Entry};
 use std::alloc::Global;
 
@@ -51,7 +52,7 @@ fn has_news(entries: &[Entry], since: usize, body: &[Atom]) -> bool
 }
 
 /// Whether one of the places is none of the first few.
-fn has_later(places: &[usize], since: usize) -> bool
+pub fn has_later(places: &[usize], since: usize) -> bool
     ensures { result ≡ false → (place : ℕ) → Contains places.now place → place < since }
 {
     'places: for place in places {
@@ -85,21 +86,19 @@ fn anew(
     ensures counted { IfOk result (λ ways. AreCounted count ways) }
 {
     let from = terms_of(alloc, body)?;
-    let live = met_terms(alloc, last, asked)?;
+    let live = both(alloc, last.terms.items(), asked)?;
     let given = matches_of(alloc, known, body, live.items(), count)?;
-    let ways = match_next(alloc, known, since, &from, last, asked, given.items(), count)?;
+    let ways = match_next(
+        alloc,
+        known,
+        since,
+        &from,
+        last,
+        asked,
+        given.items(),
+        count,
+    )?;
     Ok(ways)
-}
-
-/// The terms of the atom, and then those that are asked for.
-fn met_terms(alloc: Global, atom: &Atom, asked: &[Term]) -> Result<Terms, OutOfMemory>
-    ensures { IfOk result (λ it. it ≡ atom.now.terms ++ asked.now) }
-{
-    let mut terms = atom.terms.copy(alloc)?;
-    'asked: for term in asked {
-        terms.push(term.copy(alloc)?)?;
-    }
-    Ok(terms)
 }
 
 /// The direct matches of a body among the entries, as far as they tell what the terms asked for meet, each with what it uses, but

@@ -1,19 +1,20 @@
 //! How a fact goes on from a way: the equalities by which its terms are one with what they have to meet.
-ghost use Rattle.std.specs.Prelude.{◌≡◌, ◌++◌, ◌∷◌, ◌<◌, ◌≤◌, MatchOption, ◌⊎◌, [], List, Some, Bool, Contains, length, map, slice_get, IsTrue, IfOk, IfSome, OnOk, cond, ◌==◌};
+ghost use Rattle.std.specs.Prelude.{◌≡◌, ◌++◌, ◌∷◌, ◌<◌, ◌≤◌, MatchOption, ◌⊎◌, [], List, Some, Bool, Contains, length, map, slice_get, IsTrue, IfOk, IfSome, OnOk, cond, ◌==◌, false, take};
 ghost use Rattle.esto_semantics.specs.Sets.{Within, united};
 ghost use Rattle.esto_world_laws.specs.Matches.{taken};
 ghost use Rattle.esto_world_laws.specs.Worlds.{AreOfCount, SaysOne};
 ghost use Rattle.esto_world_laws.specs.declared.entry.Entry.{Entry};
 ghost use Rattle.esto_condchase.specs.declared.passing.Support.{Support};
-ghost use Rattle.esto_condchase.specs.Ways.{AreCounted, AreAllLive, Grown, HasWay, HasSupport, IsLonger, IsLinkedFrom, IsFreeLink, AreLonger, AreSupports, floor_of, meets};
+ghost use Rattle.esto_condchase.specs.Ways.{AreCounted, AreAllLive, Grown, HasWay, HasSupport, IsLonger, IsLinkedFrom, IsFreeLink, IsPassedAt, PassesIn, AreLonger, AreSupports, floor_of, meets};
 
 use crate::kept::Kept;
 use crate::live::links_of;
+use crate::news::has_later;
 use esto_bits::RowBits;
 use esto_known::Known;
-use esto_world_laws::Entry;
 use esto_prov::taken_term;
 use esto_term::{List, OutOfMemory, Places, Replicate, Term, has_term};
+use esto_world_laws::Entry;
 use std::alloc::Global;
 
 /// The equalities that a way uses, and the union of all products that it rests on.
@@ -260,7 +261,9 @@ fn all_longer(
     let links = links_of(step.known, own, goal);
     let mut next = List::new(alloc);
     'given: for before in given {
-        longer(alloc, step, own, goal, floor, before, links, kept, &mut next)?;
+        longer(
+            alloc, step, own, goal, floor, before, links, kept, &mut next,
+        )?;
     }
     Ok(next)
 }
@@ -290,12 +293,70 @@ fn pass_term(
         supports.old supports.new) }
 {
     let own = &step.owns[index];
-    let goal = met_first(step.from, step.to, step.terms, step.owns, &step.terms[index]);
+    let goal = met_first(
+        step.from,
+        step.to,
+        step.terms,
+        step.owns,
+        &step.terms[index],
+    );
     if own.equal(goal) {
         return Ok(());
     }
     *supports = all_longer(alloc, step, own, goal, floor, supports.items(), kept, count)?;
     Ok(())
+}
+
+/// Whether the term at a place of the row may be one with what it has to meet by an equality from a place on.
+fn is_linked_at(step: &Step, at: usize, floor: usize) -> bool
+    requires lengths { length step.now.from.now ≡ length step.now.to.now }
+    requires rows { length step.now.owns.now ≡ length step.now.terms.now }
+    requires at { at < length step.now.owns.now }
+    ensures { result ≡ false → IsPassedAt step.now.known.now (meets step.now.from.now
+        step.now.terms.now step.now.to.now step.now.owns.now) step.now.terms.now step.now.owns.now
+        floor [] (λ _. ⊥) at }
+{
+    let own = &step.owns[at];
+    let goal = met_first(step.from, step.to, step.terms, step.owns, &step.terms[at]);
+    if own.equal(goal) {
+        return false;
+    }
+    has_later(links_of(step.known, own, goal), floor)
+}
+
+/// Whether some term of the row may be so.
+fn is_linked_anew(step: &Step, floor: usize) -> bool
+    requires lengths { length step.now.from.now ≡ length step.now.to.now }
+    requires rows { length step.now.owns.now ≡ length step.now.terms.now }
+    ensures { result ≡ false → (set : List Bool) → PassesIn step.now.known.now (meets
+        step.now.from.now step.now.terms.now step.now.to.now step.now.owns.now) step.now.terms.now
+        step.now.owns.now set → PassesIn (take floor step.now.known.now) (meets step.now.from.now
+        step.now.terms.now step.now.to.now step.now.owns.now) step.now.terms.now
+        step.now.owns.now set }
+{
+    'row: for at in 0..step.owns.len() {
+        if is_linked_at(step, at, floor) {
+            return true;
+        }
+    }
+    false
+}
+
+/// Whether a floor is given and no equality from there on lets the row pass: true comes only where the entries before it let it
+/// pass wherever it does.
+pub fn is_old(step: &Step, floor: usize) -> bool
+    requires lengths { length step.now.from.now ≡ length step.now.to.now }
+    requires rows { length step.now.owns.now ≡ length step.now.terms.now }
+    ensures { IsTrue result → (0 < floor) × ((set : List Bool) → PassesIn step.now.known.now (meets
+        step.now.from.now step.now.terms.now step.now.to.now step.now.owns.now) step.now.terms.now
+        step.now.owns.now set → PassesIn (take floor step.now.known.now) (meets step.now.from.now
+        step.now.terms.now step.now.to.now step.now.owns.now) step.now.terms.now
+        step.now.owns.now set) }
+{
+    if floor == 0 {
+        return false;
+    }
+    !is_linked_anew(step, floor)
 }
 
 /// At one place of a row a least place is asked for, else none.

@@ -1,5 +1,5 @@
 //! Goes on from ways by one atom, with each fact that is alike to it. A way is made only where no kept way tells the same.
-ghost use Rattle.std.specs.Prelude.{◌≡◌, ◌++◌, ◌⊎◌, ◌<◌, ℕ, List, Bool, false, MatchOption, Some, Contains, length, slice_get, take, IsTrue, IfOk, OnOk};
+ghost use Rattle.std.specs.Prelude.{◌≡◌, ◌++◌, ◌∷◌, [], ◌⊎◌, ◌<◌, ℕ, List, Bool, false, MatchOption, Some, Contains, length, slice_get, take, IsTrue, IfOk, OnOk};
 ghost use Rattle.esto_term.specs.declared.term.Term.{Term};
 ghost use Rattle.esto_semantics.specs.Sets.{Within, united};
 ghost use Rattle.esto_semantics.specs.declared.fact.Fact.{Fact};
@@ -13,27 +13,42 @@ ghost use Rattle.esto_condchase.specs.Ways.{AreCounted, AreAllFacts, Grown, HasW
 
 use crate::kept::{Kept, hash_at};
 use crate::news::is_new;
-use crate::passing::{Step, Support, is_settled, met_first, through_row, union_of};
+use crate::passing::{Step, Support, is_old, is_settled, met_first, through_row, union_of};
 use crate::ways::Way;
 use esto_bits::RowBits;
 use esto_known::Known;
 use esto_semantics::Atom;
-use esto_term::{List, OutOfMemory, Replicate, Term, Terms};
+use esto_term::{List, OutOfMemory, Places, Replicate, Term, Terms};
 use esto_world_laws::{Claim, Entry};
 use std::alloc::Global;
 
+/// Puts copies of the terms at the end of the others.
+fn put_terms(alloc: Global, more: &[Term], terms: &mut Terms) -> Result<(), OutOfMemory>
+    ensures { OnOk result (terms.new ≡ terms.old ++ more.now) }
+{
+    'more: for term in more {
+        terms.push(term.copy(alloc)?)?;
+    }
+    Ok(())
+}
+
 /// Two lists of terms in one.
-fn both(alloc: Global, to: &[Term], owns: &[Term]) -> Result<Terms, OutOfMemory>
+pub fn both(alloc: Global, to: &[Term], owns: &[Term]) -> Result<Terms, OutOfMemory>
     ensures { IfOk result (λ it. it ≡ to.now ++ owns.now) }
 {
     let mut terms = List::new(alloc);
-    'to: for term in to {
-        terms.push(term.copy(alloc)?)?;
-    }
-    'owns: for own in owns {
-        terms.push(own.copy(alloc)?)?;
-    }
+    put_terms(alloc, to, &mut terms)?;
+    put_terms(alloc, owns, &mut terms)?;
     Ok(terms)
+}
+
+/// The places of the way's facts, and one more.
+fn facts_with(alloc: Global, before: &Way, place: usize) -> Result<Places, OutOfMemory>
+    ensures { IfOk result (λ it. it ≡ before.now.facts ++ place ∷ []) }
+{
+    let mut facts = before.facts.copy(alloc)?;
+    facts.push(place)?;
+    Ok(facts)
 }
 
 /// The way with a fact more, of the entry at a place, whose terms go through with a support.
@@ -47,16 +62,11 @@ fn extended(
     requires { step.now.to.now ≡ before.now.to }
     ensures { IfOk result (λ it. it ≡ extended before.now place step.now.owns.now support.now) }
 {
-    let to = both(alloc, step.to, step.owns)?;
-    let mut facts = before.facts.copy(alloc)?;
-    facts.push(place)?;
-    let links = support.links.copy(alloc)?;
-    let product = support.product.copy(alloc)?;
     Ok(Way {
-        to,
-        facts,
-        links,
-        product,
+        facts: facts_with(alloc, before, place)?,
+        links: support.links.copy(alloc)?,
+        product: support.product.copy(alloc)?,
+        to: both(alloc, step.to, step.owns)?,
     })
 }
 
@@ -258,6 +268,9 @@ fn pass_from(
         step.now.owns.now set)) }
     ensures counted { OnOk result (AreCounted count kept.new) }
 {
+    if is_old(step, floor) {
+        return Ok(());
+    }
     let product = union_of(alloc, &before.product, &entry.product)?;
     if is_settled(step, &product, kept) {
         return Ok(());

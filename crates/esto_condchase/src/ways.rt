@@ -7,7 +7,7 @@ ghost use Rattle.esto_condchase.specs.declared.ways.Way.{Way};
 
 use crate::kept::{Kept, telling_places};
 use crate::live::facts_of;
-use crate::steps::{Level, match_all};
+use crate::steps::{Level, both, match_all};
 use esto_bits::RowBits;
 use esto_known::Known;
 use esto_prov::terms_of;
@@ -82,8 +82,7 @@ fn places_for(
     ensures { IfOk result (λ it. (term : Term) → Contains live.now term
         → TellsOne (from.now ++ atom.now.terms) it term) }
 {
-    let mut terms = from.copy(alloc)?;
-    terms.append(atom.terms.copy(alloc)?)?;
+    let terms = both(alloc, from.items(), atom.terms.items())?;
     let places = telling_places(alloc, terms.items(), live)?;
     Ok(places)
 }
@@ -143,14 +142,12 @@ fn go_on(
 }
 
 /// The terms of the atoms, and then those that are asked for.
-pub fn live_terms(alloc: Global, atoms: &[Atom], asked: &[Term]) -> Result<Terms, OutOfMemory>
+fn live_terms(alloc: Global, atoms: &[Atom], asked: &[Term]) -> Result<Terms, OutOfMemory>
     ensures { IfOk result (λ it. it ≡ terms_of atoms.now ++ asked.now) }
 {
-    let mut terms = terms_of(alloc, atoms)?;
-    'asked: for term in asked {
-        terms.push(term.copy(alloc)?)?;
-    }
-    Ok(terms)
+    let terms = terms_of(alloc, atoms)?;
+    let live = both(alloc, terms.items(), asked)?;
+    Ok(live)
 }
 
 /// The direct matches of a body among the entries, each with what it uses, as far as they tell what the terms meet that are

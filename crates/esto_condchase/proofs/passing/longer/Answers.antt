@@ -26,9 +26,9 @@ returns-clause-grown c = c.links.invariant.grown
 pub links-preserved : goal.links-preserved
 links-preserved c =
     let Goes : List Support → ℕ → Type 0 = λ next place. (set : List Bool) (entry : Entry) → c.args.floor ≤ place
-        → slice_get c.args.step.now.known.now place ≡ Some entry → SaysOne entry.claim c.args.own.now c.args.goal.now → Within c.args.before.now.product set
-        → Within entry.product set → HasSupport next set
-        ⊎ HasWay c.args.step.now.places.now c.args.kept.now (c.args.step.now.to.now ++ c.args.step.now.owns.now) set in
+    → slice_get c.args.step.now.known.now place ≡ Some entry → SaysOne entry.claim c.args.own.now c.args.goal.now → Within c.args.before.now.product set
+    → Within entry.product set → HasSupport next set
+    ⊎ HasWay c.args.step.now.places.now c.args.kept.now (c.args.step.now.to.now ++ c.args.step.now.owns.now) set in
     record {
       grown = grown_then (IsLonger c.args.step.now.known.now c.args.own.now c.args.goal.now c.args.before.now) c.args.next.now c.links.next c.longer_at-in-links.new.next
           c.links.invariant.grown c.in_ok-longer_at.ensures.grown;

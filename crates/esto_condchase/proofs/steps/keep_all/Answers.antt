@@ -21,7 +21,7 @@ pub supports-preserved : goal.supports-preserved
 supports-preserved c =
     let inside = Contains-read c.args.supports.now c.supports.support-index c.support-item.result c.supports-test.true c.support-item.is in
     let Comes : Way → Type 0 = λ way. (support : Support) × Contains c.args.supports.now support
-        × (way ≡ extended c.args.before.now c.args.place c.args.step.now.owns.now support) in
+    × (way ≡ extended c.args.before.now c.args.place c.args.step.now.owns.now support) in
     let This : Way → Type 0 = λ way. way ≡ extended c.args.before.now c.args.place c.args.step.now.owns.now c.support-item.result in
     let to = c.args.step.now.to.now ++ c.args.step.now.owns.now in
     record {
