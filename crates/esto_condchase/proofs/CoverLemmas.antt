@@ -1,11 +1,15 @@
 -- What is covered, and entries that are added where it is not.
-use Rattle.std.proofs.Common.{◌≡◌, ◌⊎◌, inl, inr, ℕ, Bool, List, [], ◌∷◌, ◌++◌, length, Contains, refl, sym, ap, ◌∙◌, subst}
-use Rattle.std.proofs.lemmas.List.{append_assoc}
+use Rattle.std.proofs.Common.{◌≡◌, ◌⊎◌, inl, inr, ℕ, ◌+◌, ◌<◌, Bool, List, [], ◌∷◌, ◌++◌, length, take, get_or, Contains, refl, sym, ap, ◌∙◌, subst}
+use Rattle.std.proofs.lemmas.List.{append_assoc, append-nil}
 use Rattle.std.proofs.lemmas.List.Elements.{Contains-append_cases, Contains-append_left, Contains-append_right, Contains-push, Contains-push_cases}
 use Rattle.esto_semantics.specs.Rules.{Rule}
 use Rattle.esto_semantics.specs.Sets.{Within}
 use Rattle.esto_views.specs.declared.expansion.ExpandedFact.{ExpandedFact}
-use Rattle.esto_world_laws.specs.Worlds.{InWorld}
+use Rattle.esto_term.specs.declared.term.Term.{Term}
+use Rattle.esto_term.proofs.ListLemmas.{Contains-nil}
+use Rattle.esto_term.proofs.PlaceLemmas.{take-item}
+use Rattle.esto_world_laws.specs.Matches.{Touching}
+use Rattle.esto_world_laws.specs.Worlds.{InWorld, AreOfCount}
 use Rattle.esto_world_laws.specs.Claims.{AreSameClaim}
 use Rattle.esto_world_laws.specs.Steps.{IsCovered}
 use Rattle.esto_world_laws.specs.Derived.{Follows, AreDerived}
@@ -13,8 +17,8 @@ use Rattle.esto_world_laws.specs.declared.entry.Claim.{Claim}
 use Rattle.esto_world_laws.specs.declared.entry.Claim.TheVariants.{Fact as Stated, Same}
 use Rattle.esto_world_laws.specs.declared.entry.Reason.{Reason}
 use Rattle.esto_world_laws.specs.declared.entry.Entry.{Entry}
-use Rattle.esto_world_laws.proofs.GrowLemmas.{InWorld-more, InWorld-within, IsCovered-more, AreDerived-push}
-use Rattle.esto_condchase.specs.Rounds.{IsAdded, IsTrivial, IsThere, Grows}
+use Rattle.esto_world_laws.proofs.GrowLemmas.{InWorld-more, InWorld-within, IsCovered-more, Follows-append, AreDerived-push}
+use Rattle.esto_condchase.specs.Rounds.{IsAdded, IsNoted, IsTrivial, IsThere, IsFollowing, AsksMore, IsGrownBy}
 use Rattle.esto_known.specs.Indexes.{CoversClaim}
 
 -- ---- covered
@@ -40,34 +44,17 @@ itself_alike own claim is = subst (AreSameClaim own) is (by own)
     by (Stated fact) = refl
     by (Same left right) = inl (refl, refl)
 
-module _ (entries more : List Entry) (product : List Bool) where
-  split : (entry : Entry) (claim : Claim) → Contains (entries ++ more) entry → AreSameClaim entry.claim claim → Within entry.product product
-      → CoversClaim entries claim product ⊎ CoversClaim more claim product
-  split entry claim inside alike within = elim (Contains-append_cases entries more entry inside) [
-    | inl here ↦ inl (entry, here, alike, within)
-    | inr there ↦ inr (entry, there, alike, within)
-  ]
-
-  pub covered_cases : (claim : Claim) → IsCovered (InWorld (entries ++ more) product) claim → IsTrivial claim
-      ⊎ (CoversClaim entries claim product ⊎ CoversClaim more claim product)
-  covered_cases (Stated fact) (entry, inside, within, is) = inr (split entry (Stated fact) inside (itself_alike entry.claim (Stated fact) is) within)
+module _ (entries : List Entry) (product : List Bool) where
+  pub covered_cases : (claim : Claim) → IsCovered (InWorld entries product) claim → IsTrivial claim ⊎ CoversClaim entries claim product
+  covered_cases (Stated fact) (entry, inside, within, is) = inr (entry, inside, itself_alike entry.claim (Stated fact) is, within)
   covered_cases (Same left right) (inl is) = inl is
-  covered_cases (Same left right) (inr (inl (entry, inside, within, is))) =
-      inr (split entry (Same left right) inside (itself_alike entry.claim (Same left right) is) within)
+  covered_cases (Same left right) (inr (inl (entry, inside, within, is))) = inr (entry, inside, itself_alike entry.claim (Same left right) is, within)
   covered_cases (Same left right) (inr (inr (entry, inside, within, is))) =
-      inr (split entry (Same left right) inside (subst (λ it. AreSameClaim it (Same left right)) (sym is) (inr (refl, refl))) within)
+      inr (entry, inside, subst (λ it. AreSameClaim it (Same left right)) (sym is) (inr (refl, refl)), within)
 
-  pub trivial_covered : (claim : Claim) → IsTrivial claim → IsCovered (InWorld (entries ++ more) product) claim
+  pub trivial_covered : (claim : Claim) → IsTrivial claim → IsCovered (InWorld entries product) claim
   trivial_covered (Stated fact) trivial = absurd trivial
   trivial_covered (Same left right) trivial = inl trivial
-
-  pub covered_left : (claim : Claim) → CoversClaim entries claim product → IsCovered (InWorld (entries ++ more) product) claim
-  covered_left claim covers = IsCovered-more (InWorld-more entries (entries ++ more) product (λ entry inside. Contains-append_left entries more entry inside))
-      claim (covers_covered entries claim product covers)
-
-  pub covered_right : (claim : Claim) → CoversClaim more claim product → IsCovered (InWorld (entries ++ more) product) claim
-  covered_right claim covers = IsCovered-more (InWorld-more more (entries ++ more) product (λ entry inside. Contains-append_right entries more entry inside))
-      claim (covers_covered more claim product covers)
 
 -- what is covered in the world of a product is there for it
 pub covered_there : (entries : List Entry) (claim : Claim) (own product : List Bool) → own ≡ product → IsCovered (InWorld entries own) claim
@@ -75,7 +62,17 @@ pub covered_there : (entries : List Entry) (claim : Claim) (own product : List B
 covered_there entries claim own product same covered atoms within =
     IsCovered-more (InWorld-within entries product atoms within) claim (subst (λ it. IsCovered (InWorld entries it) claim) same covered)
 
--- ---- growth
+-- a claim of the world is covered in it
+pub holds_covered : (entries : List Entry) (atoms : List Bool) (claim : Claim) → InWorld entries atoms claim → IsCovered (InWorld entries atoms) claim
+holds_covered entries atoms (Stated fact) holds = holds
+holds_covered entries atoms (Same left right) holds = inr (inl holds)
+
+pub touching_back : (Holds : Claim → Type 0) (term other : Term) → Touching Holds term other → Touching Holds other term
+touching_back Holds term other (inl is) = inl (sym is)
+touching_back Holds term other (inr (inl along)) = inr (inr along)
+touching_back Holds term other (inr (inr back)) = inr (inl back)
+
+-- ---- what is asked for
 
 -- more claims are there where entries grow
 pub IsThere-grows : (entries more later : List Entry) → ((entry : Entry) → Contains more entry → Contains later entry) → (claim : Claim) (product : List Bool)
@@ -86,53 +83,146 @@ IsThere-grows entries more later kept claim product there atoms within =
       | inr last ↦ Contains-append_right entries later entry (kept entry last)
     ])) claim (there atoms within)
 
-pub Grows-none : (rules : List Rule) (count : ℕ) (entries more : List Entry) → Grows rules count entries more more
-Grows-none rules count entries more = record { kept = λ entry inside. inside; derived = λ expanded derived. derived; counted = λ counts. counts }
+pub AsksMore-none : (rules : List Rule) (count : ℕ) (entries more : List Entry) → AsksMore rules count entries more more
+AsksMore-none rules count entries more = record { kept = λ entry inside. inside; new = λ entry inside. inl inside }
 
-pub Grows-then : (rules : List Rule) (count : ℕ) (entries one two three : List Entry) → Grows rules count entries one two → Grows rules count entries two three
-    → Grows rules count entries one three
-Grows-then rules count entries one two three first second = record {
+pub AsksMore-then : (rules : List Rule) (count : ℕ) (entries one two three : List Entry) → AsksMore rules count entries one two
+    → AsksMore rules count entries two three → AsksMore rules count entries one three
+AsksMore-then rules count entries one two three first second = record {
   kept = λ entry inside. second.kept entry (first.kept entry inside);
-  derived = λ expanded derived. second.derived expanded (first.derived expanded derived);
-  counted = λ counts. second.counted (first.counted counts);
+  new = λ entry inside. elim (second.new entry inside) [ inl earlier ↦ first.new entry earlier | inr follows ↦ inr follows ];
 }
 
+module _ (rules : List Rule) (count : ℕ) (entries more later : List Entry) (entry : Entry) where
+  -- one entry more that follows
+  pub pushed_asks : later ≡ more ++ entry ∷ [] → IsFollowing rules count entries entry → AsksMore rules count entries more later
+  pushed_asks is follows = record {
+    kept = λ own inside. subst (λ its. Contains its own) (sym is) (Contains-append_left more (entry ∷ []) own inside);
+    new = λ own inside. elim (Contains-push_cases more entry own (subst (λ its. Contains its own) is inside)) [
+      | inl earlier ↦ inl earlier
+      | inr same ↦ inr (subst (IsFollowing rules count entries) same follows)
+    ];
+  }
+
+  -- and it is there
+  pub pushed_there : later ≡ more ++ entry ∷ [] → IsThere (entries ++ later) entry.claim entry.product
+  pushed_there is atoms within = holds_covered (entries ++ later) atoms entry.claim (
+    entry,
+    Contains-append_right entries later entry (subst (λ its. Contains its entry) (sym is) (Contains-push more entry)),
+    within,
+    refl,
+  )
+
 module _ (rules : List Rule) (count : ℕ) (entries more later : List Entry) (claim : Claim) (product : List Bool) (reason : Reason)
-    (counted : length product ≡ count) (added : IsAdded entries more claim product reason later) where
-  -- what follows from the entries may be added
-  pub added-Grows : ((expanded : List ExpandedFact) → Follows expanded rules (entries ++ more) claim product reason) → Grows rules count entries more later
-  added-Grows follows = elim added [
-    | inl same ↦ subst (Grows rules count entries more) (sym same.1) (Grows-none rules count entries more)
-    | inr new ↦ subst (Grows rules count entries more) (sym new.1) (record {
-      kept = λ entry inside. Contains-append_left more (entry_of ∷ []) entry inside;
-      derived = λ expanded derived. subst (AreDerived expanded rules) (append_entries)
-          (AreDerived-push expanded rules (entries ++ more) entry_of derived (record { follows = follows expanded; uncovered = new.0 }));
-      counted = λ counts entry inside. elim (Contains-push_cases more entry_of entry inside) [
-        | inl earlier ↦ counts entry earlier
-        | inr is ↦ subst (λ (it : Entry). length it.product ≡ count) is counted
-      ];
-    })
+    (noted : IsNoted entries more claim product reason later) where
+  -- what follows from the entries may be asked for
+  pub noted_asks : length product ≡ count → ((expanded : List ExpandedFact) → Follows expanded rules entries claim product reason)
+      → AsksMore rules count entries more later
+  noted_asks counted follows = elim noted [
+    | inl same ↦ subst (AsksMore rules count entries more) (sym same.1) (AsksMore-none rules count entries more)
+    | inr is ↦ pushed_asks rules count entries more later (record { claim = claim; product = product; reason = reason }) is
+        (record { follows = follows; counted = counted })
   ]
-    where
-      entry_of : Entry
-      entry_of = record { claim = claim; product = product; reason = reason }
 
-      append_entries : (entries ++ more) ++ entry_of ∷ [] ≡ entries ++ (more ++ entry_of ∷ [])
-      append_entries = append_assoc entries more (entry_of ∷ [])
-
-  pub added-IsThere : IsThere (entries ++ later) claim product
-  added-IsThere atoms within = elim added [
-    | inl same ↦ subst (λ it. IsCovered (InWorld (entries ++ it) atoms) claim) (sym same.1)
-        (IsCovered-more (InWorld-within (entries ++ more) product atoms within) claim same.0)
-    | inr new ↦ subst (λ it. IsCovered (InWorld (entries ++ it) atoms) claim) (sym new.1) (by claim refl)
+  pub noted_there : IsThere (entries ++ later) claim product
+  noted_there = elim noted [
+    | inl same ↦ λ atoms within. IsCovered-more (InWorld-more entries (entries ++ later) atoms
+        (λ own inside. Contains-append_left entries later own inside)) claim
+        (IsCovered-more (InWorld-within entries product atoms within) claim same.0)
+    | inr is ↦ pushed_there rules count entries more later (record { claim = claim; product = product; reason = reason }) is
   ]
-    where
-      entry_of : Entry
-      entry_of = record { claim = claim; product = product; reason = reason }
 
-      inside : Contains (entries ++ (more ++ entry_of ∷ [])) entry_of
-      inside = Contains-append_right entries (more ++ entry_of ∷ []) entry_of (Contains-push more entry_of)
+-- all that is asked for from nothing on follows
+pub asked_follows_on : (rules : List Rule) (count : ℕ) (entries asked : List Entry) → AsksMore rules count entries [] asked → (entry : Entry)
+    → Contains asked entry → IsFollowing rules count entries entry
+asked_follows_on rules count entries asked asks entry inside = elim (asks.new entry inside) [
+  | inl none ↦ absurd (Contains-nil entry none)
+  | inr follows ↦ follows
+]
 
-      by : (it : Claim) → claim ≡ it → IsCovered (InWorld (entries ++ (more ++ entry_of ∷ [])) atoms) it
-      by (Stated fact) is = (entry_of, inside, within, is)
-      by (Same left right) is = inr (inl (entry_of, inside, within, is))
+-- ---- what is added
+
+pub there_more : (entries others : List Entry) (claim : Claim) (product : List Bool) → IsThere entries claim product → IsThere (entries ++ others) claim product
+there_more entries others claim product there atoms within = IsCovered-more (InWorld-more entries (entries ++ others) atoms
+    (λ own inside. Contains-append_left entries others own inside)) claim (there atoms within)
+
+-- one entry more that was asked for
+module _ (entries later : List Entry) (entry : Entry) (added : IsAdded entries entry.claim entry.product entry.reason later) where
+  pub added_more : (others : List Entry) × (later ≡ entries ++ others)
+  added_more = elim added [ inl same ↦ ([], same.1 ∙ sym (append-nil entries)) | inr new ↦ (entry ∷ [], new.1) ]
+
+  pub added_there : IsThere later entry.claim entry.product
+  added_there atoms within = elim added [
+    | inl same ↦ subst (λ it. IsCovered (InWorld it atoms) entry.claim) (sym same.1)
+        (IsCovered-more (InWorld-within entries entry.product atoms within) entry.claim same.0)
+    | inr new ↦ holds_covered later atoms entry.claim
+        (entry, subst (λ its. Contains its entry) (sym new.1) (Contains-push entries entry), within, refl)
+  ]
+
+  pub added_counted : (count : ℕ) → length entry.product ≡ count → AreOfCount count entries → AreOfCount count later
+  added_counted count counted counts = elim added [
+    | inl same ↦ subst (AreOfCount count) (sym same.1) counts
+    | inr new ↦ subst (AreOfCount count) (sym new.1) (λ own inside. elim (Contains-push_cases entries entry own inside) [
+      | inl earlier ↦ counts own earlier
+      | inr is ↦ subst (λ (it : Entry). length it.product ≡ count) is counted
+    ])
+  ]
+
+  pub added_derived : (expanded : List ExpandedFact) (rules : List Rule) → Follows expanded rules entries entry.claim entry.product entry.reason
+      → AreDerived expanded rules entries → AreDerived expanded rules later
+  added_derived expanded rules follows derived = elim added [
+    | inl same ↦ subst (AreDerived expanded rules) (sym same.1) derived
+    | inr new ↦ subst (AreDerived expanded rules) (sym new.1)
+        (AreDerived-push expanded rules entries entry derived (record { follows = follows; uncovered = new.0 }))
+  ]
+
+pub grown_none : (rules : List Rule) (count : ℕ) (entries : List Entry) → IsGrownBy rules count entries [] entries
+grown_none rules count entries = record {
+  more = ([], sym (append-nil entries));
+  derived = λ expanded derived. derived;
+  there = λ entry inside. absurd (Contains-nil entry inside);
+}
+
+module _ (rules : List Rule) (count : ℕ) (entries asked : List Entry) (place : ℕ) (entry : Entry) (inside : place < length asked)
+    (is : entry ≡ get_or asked place entry) (current later : List Entry)
+    (added : IsAdded current entry.claim entry.product entry.reason later) (follows : IsFollowing rules count entries entry)
+    (so_far : IsGrownBy rules count entries (take place asked) current) where
+  its : (others : List Entry) × (later ≡ current ++ others)
+  its = added_more current later entry added
+
+  pub grown_turn : IsGrownBy rules count entries (take (place + 1) asked) later
+  grown_turn = record {
+    more = (so_far.more.0 ++ its.0, its.1 ∙ ap (λ it. it ++ its.0) so_far.more.1 ∙ append_assoc entries so_far.more.0 its.0);
+    derived = λ expanded derived. added_derived current later entry added expanded rules
+        (subst (λ it. Follows expanded rules it entry.claim entry.product entry.reason) (sym so_far.more.1)
+        (Follows-append entries so_far.more.0 expanded rules entry.claim entry.product entry.reason (follows.follows expanded)))
+        (so_far.derived expanded derived);
+    there = λ own asks. elim (Contains-push_cases (take place asked) entry own
+        (subst (λ it. Contains it own) (take-item asked place entry inside is) asks)) [
+          | inl earlier ↦ subst (λ it. IsThere it own.claim own.product) (sym its.1)
+              (there_more current its.0 own.claim own.product (so_far.there own earlier))
+          | inr same ↦ subst (λ (it : Entry). IsThere later it.claim it.product) same (added_there current later entry added)
+        ];
+  }
+
+-- what is covered by the entries and what was asked for is covered by the later ones
+pub covered_grown : (rules : List Rule) (count : ℕ) (entries asked later : List Entry) → IsGrownBy rules count entries asked later
+    → (atoms : List Bool) (claim : Claim) → IsCovered (InWorld (entries ++ asked) atoms) claim → IsCovered (InWorld later atoms) claim
+covered_grown rules count entries asked later grown atoms = by
+  where
+    holds : (claim : Claim) → InWorld (entries ++ asked) atoms claim → IsCovered (InWorld later atoms) claim
+    holds claim (entry, inside, within, is) = elim (Contains-append_cases entries asked entry inside) [
+      | inl here ↦ holds_covered later atoms claim (
+        entry,
+        subst (λ its. Contains its entry) (sym grown.more.1) (Contains-append_left entries grown.more.0 entry here),
+        within,
+        is,
+      )
+      | inr last ↦ subst (IsCovered (InWorld later atoms)) is (grown.there entry last atoms within)
+    ]
+
+    by : (claim : Claim) → IsCovered (InWorld (entries ++ asked) atoms) claim → IsCovered (InWorld later atoms) claim
+    by (Stated fact) covered = holds (Stated fact) covered
+    by (Same left right) (inl is) = inl is
+    by (Same left right) (inr (inl along)) = holds (Same left right) along
+    by (Same left right) (inr (inr back)) = touching_back (InWorld later atoms) right left (holds (Same right left) back)

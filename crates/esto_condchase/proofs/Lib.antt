@@ -1,6 +1,7 @@
 pub mod MeetLemmas
 pub mod CoverLemmas
 pub mod RoundLemmas
+pub mod JoinLemmas
 pub mod LoopLemmas
 pub mod WayLemmas
 pub mod StepLemmas

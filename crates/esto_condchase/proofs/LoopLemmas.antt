@@ -1,5 +1,5 @@
 -- The turns of the loop, and its end.
-use Rattle.std.proofs.Common.{◌≡◌, ◌⊎◌, ◌↔◌, ◌<◌, ◌≤◌, ◌+◌, ◌-◌, inl, inr, ℕ, Bool, false, List, [], ◌∷◌, ◌++◌, length, take, get_or, Contains, refl, sym, ap}
+use Rattle.std.proofs.Common.{◌≡◌, ◌⊎◌, ◌↔◌, ◌<◌, ◌≤◌, ◌+◌, ◌-◌, inl, inr, ℕ, zero, suc, Bool, false, List, [], ◌∷◌, ◌++◌, length, take, get_or, Contains, refl, sym, ap}
 use Rattle.std.proofs.Common.{◌∙◌, subst, arith, length-append}
 use Rattle.std.specs.Prelude.{replicate, slice_set, true}
 use Rattle.std.proofs.lemmas.List.{length-set}
@@ -29,9 +29,9 @@ use Rattle.esto_world_laws.specs.declared.entry.Reason.TheVariants.{Expanded}
 use Rattle.esto_world_laws.specs.declared.entry.Entry.{Entry}
 use Rattle.esto_world_laws.proofs.GrowLemmas.{InWorld-more, AreDerived-push}
 use Rattle.esto_world_laws.specs.Worlds.{AreOfCount}
-use Rattle.esto_condchase.specs.Rounds.{IsAdded, IsEntryOf, Grows}
+use Rattle.esto_condchase.specs.Rounds.{IsAdded, IsEntryOf, IsGrownBy}
 use Rattle.esto_term.proofs.PlaceLemmas.{take-item}
-use Rattle.esto_condchase.proofs.CoverLemmas.{added-IsThere}
+use Rattle.esto_condchase.proofs.CoverLemmas.{added_there}
 
 pub one_number : (old new : List Bool) (count atom : ℕ) → old ≡ replicate count false → ((number : ℕ) → Has new number ↔ ((number ≡ atom) ⊎ Has old number))
     → (number : ℕ) → Has new number ↔ (number ≡ atom)
@@ -42,10 +42,6 @@ one_number old new count atom is has number = (
 
 pub set_length : (old new : List Bool) (count atom : ℕ) → old ≡ replicate count false → new ≡ slice_set old atom true → length new ≡ count
 set_length old new count atom is set = ap length set ∙ length-set old atom true ∙ ap length is ∙ length-replicate count false
-
-pub rules_same : (count : ℕ) (its rules : List Constraint) (items more : List Entry) → its ≡ rules → Grows (rules_of its) count items [] more
-    → Grows (rules_of rules) count items [] more
-rules_same count its rules items more same grows = subst (λ it. Grows (rules_of it) count items [] more) same grows
 
 pub answered_same : (its rules : List Constraint) (old new : List Entry) → its ≡ rules → AreAnswered (rules_of its) old new
     → AreAnswered (rules_of rules) old new
@@ -66,7 +62,7 @@ given_none facts count entries none = rw none record {
 
 pub given_turn : (facts : List ExpandedFact) (count place : ℕ) (fact : ExpandedFact) (entries later : List Entry) (it : Fact Term) (product : List Bool)
     → place < length facts → fact ≡ get_or facts place fact → it ≡ fact.fact → length product ≡ count
-    → ((number : ℕ) → Has product number ↔ (number ≡ fact.atom)) → IsAdded [] entries (Stated it) product (Expanded fact.atom fact.place) later
+    → ((number : ℕ) → Has product number ↔ (number ≡ fact.atom)) → IsAdded entries (Stated it) product (Expanded fact.atom fact.place) later
     → GivenSoFar facts count place entries → GivenSoFar facts count (place + 1) later
 given_turn facts count place fact entries later it product within is it_is counted has added so_far = record {
   derived = λ rules. elim added [
@@ -88,7 +84,7 @@ given_turn facts count place fact entries later it product within is it_is count
         | inl earlier ↦ InWorld-more entries later atoms kept (Stated other.fact) (so_far.given other earlier atoms in_atoms)
         | inr same ↦
             let here : InWorld later atoms (Stated it) =
-            added-IsThere [] count [] entries later (Stated it) product (Expanded fact.atom fact.place) counted added atoms
+            added_there entries later entry_of added atoms
             (λ number in_product. subst (Has atoms) (sym ((has number).0 in_product))
             (subst (λ (its : ExpandedFact). Has atoms its.atom) (sym same) in_atoms)) in
             subst (λ its. InWorld later atoms (Stated its)) (it_is ∙ ap (λ (its : ExpandedFact). its.fact) same) here
@@ -107,11 +103,11 @@ given_turn facts count place fact entries later it product within is it_is count
 -- the same, of the entry itself
 pub given_entry : (facts : List ExpandedFact) (count place : ℕ) (fact : ExpandedFact) (entries later : List Entry) (entry : Entry)
     → place < length facts → fact ≡ get_or facts place fact → length entry.product ≡ count → IsEntryOf fact entry
-    → IsAdded [] entries entry.claim entry.product entry.reason later → GivenSoFar facts count place entries → GivenSoFar facts count (place + 1) later
+    → IsAdded entries entry.claim entry.product entry.reason later → GivenSoFar facts count place entries → GivenSoFar facts count (place + 1) later
 given_entry facts count place fact entries later entry within is counted it added so_far =
     given_turn facts count place fact entries later fact.fact entry.product within is refl counted it.only
-    (subst (λ claim. IsAdded [] entries claim entry.product (Expanded fact.atom fact.place) later) it.states
-    (subst (λ reason. IsAdded [] entries entry.claim entry.product reason later) it.expanded added)) so_far
+    (subst (λ claim. IsAdded entries claim entry.product (Expanded fact.atom fact.place) later) it.states
+    (subst (λ reason. IsAdded entries entry.claim entry.product reason later) it.expanded added)) so_far
 
 pub given_all : (facts : List ExpandedFact) (place : ℕ) (entries : List Entry) → length facts ≤ place → AreGiven (take place facts) entries
     → AreGiven facts entries
@@ -119,44 +115,41 @@ given_all facts place entries past given = subst (λ it. AreGiven it entries) (t
 
 -- ---- rounds
 
-module _ (facts : List ExpandedFact) (rules : List Rule) (count : ℕ) (entries items more : List Entry) (same : items ≡ entries)
-    (grows : Grows rules count items [] more) where
-  grown : Grows rules count entries [] more
-  grown = subst (λ it. Grows rules count it [] more) same grows
+pub grown_same : (count : ℕ) (its rules : List Constraint) (entries later : List Entry) → its ≡ rules
+    → (asked : List Entry) × IsGrownBy (rules_of its) count entries asked later → (asked : List Entry) × IsGrownBy (rules_of rules) count entries asked later
+grown_same count its rules entries later same (asked, grown) = (asked, subst (λ it. IsGrownBy (rules_of it) count entries asked later) same grown)
 
-  module _ (later : List Entry) (is : later ≡ entries ++ more) where
-    pub turn_derived : AreDerived facts rules entries → AreDerived facts rules later
-    turn_derived derived = subst (AreDerived facts rules) (sym is) (grown.derived facts (subst (AreDerived facts rules) (sym (append-nil entries)) derived))
-
-    pub turn_counted : AreOfCount count entries → AreOfCount count later
-    turn_counted counted = subst (AreOfCount count) (sym is) (λ entry inside. elim (Contains-append_cases entries more entry inside) [
-      | inl here ↦ counted entry here
-      | inr last ↦ grown.counted (λ other none. absurd (Contains-nil other none)) entry last
-    ])
-
-    pub turn_given : AreGiven facts entries → AreGiven facts later
-    turn_given given = subst (AreGiven facts) (sym is) (λ fact inside atoms has. InWorld-more entries (entries ++ more) atoms
-        (λ entry in_entries. Contains-append_left entries more entry in_entries) (Stated fact.fact) (given fact inside atoms has))
-
-    -- an entry more is a pair less
-    pub turn_falls : DerivedEntriesAreFew → (rank : ℕ → ℕ) (depth : ℕ) → AreRules rules → AreFlat (facts_of facts) → RanksRise rules rank
-        → ((relation : ℕ) → rank relation ≤ depth) → depth < greatest_u64 → AreDerived facts rules entries → AreOfCount count entries
-        → (length more ≡ 0 → ⊥)
-        → most_entries rules (facts_of facts) depth count - length later < most_entries rules (facts_of facts) depth count - length entries
-    turn_falls few rank depth sound flat rise low deep derived counted some =
-        let bound = few facts rules later rank depth count sound flat rise low deep (turn_derived derived) (turn_counted counted) in
-        omega (arith, bound, ap length is, length-append entries more, some)
-
--- where a round adds nothing, all that is asked for is there
 nothing : (more : List Entry) → length more ≡ 0 → more ≡ []
 nothing [] l = refl
 nothing (first ∷ rest) l = absurd (omega (arith, l))
 
-pub end_answered : (rules : List Rule) (entries items more : List Entry) → items ≡ entries → length more ≡ 0 → AreAnswered rules items (items ++ more)
-    → AreAnswered rules entries entries
-end_answered rules entries items more same none answered = subst (AreAnswered rules entries) (append-nil entries)
-    (subst (λ it. AreAnswered rules entries (entries ++ it)) (nothing more none) (subst (λ it. AreAnswered rules it (it ++ more)) same answered))
+module _ (facts : List ExpandedFact) (rules : List Rule) (count : ℕ) (entries asked later : List Entry) (grown : IsGrownBy rules count entries asked later) where
+  pub turn_given : AreGiven facts entries → AreGiven facts later
+  turn_given given = subst (AreGiven facts) (sym grown.more.1) (λ fact inside atoms has. InWorld-more entries (entries ++ grown.more.0) atoms
+      (λ entry in_entries. Contains-append_left entries grown.more.0 entry in_entries) (Stated fact.fact) (given fact inside atoms has))
 
-pub end_joined : (entries items more : List Entry) → items ≡ entries → length more ≡ 0 → AreJoined items (items ++ more) → AreJoined entries entries
-end_joined entries items more same none joined = subst (AreJoined entries) (append-nil entries)
-    (subst (λ it. AreJoined entries (entries ++ it)) (nothing more none) (subst (λ it. AreJoined it (it ++ more)) same joined))
+  -- an entry more is a pair less
+  pub turn_falls : DerivedEntriesAreFew → (rank : ℕ → ℕ) (depth : ℕ) → AreRules rules → AreFlat (facts_of facts) → RanksRise rules rank
+      → ((relation : ℕ) → rank relation ≤ depth) → depth < greatest_u64 → AreDerived facts rules entries → AreOfCount count later
+      → (length later ≡ length entries → ⊥)
+      → most_entries rules (facts_of facts) depth count - length later < most_entries rules (facts_of facts) depth count - length entries
+  turn_falls few rank depth sound flat rise low deep derived counted some =
+      let bound = few facts rules later rank depth count sound flat rise low deep (grown.derived facts derived) counted in
+      let long = ap length grown.more.1 ∙ length-append entries grown.more.0 in
+      by (length grown.more.0) long bound
+    where
+      by : (others : ℕ) → length later ≡ length entries + others → length later ≤ most_entries rules (facts_of facts) depth count
+          → most_entries rules (facts_of facts) depth count - length later < most_entries rules (facts_of facts) depth count - length entries
+      by zero long bound = absurd (some (omega (arith, long)))
+      by (suc others) long bound = omega (arith, long, bound)
+
+  -- where nothing was added, the entries are the same
+  pub turn_same : length later ≡ length entries → entries ≡ later
+  turn_same same = sym (append-nil entries) ∙ ap (λ it. entries ++ it) (sym (nothing grown.more.0
+      (let long = ap length grown.more.1 ∙ length-append entries grown.more.0 in omega (arith, long, same)))) ∙ sym grown.more.1
+
+pub end_answered : (rules : List Rule) (entries later : List Entry) → entries ≡ later → AreAnswered rules entries later → AreAnswered rules later later
+end_answered rules entries later same answered = subst (λ it. AreAnswered rules it later) same answered
+
+pub end_joined : (entries later : List Entry) → entries ≡ later → AreJoined entries later → AreJoined later later
+end_joined entries later same joined = subst (λ it. AreJoined it later) same joined

@@ -1,38 +1,55 @@
 -- What a round adds.
-use Rattle.std.specs.Prelude.{◌≡◌, ◌⊎◌, ◌↔◌, ℕ, Bool, List, [], ◌∷◌, ◌++◌, Contains, Some, slice_get}
+use Rattle.std.specs.Prelude.{◌≡◌, ◌⊎◌, ◌↔◌, ◌<◌, ℕ, Bool, List, [], ◌∷◌, ◌++◌, length, Contains, Some, slice_get}
 use Rattle.esto_term.specs.declared.term.Term.{Term}
 use Rattle.esto_semantics.specs.Rules.{Rule, tuple, equality, denial, body_of}
 use Rattle.esto_semantics.specs.declared.fact.Fact.{Fact}
-use Rattle.esto_semantics.specs.Sets.{Has, Within, united}
+use Rattle.esto_semantics.specs.Sets.{Has, Within, Covers}
 use Rattle.esto_views.specs.declared.expansion.ExpandedFact.{ExpandedFact}
 use Rattle.esto_world_laws.specs.Worlds.{InWorld, AreOfCount, SaysOne}
 use Rattle.esto_semantics.specs.Facts.{terms_of}
-use Rattle.esto_world_laws.specs.Matches.{taken, match_map, IsDirectMatch}
+use Rattle.esto_world_laws.specs.Matches.{taken, match_map, Touching, IsDirectMatch}
 use Rattle.esto_world_laws.specs.Steps.{IsAsked, IsCovered}
-use Rattle.esto_world_laws.specs.Derived.{AreDerived}
+use Rattle.esto_world_laws.specs.Derived.{AreDerived, Follows}
 use Rattle.esto_world_laws.specs.declared.entry.Claim.{Claim}
 use Rattle.esto_world_laws.specs.declared.entry.Claim.TheVariants.{Fact as Stated, Same}
 use Rattle.esto_world_laws.specs.declared.entry.Reason.{Reason}
 use Rattle.esto_world_laws.specs.declared.entry.Reason.TheVariants.{Expanded}
 use Rattle.esto_world_laws.specs.declared.entry.Entry.{Entry}
-use Rattle.esto_known.specs.Indexes.{IsPassed}
+use Rattle.esto_known.specs.Indexes.{CoversClaim}
+use Rattle.esto_known.specs.declared.group.Group.{Group}
 use Rattle.esto_condchase.specs.declared.ways.Way.{Way}
 
 -- The later list has one entry more, which was not covered, or none, and then the claim was covered.
-abbrev pub IsAdded : List Entry → List Entry → Claim → List Bool → Reason → List Entry → Type 0
-IsAdded entries more claim product reason later =
-    ((IsCovered (InWorld (entries ++ more) product) claim) × (later ≡ more))
-    ⊎ ((IsCovered (InWorld (entries ++ more) product) claim → ⊥) × (later ≡ more ++ (record { claim = claim; product = product; reason = reason }) ∷ []))
+abbrev pub IsAdded : List Entry → Claim → List Bool → Reason → List Entry → Type 0
+IsAdded entries claim product reason later =
+    (IsCovered (InWorld entries product) claim × (later ≡ entries))
+    ⊎ ((IsCovered (InWorld entries product) claim → ⊥) × (later ≡ entries ++ (record { claim = claim; product = product; reason = reason }) ∷ []))
 
--- What was there stays; derived entries stay derived; and products keep their count.
-pub record Grows (rules : List Rule) (count : ℕ) (entries more later : List Entry) : Type 0 where
-  pub kept : (entry : Entry) → Contains more entry → Contains later entry
-  pub derived : (expanded : List ExpandedFact) → AreDerived expanded rules (entries ++ more) → AreDerived expanded rules (entries ++ later)
-  pub counted : AreOfCount count more → AreOfCount count later
+-- What is asked for is asked for by one entry more, or by none, and then the claim was covered.
+abbrev pub IsNoted : List Entry → List Entry → Claim → List Bool → Reason → List Entry → Type 0
+IsNoted entries asked claim product reason later =
+    (IsCovered (InWorld entries product) claim × (later ≡ asked))
+    ⊎ (later ≡ asked ++ (record { claim = claim; product = product; reason = reason }) ∷ [])
+
+-- The entry follows from the entries by the rules, and its product has the count.
+pub record IsFollowing (rules : List Rule) (count : ℕ) (entries : List Entry) (entry : Entry) : Type 0 where
+  pub follows : (expanded : List ExpandedFact) → Follows expanded rules entries entry.claim entry.product entry.reason
+  pub counted : length entry.product ≡ count
+
+-- What was asked for stays; and all that is asked for more follows from the entries.
+pub record AsksMore (rules : List Rule) (count : ℕ) (entries asked later : List Entry) : Type 0 where
+  pub kept : (entry : Entry) → Contains asked entry → Contains later entry
+  pub new : (entry : Entry) → Contains later entry → Contains asked entry ⊎ IsFollowing rules count entries entry
 
 -- In each world that has the product, the claim is covered.
 abbrev pub IsThere : List Entry → Claim → List Bool → Type 0
 IsThere entries claim product = (atoms : List Bool) → Within product atoms → IsCovered (InWorld entries atoms) claim
+
+-- The later entries are the earlier ones, and perhaps others after them, which follow; and they cover what was asked for.
+pub record IsGrownBy (rules : List Rule) (count : ℕ) (entries asked later : List Entry) : Type 0 where
+  pub more : (others : List Entry) × (later ≡ entries ++ others)
+  pub derived : (expanded : List ExpandedFact) → AreDerived expanded rules entries → AreDerived expanded rules later
+  pub there : (entry : Entry) → Contains asked entry → IsThere later entry.claim entry.product
 
 -- The entry is that of the expanded fact: it states the fact, its product is the fact's atom alone, and its reason names the atom and the fact's place.
 pub record IsEntryOf (fact : ExpandedFact) (entry : Entry) : Type 0 where
@@ -62,26 +79,53 @@ IsRuleAnswered old new number rule =
     (atoms : List Bool) (chosen : List (Fact Term)) → IsDirectMatch (InWorld old atoms) (body_of rule) chosen
     → (claim : Claim) → IsAsked number rule (match_map (body_of rule) chosen) claim → IsCovered (InWorld new atoms) claim
 
--- The entry at the place links the terms.
-abbrev pub LinksAt : List Entry → ℕ → Entry → Term → Term → Type 0
-LinksAt entries place entry term other = (slice_get entries place ≡ Some entry) × SaysOne entry.claim term other
+-- ---- links
 
--- What a link and an entry link one after the other is there, with both products.
-abbrev pub IsJoinedWith : List Entry → Term → Term → List Bool → Entry → Type 0
-IsJoinedWith entries from to product second =
-    (other : Term) → SaysOne second.claim to other → IsThere entries (Same from other) (united product second.product)
+-- Each of the places is one of the first few.
+abbrev pub AreOld : ℕ → List ℕ → Type 0
+AreOld since places = (place : ℕ) → Contains places place → place < since
 
--- What two entries link one after the other is there.
-abbrev pub IsPairJoined : List Entry → Entry → Entry → Type 0
-IsPairJoined entries first second =
-    (term next : Term) → SaysOne first.claim term next → IsJoinedWith entries term next first.product second
+-- In each world that the sets cover, the terms are one.
+abbrev pub TellOne : List Entry → List (List Bool) → Term → Term → Type 0
+TellOne entries sets term other = (set : List Bool) → Covers sets set → Touching (InWorld entries set) term other
 
--- What an entry and the one at the place link one after the other is there, or a later entry covers the one at the place.
-abbrev pub IsPairMet : List Entry → List Entry → Entry → ℕ → Entry → Type 0
-IsPairMet entries new first place second =
-    (term next : Term) → SaysOne first.claim term next → (other : Term) → SaysOne second.claim next other
-    → IsPassed entries place ⊎ IsThere new (Same term other) (united first.product second.product)
+-- The places that are open are some of these, all but those of entries whose products the sets cover.
+pub record AreOpen (entries : List Entry) (sets : List (List Bool)) (places open_places : List ℕ) : Type 0 where
+  pub of_given : (place : ℕ) → Contains open_places place → Contains places place
+  pub others : (place : ℕ) (entry : Entry) → Contains places place → slice_get entries place ≡ Some entry
+      → Contains open_places place ⊎ Covers sets entry.product
 
--- So it is for the entry and each of the entries.
-abbrev pub IsMetWithAll : List Entry → List Entry → Entry → Type 0
-IsMetWithAll entries new first = (place : ℕ) (second : Entry) → slice_get entries place ≡ Some second → IsPairMet entries new first place second
+-- The claims are equalities that link the terms one after the other.
+abbrev pub MeetBy : Claim → Claim → Term → Term → Type 0
+MeetBy claim other from to = (via : Term) × SaysOne claim from via × SaysOne other via to
+
+-- The entries at the places link the terms one after the other.
+abbrev pub MeetAt : List Entry → ℕ → ℕ → Term → Term → Type 0
+MeetAt entries first second from to =
+    (one two : Entry) → slice_get entries first ≡ Some one → slice_get entries second ≡ Some two → MeetBy one.claim two.claim from to
+
+-- The terms are one in each world that has the products of the entries at both places, unless both are among the first few.
+abbrev pub IsUnionMet : List Entry → ℕ → List Entry → ℕ → ℕ → Term → Term → Type 0
+IsUnionMet entries since new first second from to =
+    (one two : Entry) → slice_get entries first ≡ Some one → slice_get entries second ≡ Some two
+    → ((first < since) × (second < since)) ⊎ ((set : List Bool) → Within one.product set → Within two.product set → Touching (InWorld new set) from to)
+
+-- The terms are one in each world of the entries that has both claims.
+abbrev pub IsEndMet : List Entry → List Entry → Claim → Claim → Term → Term → Type 0
+IsEndMet entries new claim other from to =
+    (set : List Bool) → CoversClaim entries claim set → CoversClaim entries other set → Touching (InWorld new set) from to
+
+-- The group at the place comes before the one of that number, and has something new.
+abbrev pub IsLeft : ℕ → ℕ → ℕ → Group → Type 0
+IsLeft since number place other = (place < number) × (AreOld since other.places → ⊥)
+
+-- The first term is one with what the group links to the second, in each world of the entries that has both claims, unless the group is left.
+abbrev pub IsSideMet : List Entry → ℕ → List Entry → ℕ → Claim → ℕ → Group → Term → Term → Type 0
+IsSideMet entries since new number claim place other from via =
+    IsLeft since number place other ⊎ ((to : Term) → SaysOne other.claim via to → IsEndMet entries new claim other.claim from to)
+
+-- What the claim and that of each group link one after the other is one in each world of the entries that has both, unless the group is left.
+abbrev pub IsMetWithAll : List Entry → List Group → ℕ → List Entry → ℕ → Claim → Type 0
+IsMetWithAll entries groups since new number claim =
+    (place : ℕ) (other : Group) → slice_get groups place ≡ Some other → (from to : Term) → MeetBy claim other.claim from to
+    → IsLeft since number place other ⊎ IsEndMet entries new claim other.claim from to

@@ -1,5 +1,5 @@
 //! The loop, and what it promises.
-ghost use Rattle.std.specs.Prelude.{◌≡◌, ◌<◌, ◌⊎◌, ◌↔◌, ℕ, Bool, List, length, slice_index, Contains, IfOk};
+ghost use Rattle.std.specs.Prelude.{◌≡◌, ◌<◌, ◌⊎◌, ◌↔◌, ℕ, Bool, List, length, take, slice_index, Contains, IfOk, OnOk};
 ghost use Rattle.esto_semantics.specs.Maps.{AreFlat};
 ghost use Rattle.esto_semantics.specs.Rules.{Rule};
 ghost use Rattle.esto_semantics.specs.Sets.{Has};
@@ -12,13 +12,14 @@ ghost use Rattle.esto_world_laws.specs.Derived.{AreDerived};
 ghost use Rattle.esto_world_laws.specs.Laws.{AreGiven, IsSound, IsReceivedNowhere, IsDatabase, AreNestedWithin};
 ghost use Rattle.esto_world_laws.specs.Steps.{AreAnswered, AreJoined};
 ghost use Rattle.esto_world_laws.specs.Worlds.{InWorld, AreOfCount, IsClosed, IsBroken, IsDenied};
-ghost use Rattle.esto_condchase.specs.Rounds.{IsEntryOf};
+ghost use Rattle.esto_condchase.specs.Rounds.{IsEntryOf, IsGrownBy};
+ghost use Rattle.esto_world_laws.specs.declared.entry.Entry.{Entry};
 
-use crate::covering::add;
+use crate::covering::{add, add_all};
 use crate::rounds::round;
 use esto_acyclic::{Ranks, ranks_rise};
 use esto_bits::RowBits;
-use esto_constraint::{Rules, rules_are_sound};
+use esto_constraint::{Constraint, Rules, rules_are_sound};
 use esto_known::Known;
 use esto_prov::Entries;
 use esto_term::{List, OutOfMemory, Replicate};
@@ -62,12 +63,34 @@ fn given(alloc: Global, facts: &[ExpandedFact], atoms: usize) -> Result<Known, O
     ensures counted { IfOk result (AreOfCount atoms) }
     ensures given { IfOk result (AreGiven facts.now) }
 {
-    let none = Known::new(alloc, 0)?;
-    let mut entries = Known::new(alloc, facts.len())?;
+    let mut entries = Known::new(alloc)?;
     'facts: for fact in facts {
-        add(&none, &mut entries, entry_of(alloc, fact, atoms)?)?;
+        let entry = entry_of(alloc, fact, atoms)?;
+        add(alloc, &mut entries, &entry)?;
     }
     Ok(entries)
+}
+
+/// A round: adds what the rules and the links ask for and the entries do not cover.
+fn next(
+    alloc: Global,
+    entries: &mut Known,
+    since: usize,
+    rules: &[Constraint],
+    count: usize,
+) -> Result<(), OutOfMemory>
+    requires before { AreAnswered (rules_of rules.now) (take since entries.old) entries.old }
+    requires joined_before { AreJoined (take since entries.old) entries.old }
+    requires counts { AreOfCount count entries.old }
+    ensures counted { OnOk result (AreOfCount count entries.new) }
+    ensures grown { OnOk result ((asked : List Entry)
+        × IsGrownBy (rules_of rules.now) count entries.old asked entries.new) }
+    ensures answered { OnOk result
+        (AreAnswered (rules_of rules.now) entries.old entries.new) }
+    ensures joined { OnOk result (AreJoined entries.old entries.new) }
+{
+    let asked = round(alloc, entries, since, rules, count)?;
+    add_all(alloc, entries, asked.items(), count)
 }
 
 /// The rounds, to the end: each entry follows from those before it, each expanded fact is a fact of each world that has its
@@ -97,12 +120,12 @@ fn rounds(
     let mut entries = given(alloc, facts.items(), atoms)?;
     let mut since = 0;
     'rounds: loop {
-        let more = round(alloc, &entries, since, rules.items(), atoms)?;
-        if more.is_empty() {
+        let before = entries.len();
+        next(alloc, &mut entries, since, rules.items(), atoms)?;
+        if entries.len() == before {
             return Ok(entries.into_list());
         }
-        since = entries.len();
-        entries = entries.grown(alloc, more)?;
+        since = before;
     }
 }
 

@@ -1,14 +1,26 @@
 //! Entries that are added only where they are not covered.
-ghost use Rattle.std.specs.Prelude.{◌↔◌, ◌++◌, length, IsTrue, OnOk};
+ghost use Rattle.std.specs.Prelude.{◌≡◌, ◌↔◌, ◌++◌, ◌<◌, ℕ, List, Contains, length, IsTrue, IfOk, OnOk};
+ghost use Rattle.esto_semantics.specs.Rules.{Rule};
 ghost use Rattle.esto_world_laws.specs.Steps.{IsCovered};
 ghost use Rattle.esto_world_laws.specs.Worlds.{InWorld, AreOfCount};
 ghost use Rattle.esto_world_laws.specs.declared.entry.Claim.TheVariants.{Same};
-ghost use Rattle.esto_condchase.specs.Rounds.{IsAdded, IsTrivial};
+ghost use Rattle.esto_world_laws.specs.declared.entry.Entry.{Entry};
+ghost use Rattle.esto_condchase.specs.Rounds.{IsAdded, IsTrivial, IsFollowing, IsGrownBy};
 
 use esto_bits::RowBits;
 use esto_known::Known;
-use esto_term::{OutOfMemory, Term};
+use esto_term::{OutOfMemory, Replicate, Term};
 use esto_world_laws::{Claim, Entry};
+use std::alloc::Global;
+
+/// The claim that the two terms are one.
+pub fn same(alloc: Global, left: &Term, right: &Term) -> Result<Claim, OutOfMemory>
+    ensures { IfOk result (λ it. it ≡ Same left.now right.now) }
+{
+    let left = left.copy(alloc)?;
+    let right = right.copy(alloc)?;
+    Ok(Claim::Same(left, right))
+}
 
 /// Whether the claim is an equality of a term with itself.
 fn is_trivial(claim: &Claim) -> bool
@@ -20,54 +32,46 @@ fn is_trivial(claim: &Claim) -> bool
     }
 }
 
-/// Whether the claim holds by itself, or some entry, of these or of those that were added to them, covers it.
-pub fn is_covered(entries: &Known, more: &Known, claim: &Claim, product: &RowBits) -> bool
-    requires counts { AreOfCount (length product.now) entries.now }
-    requires more_counts { AreOfCount (length product.now) more.now }
-    ensures { IsTrue result
-        ↔ IsCovered (InWorld (entries.now ++ more.now) product.now) claim.now }
+/// Whether the claim holds by itself, or some entry covers it.
+pub fn is_covered(entries: &Known, claim: &Claim, product: &RowBits) -> bool
+    requires { AreOfCount (length product.now) entries.now }
+    ensures { IsTrue result ↔ IsCovered (InWorld entries.now product.now) claim.now }
 {
     if is_trivial(claim) {
         return true;
     }
-    if entries.covers(claim, product) {
-        return true;
-    }
-    more.covers(claim, product)
+    entries.covers(claim, product)
 }
 
-/// Whether the two terms are equal, or some entry, of these or of those that were added to them, says that they are one.
-pub fn is_same_covered(
-    entries: &Known,
-    more: &Known,
-    term: &Term,
-    other: &Term,
-    product: &RowBits,
-) -> bool
-    requires counts { AreOfCount (length product.now) entries.now }
-    requires more_counts { AreOfCount (length product.now) more.now }
-    ensures { IsTrue result
-        ↔ IsCovered (InWorld (entries.now ++ more.now) product.now) (Same term.now other.now) }
-{
-    if term.equal(other) {
-        return true;
-    }
-    if entries.says_one(term, other, product) {
-        return true;
-    }
-    more.says_one(term, other, product)
-}
-
-/// Adds an entry, unless the entries or what was added to them so far cover it.
-pub fn add(entries: &Known, more: &mut Known, entry: Entry) -> Result<(), OutOfMemory>
-    requires counts { AreOfCount (length entry.product) entries.now }
-    requires more_counts { AreOfCount (length entry.product) more.old }
+/// Adds an entry, unless the entries cover it.
+pub fn add(alloc: Global, entries: &mut Known, entry: &Entry) -> Result<(), OutOfMemory>
+    requires { AreOfCount (length entry.now.product) entries.old }
     ensures { OnOk result
-        (IsAdded entries.now more.old entry.claim entry.product entry.reason more.new) }
+        (IsAdded entries.old entry.now.claim entry.now.product entry.now.reason entries.new) }
 {
-    if is_covered(entries, more, &entry.claim, &entry.product) {
+    if is_covered(entries, &entry.claim, &entry.product) {
         return Ok(());
     }
-    more.push(entry)?;
+    entries.push(alloc, entry.copy(alloc)?)?;
+    Ok(())
+}
+
+/// Adds what is asked for and follows, where the entries do not cover it.
+pub fn add_all(
+    alloc: Global,
+    entries: &mut Known,
+    asked: &[Entry],
+    count: usize,
+) -> Result<(), OutOfMemory>
+    requires counts { AreOfCount count entries.old }
+    requires asked { (entry : Entry) → Contains asked.now entry → length entry.product ≡ count }
+    ensures counted { OnOk result (AreOfCount count entries.new) }
+    ensures grown { OnOk result ((rules : List Rule)
+        → ((entry : Entry) → Contains asked.now entry → IsFollowing rules count entries.old entry)
+        → IsGrownBy rules count entries.old asked.now entries.new) }
+{
+    'asked: for entry in asked {
+        add(alloc, entries, entry)?;
+    }
     Ok(())
 }

@@ -6,6 +6,7 @@
 mod chase;
 mod covered;
 mod covering;
+mod joining;
 mod kept;
 mod known;
 mod live;

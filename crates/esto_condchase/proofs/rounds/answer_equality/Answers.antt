@@ -4,7 +4,7 @@ use Rattle.esto_semantics.specs.Facts.{terms_of}
 use Rattle.esto_constraint.specs.Constraints.{rules_of}
 use Rattle.esto_world_laws.specs.declared.entry.Claim.TheVariants.{Same}
 use Rattle.esto_condchase.specs.Rounds.{IsThere}
-use Rattle.esto_condchase.proofs.RoundLemmas.{side_is, asked_Grows, asked_IsThere}
+use Rattle.esto_condchase.proofs.RoundLemmas.{side_is, asked_asks, asked_there}
 use Rattle.esto_condchase.proofs.rounds.answer_equality.Goals as goal
 
 pub returns-clause-grows : goal.returns-clause-grows
@@ -13,7 +13,7 @@ returns-clause-grows c =
     c.requires.from_is c.items-2.ensures c.taken_term-left.ensures in
     let right = side_is _ c.args.from.now (terms_of c.args.rule.now.body) _ c.args.way.now.to c.args.rule.now.right _ c.items-3.ensures
     c.requires.from_is c.items-4.ensures c.taken_term-right.ensures in
-    asked_Grows c.args.entries.now c.args.number (equality c.args.rule.now.body c.args.rule.now.left c.args.rule.now.right) c.args.way.now c.requires.found
+    asked_asks c.args.entries.now c.args.number (equality c.args.rule.now.body c.args.rule.now.left c.args.rule.now.right) c.args.way.now c.requires.found
     (rules_of c.args.rules.now) c.requires.at c.args.more.now
     c.in_ok-claim.claim (c.in_ok-claim.ensures ∙ (λ i. Same (left i) (right i))) c.ask.new.more c.in_ok-ask.ensures
 
@@ -25,6 +25,6 @@ returns-clause-answered c claim asked =
     c.requires.from_is c.items-4.ensures c.taken_term-right.ensures in
     let is : c.in_ok-claim.claim ≡ claim = c.in_ok-claim.ensures ∙ (λ i. Same (left i) (right i)) ∙ sym asked in
     subst (λ it. IsThere (c.args.entries.now ++ c.ask.new.more) it c.args.way.now.product) is
-    (asked_IsThere c.args.entries.now c.args.number (equality c.args.rule.now.body c.args.rule.now.left c.args.rule.now.right) c.args.way.now c.requires.found
+    (asked_there c.args.entries.now c.args.number (equality c.args.rule.now.body c.args.rule.now.left c.args.rule.now.right) c.args.way.now c.requires.found
     (rules_of c.args.rules.now) c.requires.at c.args.more.now
     c.in_ok-claim.claim (c.in_ok-claim.ensures ∙ (λ i. Same (left i) (right i))) c.ask.new.more c.in_ok-ask.ensures)

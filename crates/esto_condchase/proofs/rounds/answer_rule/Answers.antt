@@ -1,12 +1,12 @@
 use Rattle.std.proofs.Common.{◌++◌, sym, subst}
 use Rattle.esto_constraint.specs.Constraints.{rule_of, rules_of}
 use Rattle.esto_condchase.specs.Rounds.{IsRuleAnswered}
-use Rattle.esto_condchase.proofs.CoverLemmas.{Grows-none}
+use Rattle.esto_condchase.proofs.CoverLemmas.{AsksMore-none}
 use Rattle.esto_condchase.proofs.RoundLemmas.{IsRuleAnswered-denial}
 use Rattle.esto_condchase.proofs.rounds.answer_rule.Goals as goal
 
 pub returns-in-Never-clause-grows : goal.returns-in-Never-clause-grows
-returns-in-Never-clause-grows c = Grows-none (rules_of c.args.rules.now) c.args.count c.args.entries.now c.args.more.now
+returns-in-Never-clause-grows c = AsksMore-none (rules_of c.args.rules.now) c.args.count c.args.entries.now c.args.more.now
 
 pub returns-in-Never-clause-answered : goal.returns-in-Never-clause-answered
 returns-in-Never-clause-answered c =

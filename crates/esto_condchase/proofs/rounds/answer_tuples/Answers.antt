@@ -1,4 +1,4 @@
-use Rattle.std.proofs.Common.{refl, ap, ◌∙◌}
+use Rattle.std.proofs.Common.{ap, refl, ◌∙◌}
 use Rattle.esto_semantics.specs.Rules.{tuple}
 use Rattle.esto_semantics.specs.Facts.{terms_of}
 use Rattle.esto_constraint.specs.Constraints.{rules_of}

@@ -2,11 +2,11 @@ use Rattle.std.proofs.Common.{◌++◌, take, Contains}
 use Rattle.esto_semantics.specs.Rules.{tuple}
 use Rattle.esto_constraint.specs.Constraints.{rules_of}
 use Rattle.esto_condchase.specs.declared.ways.Way.{Way}
-use Rattle.esto_condchase.specs.Rounds.{Grows, IsAnswered}
+use Rattle.esto_condchase.specs.Rounds.{AsksMore, IsAnswered}
 use Rattle.esto_condchase.proofs.rounds.answer_tuples.Given as goal
 
 abbrev pub invariant-found : goal.invariant-found
 invariant-found l = record {
-  grows : Grows (rules_of l.rules) l.count l.entries l.fn.more l.more;
+  grows : AsksMore (rules_of l.rules) l.count l.entries l.fn.more l.more;
   answered : (way : Way) → Contains (take l.way-index l.way-items) way → IsAnswered (l.entries ++ l.more) l.number (tuple l.rule.body l.rule.head) way;
 }

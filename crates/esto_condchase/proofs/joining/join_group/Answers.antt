@@ -1,0 +1,16 @@
+use Rattle.std.proofs.Common.{[], inl, inr, subst}
+use Rattle.esto_condchase.specs.Rounds.{AreOld}
+use Rattle.esto_condchase.proofs.CoverLemmas.{AsksMore-then}
+use Rattle.esto_condchase.proofs.JoinLemmas.{group_met, group_none}
+use Rattle.esto_condchase.proofs.joining.join_group.Goals as goal
+
+pub returns-then-not-has_new-clause-met : goal.returns-then-not-has_new-clause-met
+returns-then-not-has_new-clause-met c = inl (subst (AreOld c.args.since) c.items.ensures (c.has_new.ensures.old c.if-not-has_new.true))
+
+pub returns-clause-asks : goal.returns-clause-asks
+returns-clause-asks c rules = AsksMore-then rules c.args.count c.args.entries.now c.args.more.now _ _ (c.in_ok-join_side.ensures.asks rules)
+    (c.in_ok-join_side-2.ensures.asks rules)
+
+pub returns-clause-met : goal.returns-clause-met
+returns-clause-met c = inr (group_met c.args.entries.now c.join_side.new.more c.join_side-2.new.more c.args.groups.now c.args.since c.args.number
+    c.args.first.now.claim c.in-Same.left c.in-Same.right c.in-Same.is (c.in_ok-join_side-2.ensures.asks []).kept c.in_ok-join_side.ensures.met c.in_ok-join_side-2.ensures.met)
