@@ -1,6 +1,7 @@
 -- The loops of the encodings, a turn at a time.
-use Rattle.std.proofs.Common.{◌≡◌, ℕ, suc, ◌+◌, ◌<◌, List, [], ◌∷◌, ◌++◌, map, drop, length, get_or, Some, None, refl, sym, ap, ◌∙◌, subst, arith, append_assoc}
+use Rattle.std.proofs.Common.{◌≡◌, true, false, filter, ℕ, suc, ◌+◌, ◌<◌, List, [], ◌∷◌, ◌++◌, map, drop, length, get_or, Some, None, refl, sym, ap, ◌∙◌, subst, arith, append_assoc}
 use Rattle.std.proofs.lemmas.List.{append-nil, map-append}
+use Rattle.std.proofs.lemmas.List.Elements.{filter-append}
 use Rattle.std.proofs.lemmas.Option.{slice_get-get_or}
 use Rattle.std.proofs.lemmas.Result.{IfOk-weaker, on_ok_weaker}
 use Rattle.std.specs.Prelude.{Result, IfOk, OnOk}
@@ -8,17 +9,18 @@ use Rattle.esto_term.specs.declared.term.Term.{Term}
 use Rattle.esto_term.specs.declared.term.Term.TheVariants.{Const, Plain}
 use Rattle.esto_term.proofs.PlaceLemmas.{drop-item, drop-there}
 use Rattle.esto_semantics.specs.declared.fact.Fact.{Fact}
-use Rattle.esto_docmodel.specs.DocumentFacts.{DocFact, value, below, flat}
-use Rattle.esto_docmodel.specs.Encodings.{size, entering, belows, holding, facts_from, end, step_atoms, atoms}
+use Rattle.esto_docmodel.specs.DocumentFacts.{DocFact, root, field, item, value, below, flat}
+use Rattle.esto_docmodel.specs.Encodings.{size, entering, belows, holding, facts_from, is_kept, kept, kept_of, end, step_atoms, atoms}
 use Rattle.esto_docmodel.specs.Patterns.{done}
 use Rattle.esto_docmodel.specs.Forests.{Label, name, place, Forest, none, kid, Node, node}
 use Rattle.esto_docmodel.specs.Putting.{fact_over, turned, node_facts}
-use Rattle.esto_docmodel.specs.Rising.{IsRising, AreInside}
-use Rattle.esto_docmodel.specs.Shapes.{shape, row, named_row, shaped_field, entry_shape, entries_of}
+use Rattle.esto_docmodel.specs.Rising.{IsRising, AreRising, AreInside}
+use Rattle.esto_docmodel.specs.Shapes.{shape, row, named_row, shaped_field, documents, entry_shape, entries_of}
 use Rattle.esto_docmodel.specs.declared.field.FieldOf.{FieldOf}
 use Rattle.esto_docmodel.specs.declared.tree.Tree.{Tree}
 use Rattle.esto_docmodel.specs.declared.tree.Tree.TheVariants.{Value, Nothing, Fields, Items}
 use Rattle.esto_docmodel.proofs.ShapeLemmas.{shape-Value, shape-Nothing, shape-Fields, shape-Items, entry-Value, entry-Group}
+use Rattle.esto_docmodel.specs.declared.kept.Kept.{Kept}
 use Rattle.esto_docmodel.specs.declared.pattern.Step.{Step}
 use Rattle.esto_docmodel.specs.declared.pattern.Entry.{Entry}
 use Rattle.esto_docmodel.specs.declared.pattern.Entry.TheVariants as entry
@@ -48,60 +50,162 @@ pub below_turn : (facts now whole : List (Fact Term)) (base n : ℕ) (xs : List 
     → now ++ map (flat base) (belows (turned (drop (i + 1) xs)) n) ≡ whole
 below_turn facts now whole base n xs i within put known = rw put (below_step facts whole base n xs i (get_or xs i 0) within refl known)
 
+-- ---- the facts that are kept
+
+pub kept-append : (relations : Kept) (one two : List (DocFact Term)) → kept relations (one ++ two) ≡ kept relations one ++ kept relations two
+kept-append relations one two = ap (map (flat relations.base)) (filter-append (is_kept relations) one two)
+    ∙ map-append (flat relations.base) (filter (is_kept relations) one) (filter (is_kept relations) two)
+
+pub kept_one : (relations : Kept) (fact : DocFact Term) → is_kept relations fact ≡ true → kept relations (fact ∷ []) ≡ flat relations.base fact ∷ []
+kept_one relations fact is = rw is refl
+
+pub kept_none : (relations : Kept) (fact : DocFact Term) → is_kept relations fact ≡ false → kept relations (fact ∷ []) ≡ []
+kept_none relations fact is = rw is refl
+
+-- a fact is put, or it is of a relation that isn't kept
+pub one_put : (relations : Kept) (fact : DocFact Term) (old new : List (Fact Term)) → is_kept relations fact ≡ true
+    → new ≡ old ++ flat relations.base fact ∷ [] → new ≡ old ++ kept relations (fact ∷ [])
+one_put relations fact old new is put = put ∙ ap (λ (w : List (Fact Term)). old ++ w) (sym (kept_one relations fact is))
+
+pub none_put : (relations : Kept) (fact : DocFact Term) (facts : List (Fact Term)) → is_kept relations fact ≡ false
+    → facts ≡ facts ++ kept relations (fact ∷ [])
+none_put relations fact facts is = sym (append-nil facts) ∙ ap (λ (w : List (Fact Term)). facts ++ w) (sym (kept_none relations fact is))
+
+belows_all : (relations : Kept) (above : List ℕ) (n : ℕ) → relations.below ≡ true → kept relations (belows above n) ≡ map (flat relations.base) (belows above n)
+belows_all relations [] n is = refl
+belows_all relations (parent ∷ above) n is =
+    kept-append relations (belows above n) (below (Plain parent) (Plain n) ∷ [])
+    ∙ ap (λ (w : List (Fact Term)). w ++ kept relations (below (Plain parent) (Plain n) ∷ [])) (belows_all relations above n is)
+    ∙ ap (λ (w : List (Fact Term)). map (flat relations.base) (belows above n) ++ w) (kept_one relations (below (Plain parent) (Plain n)) is)
+    ∙ sym (map-append (flat relations.base) (belows above n) (below (Plain parent) (Plain n) ∷ []))
+
+belows_none : (relations : Kept) (above : List ℕ) (n : ℕ) → relations.below ≡ false → kept relations (belows above n) ≡ []
+belows_none relations [] n is = refl
+belows_none relations (parent ∷ above) n is =
+    kept-append relations (belows above n) (below (Plain parent) (Plain n) ∷ [])
+    ∙ ap (λ (w : List (Fact Term)). w ++ kept relations (below (Plain parent) (Plain n) ∷ [])) (belows_none relations above n is)
+    ∙ kept_none relations (below (Plain parent) (Plain n)) is
+
+pub belows_put : (relations : Kept) (above : List ℕ) (n : ℕ) (old new : List (Fact Term)) → relations.below ≡ true
+    → new ≡ old ++ map (flat relations.base) (belows above n) → new ≡ old ++ kept relations (belows above n)
+belows_put relations above n old new is put = put ∙ ap (λ (w : List (Fact Term)). old ++ w) (sym (belows_all relations above n is))
+
+pub no_belows_put : (relations : Kept) (above : List ℕ) (n : ℕ) (facts : List (Fact Term)) → relations.below ≡ false
+    → facts ≡ facts ++ kept relations (belows above n)
+no_belows_put relations above n facts is =
+    sym (append-nil facts) ∙ ap (λ (w : List (Fact Term)). facts ++ w) (sym (belows_none relations above n is))
+
+-- where all five relations are kept, each fact is
+abbrev pub AreAllKept : Kept → Type 0
+AreAllKept relations = (fact : DocFact Term) → is_kept relations fact ≡ true
+
+pub all_kept : (relations : Kept) → AreAllKept relations → (facts : List (DocFact Term)) → kept relations facts ≡ map (flat relations.base) facts
+all_kept relations each [] = refl
+all_kept relations each (fact ∷ facts) = rw (each fact) (ap (λ (w : List (Fact Term)). flat relations.base fact ∷ w) (all_kept relations each facts))
+
+pub all_put : (relations : Kept) → AreAllKept relations → (facts : List (DocFact Term)) (old new : List (Fact Term)) → old ≡ []
+    → new ≡ old ++ kept relations facts → new ≡ map (flat relations.base) facts
+all_put relations each facts old new empty put = put ∙ ap (λ (w : List (Fact Term)). w ++ kept relations facts) empty ∙ all_kept relations each facts
+
+abbrev pub every : ℕ → Kept
+every base = record { base = base; root = true; field = true; item = true; value = true; below = true }
+
+pub every_kept : (base : ℕ) → AreAllKept (every base)
+every_kept base (root n) = refl
+every_kept base (field p k n) = refl
+every_kept base (item p n) = refl
+every_kept base (value n t) = refl
+every_kept base (below a n) = refl
+
 -- ---- a node
 
 -- a node's facts and those of the nodes after it
-kid_facts : (base : ℕ) (a : List ℕ) (n : ℕ) (l : Label) (t : Node) (rest : Forest)
-    → flat base (entering a l n) ∷ (map (flat base) (node_facts a n t) ++ map (flat base) (facts_from a (suc n + size t.inside) rest)) ≡ map (flat base)
-    (facts_from a n (kid l t.content t.inside rest))
-kid_facts base a n l t rest =
-    ap (λ (w : List (Fact Term)). flat base (entering a l n) ∷ w)
-    (sym (map-append (flat base) (node_facts a n t) (facts_from a (suc n + size t.inside) rest))
-    ∙ ap (map (flat base)) (append_assoc (belows a n) _ _ ∙ ap (λ (w : List (DocFact Term)). belows a n ++ w) (append_assoc (holding t.content n) _ _)))
+kid_facts : (relations : Kept) (a : List ℕ) (n : ℕ) (l : Label) (t : Node) (rest : Forest)
+    → kept relations (entering a l n ∷ []) ++ (kept relations (node_facts a n t) ++ kept relations (facts_from a (suc n + size t.inside) rest))
+    ≡ kept relations (facts_from a n (kid l t.content t.inside rest))
+kid_facts relations a n l t rest =
+    ap (λ (w : List (Fact Term)). kept relations (entering a l n ∷ []) ++ w)
+    (sym (kept-append relations (node_facts a n t) (facts_from a (suc n + size t.inside) rest))
+    ∙ ap (kept relations) (append_assoc (belows a n) _ _ ∙ ap (λ (w : List (DocFact Term)). belows a n ++ w) (append_assoc (holding t.content n) _ _)))
+    ∙ sym (kept-append relations (entering a l n ∷ []) _)
 
-pub kid_step : (base : ℕ) (facts whole : List (Fact Term)) (a : List ℕ) (n : ℕ) (l : Label) (t : Node) (rest : Forest)
-    → facts ++ map (flat base) (facts_from a n (kid l t.content t.inside rest)) ≡ whole
-    → ((facts ++ flat base (entering a l n) ∷ []) ++ map (flat base) (node_facts a n t)) ++ map (flat base) (facts_from a (suc n + size t.inside) rest) ≡ whole
-kid_step base facts whole a n l t rest known =
-    append_assoc (facts ++ flat base (entering a l n) ∷ []) _ _
+pub kid_step : (relations : Kept) (facts whole : List (Fact Term)) (a : List ℕ) (n : ℕ) (l : Label) (t : Node) (rest : Forest)
+    → facts ++ kept relations (facts_from a n (kid l t.content t.inside rest)) ≡ whole
+    → ((facts ++ kept relations (entering a l n ∷ [])) ++ kept relations (node_facts a n t)) ++ kept relations (facts_from a (suc n + size t.inside) rest)
+    ≡ whole
+kid_step relations facts whole a n l t rest known =
+    append_assoc (facts ++ kept relations (entering a l n ∷ [])) _ _
     ∙ append_assoc facts _ _
-    ∙ ap (λ (w : List (Fact Term)). facts ++ w) (kid_facts base a n l t rest)
+    ∙ ap (λ (w : List (Fact Term)). facts ++ w) (kid_facts relations a n l t rest)
     ∙ known
 
 pub kid_count : (n all : ℕ) (t : Node) (rest : Forest) (l : Label) → n + size (kid l t.content t.inside rest) ≡ all → (suc n + size t.inside) + size rest ≡ all
 kid_count n all t rest l known = omega (arith, known)
 
 -- what is put for a node, kind by kind, when the nodes above are put
-module _ (base n : ℕ) (above : List ℕ) (start put : List (Fact Term)) (entered : put ≡ start ++ map (flat base) (belows (turned above) n)) where
-  node_rest : (t : Node) → put ++ map (flat base) (holding t.content n ++ facts_from (n ∷ turned above) (suc n) t.inside)
-      ≡ start ++ map (flat base) (node_facts (turned above) n t)
+module _ (relations : Kept) (n : ℕ) (above : List ℕ) (start put : List (Fact Term)) (entered : put ≡ start ++ kept relations (belows (turned above) n)) where
+  node_rest : (t : Node) → put ++ kept relations (holding t.content n ++ facts_from (n ∷ turned above) (suc n) t.inside)
+      ≡ start ++ kept relations (node_facts (turned above) n t)
   node_rest t = rw entered (append_assoc start _ _
       ∙ ap (λ (w : List (Fact Term)). start ++ w)
-      (sym (map-append (flat base) (belows (turned above) n) (holding t.content n ++ facts_from (n ∷ turned above) (suc n) t.inside))))
+      (sym (kept-append relations (belows (turned above) n) (holding t.content n ++ facts_from (n ∷ turned above) (suc n) t.inside))))
 
   pub value_put : (tree : Tree) (text said : List ℕ) (now : List (Fact Term)) → tree ≡ Value text → said ≡ text
-      → now ≡ put ++ fact_over (base + 3) (Plain n ∷ Const said ∷ []) ∷ []
-      → now ≡ start ++ map (flat base) (node_facts (turned above) n (shape tree))
+      → now ≡ put ++ kept relations (value (Plain n) (Const said) ∷ [])
+      → now ≡ start ++ kept relations (node_facts (turned above) n (shape tree))
   value_put tree text said now is copied more = rw (is, shape-Value text) (more
-      ∙ ap (λ (w : List ℕ). put ++ fact_over (base + 3) (Plain n ∷ Const w ∷ []) ∷ []) copied
+      ∙ ap (λ (w : List ℕ). put ++ kept relations (value (Plain n) (Const w) ∷ [])) copied
       ∙ node_rest (node (Some text) none))
 
-  pub nothing_put : (tree : Tree) → tree ≡ Nothing → put ≡ start ++ map (flat base) (node_facts (turned above) n (shape tree))
+  pub nothing_put : (tree : Tree) → tree ≡ Nothing → put ≡ start ++ kept relations (node_facts (turned above) n (shape tree))
   nothing_put tree is = rw (is, shape-Nothing) (sym (append-nil put) ∙ node_rest (node None none))
 
   pub fields_put : (tree : Tree) (fields : List (FieldOf Tree)) (first : ℕ) (now : List (Fact Term)) → tree ≡ Fields fields → first ≡ suc n
-      → now ≡ put ++ map (flat base) (facts_from (n ∷ turned above) first (named_row (map shaped_field fields)))
-      → now ≡ start ++ map (flat base) (node_facts (turned above) n (shape tree))
+      → now ≡ put ++ kept relations (facts_from (n ∷ turned above) first (named_row (map shaped_field fields)))
+      → now ≡ start ++ kept relations (node_facts (turned above) n (shape tree))
   fields_put tree fields first now is numbered more = rw (is, shape-Fields fields) (more
-      ∙ ap (λ (k : ℕ). put ++ map (flat base) (facts_from (n ∷ turned above) k (named_row (map shaped_field fields)))) numbered
+      ∙ ap (λ (k : ℕ). put ++ kept relations (facts_from (n ∷ turned above) k (named_row (map shaped_field fields)))) numbered
       ∙ node_rest (node None (named_row (map shaped_field fields))))
 
   pub items_put : (tree : Tree) (items : List Tree) (first : ℕ) (now : List (Fact Term)) → tree ≡ Items items → first ≡ suc n
-      → now ≡ put ++ map (flat base) (facts_from (n ∷ turned above) first (row (map shape items)))
-      → now ≡ start ++ map (flat base) (node_facts (turned above) n (shape tree))
+      → now ≡ put ++ kept relations (facts_from (n ∷ turned above) first (row (map shape items)))
+      → now ≡ start ++ kept relations (node_facts (turned above) n (shape tree))
   items_put tree items first now is numbered more = rw (is, shape-Items items) (more
-      ∙ ap (λ (k : ℕ). put ++ map (flat base) (facts_from (n ∷ turned above) k (row (map shape items)))) numbered
+      ∙ ap (λ (k : ℕ). put ++ kept relations (facts_from (n ∷ turned above) k (row (map shape items)))) numbered
       ∙ node_rest (node None (row (map shape items))))
+
+-- what is put of a document
+pub document_put : (relations : Kept) (start put now : List (Fact Term)) (n : ℕ) (tree : Tree) → put ≡ start ++ kept relations (root (Plain n) ∷ [])
+    → now ≡ put ++ kept relations (node_facts [] n (shape tree)) → now ≡ start ++ kept_of relations n (documents (tree ∷ []))
+document_put relations start put now n tree entered more =
+    more
+    ∙ ap (λ (w : List (Fact Term)). w ++ kept relations (node_facts [] n (shape tree))) entered
+    ∙ sym (append-nil _)
+    ∙ kid_step relations start (start ++ kept_of relations n (documents (tree ∷ []))) [] n place (shape tree) none refl
+
+-- ---- documents one after another
+
+pub row_append : (trees more : List Tree) (n : ℕ) → facts_from [] n (documents (trees ++ more))
+    ≡ facts_from [] n (documents trees) ++ facts_from [] (n + size (documents trees)) (documents more)
+row_append [] more n = ap (λ (k : ℕ). facts_from [] k (documents more)) (omega arith)
+row_append (tree ∷ trees) more n =
+    let own = shape tree in
+    let far : suc n + size own.inside + size (documents trees) ≡ n + size (documents (tree ∷ trees)) = omega arith in
+    ap (λ (w : List (DocFact Term)). root (Plain n) ∷ (holding own.content n ++ (facts_from (n ∷ []) (suc n) own.inside ++ w)))
+    (row_append trees more (suc n + size own.inside)
+    ∙ ap (λ (k : ℕ). facts_from [] (suc n + size own.inside) (documents trees) ++ facts_from [] k (documents more)) far)
+    ∙ sym (ap (λ (w : List (DocFact Term)). root (Plain n) ∷ w) (append_assoc (holding own.content n) _ _
+    ∙ ap (λ (w : List (DocFact Term)). holding own.content n ++ w) (append_assoc (facts_from (n ∷ []) (suc n) own.inside) _ _)))
+
+pub size_append : (trees more : List Tree) → size (documents (trees ++ more)) ≡ size (documents trees) + size (documents more)
+size_append [] more = omega arith
+size_append (tree ∷ trees) more = let rest = size_append trees more in omega (arith, rest)
+
+pub rising_append : (trees more : List Tree) → AreRising trees → AreRising more → AreRising (trees ++ more)
+rising_append [] more one other = other
+rising_append (tree ∷ []) [] one other = one
+rising_append (tree ∷ []) (next ∷ more) one other = (tt, (one.1.0, other))
+rising_append (tree ∷ next ∷ trees) more one other = (tt, (one.1.0, rising_append (next ∷ trees) more one.1.1 other))
 
 -- what stands inside a tree, kind by kind
 inside_of : (tree other : Tree) (it : Node) → tree ≡ other → shape other ≡ it → (shape tree).inside ≡ it.inside
@@ -156,34 +260,34 @@ module _ (base v next : ℕ) (path : List Step) (start put : List (Fact Term)) (
       ∙ ap (λ (w : List (DocFact Term)). put ++ map (flat base) w) (sym (append-nil (atoms (entries_of inner) (end path v next) (next + length path))))
       ∙ path_then (atoms (entries_of inner) (end path v next) (next + length path) ++ []))
 
-module _ (base number next : ℕ) (above inner : List ℕ) (facts whole : List (Fact Term)) (all : ℕ) (is_inner : inner ≡ above ++ number ∷ []) where
+module _ (relations : Kept) (number next : ℕ) (above inner : List ℕ) (facts whole : List (Fact Term)) (all : ℕ) (is_inner : inner ≡ above ++ number ∷ []) where
   inside_turned : turned inner ≡ number ∷ turned above
   inside_turned = ap turned is_inner ∙ turned_last above number
 
   pub field_facts : (fields : List (FieldOf Tree)) (i : ℕ) (f : FieldOf Tree) → i < length fields → f ≡ get_or fields i f
-      → facts ++ map (flat base) (facts_from (number ∷ turned above) next (named_row (map shaped_field (drop i fields)))) ≡ whole
-      → ((facts ++ fact_over (base + 1) (Plain number ∷ Const f.name ∷ Plain next ∷ []) ∷ [])
-      ++ map (flat base) (node_facts (turned inner) next (shape f.tree)))
-      ++ map (flat base) (facts_from (number ∷ turned above) (suc next + size (shape f.tree).inside) (named_row (map shaped_field (drop (i + 1) fields))))
+      → facts ++ kept relations (facts_from (number ∷ turned above) next (named_row (map shaped_field (drop i fields)))) ≡ whole
+      → ((facts ++ kept relations (field (Plain number) (Const f.name) (Plain next) ∷ []))
+      ++ kept relations (node_facts (turned inner) next (shape f.tree)))
+      ++ kept relations (facts_from (number ∷ turned above) (suc next + size (shape f.tree).inside) (named_row (map shaped_field (drop (i + 1) fields))))
       ≡ whole
   field_facts fields i f within is known =
-      ap (λ (a : List ℕ). ((facts ++ fact_over (base + 1) (Plain number ∷ Const f.name ∷ Plain next ∷ []) ∷ [])
-      ++ map (flat base) (node_facts a next (shape f.tree)))
-      ++ map (flat base) (facts_from (number ∷ turned above) (suc next + size (shape f.tree).inside) (named_row (map shaped_field (drop (i + 1) fields)))))
+      ap (λ (a : List ℕ). ((facts ++ kept relations (field (Plain number) (Const f.name) (Plain next) ∷ []))
+      ++ kept relations (node_facts a next (shape f.tree)))
+      ++ kept relations (facts_from (number ∷ turned above) (suc next + size (shape f.tree).inside) (named_row (map shaped_field (drop (i + 1) fields)))))
       inside_turned
-      ∙ kid_step base facts whole (number ∷ turned above) next (name f.name) (shape f.tree) (named_row (map shaped_field (drop (i + 1) fields)))
-      (ap (λ (w : List (FieldOf Tree)). facts ++ map (flat base) (facts_from (number ∷ turned above) next (named_row (map shaped_field w))))
+      ∙ kid_step relations facts whole (number ∷ turned above) next (name f.name) (shape f.tree) (named_row (map shaped_field (drop (i + 1) fields)))
+      (ap (λ (w : List (FieldOf Tree)). facts ++ kept relations (facts_from (number ∷ turned above) next (named_row (map shaped_field w))))
       (sym (drop-item fields i f within is)) ∙ known)
 
   pub item_facts : (items : List Tree) (i : ℕ) (t : Tree) → i < length items → t ≡ get_or items i t
-      → facts ++ map (flat base) (facts_from (number ∷ turned above) next (row (map shape (drop i items)))) ≡ whole
-      → ((facts ++ fact_over (base + 2) (Plain number ∷ Plain next ∷ []) ∷ []) ++ map (flat base) (node_facts (turned inner) next (shape t)))
-      ++ map (flat base) (facts_from (number ∷ turned above) (suc next + size (shape t).inside) (row (map shape (drop (i + 1) items)))) ≡ whole
+      → facts ++ kept relations (facts_from (number ∷ turned above) next (row (map shape (drop i items)))) ≡ whole
+      → ((facts ++ kept relations (item (Plain number) (Plain next) ∷ [])) ++ kept relations (node_facts (turned inner) next (shape t)))
+      ++ kept relations (facts_from (number ∷ turned above) (suc next + size (shape t).inside) (row (map shape (drop (i + 1) items)))) ≡ whole
   item_facts items i t within is known =
-      ap (λ (a : List ℕ). ((facts ++ fact_over (base + 2) (Plain number ∷ Plain next ∷ []) ∷ []) ++ map (flat base) (node_facts a next (shape t)))
-      ++ map (flat base) (facts_from (number ∷ turned above) (suc next + size (shape t).inside) (row (map shape (drop (i + 1) items))))) inside_turned
-      ∙ kid_step base facts whole (number ∷ turned above) next place (shape t) (row (map shape (drop (i + 1) items)))
-      (ap (λ (w : List Tree). facts ++ map (flat base) (facts_from (number ∷ turned above) next (row (map shape w)))) (sym (drop-item items i t within is))
+      ap (λ (a : List ℕ). ((facts ++ kept relations (item (Plain number) (Plain next) ∷ [])) ++ kept relations (node_facts a next (shape t)))
+      ++ kept relations (facts_from (number ∷ turned above) (suc next + size (shape t).inside) (row (map shape (drop (i + 1) items))))) inside_turned
+      ∙ kid_step relations facts whole (number ∷ turned above) next place (shape t) (row (map shape (drop (i + 1) items)))
+      (ap (λ (w : List Tree). facts ++ kept relations (facts_from (number ∷ turned above) next (row (map shape w)))) (sym (drop-item items i t within is))
       ∙ known)
 
 pub field_count : (next all : ℕ) (fields : List (FieldOf Tree)) (i : ℕ) (f : FieldOf Tree) → i < length fields → f ≡ get_or fields i f
@@ -200,61 +304,33 @@ item_count next all items i t within is known =
     kid_count next all (shape t) (row (map shape (drop (i + 1) items))) place
     (ap (λ (w : List Tree). next + size (row (map shape w))) (sym (drop-item items i t within is)) ∙ known)
 
-pub document_facts : (base next : ℕ) (above : List ℕ) (facts whole : List (Fact Term)) → above ≡ [] → (items : List Tree) (i : ℕ) (t : Tree) → i < length items
-    → t ≡ get_or items i t
-    → facts ++ map (flat base) (facts_from [] next (row (map shape (drop i items)))) ≡ whole
-    → ((facts ++ fact_over (base + 0) (Plain next ∷ []) ∷ []) ++ map (flat base) (node_facts (turned above) next (shape t)))
-    ++ map (flat base) (facts_from [] (suc next + size (shape t).inside) (row (map shape (drop (i + 1) items)))) ≡ whole
-document_facts base next above facts whole none_above items i t within is known =
-    ap (λ (a : List ℕ). ((facts ++ fact_over (base + 0) (Plain next ∷ []) ∷ []) ++ map (flat base) (node_facts (turned a) next (shape t)))
-    ++ map (flat base) (facts_from [] (suc next + size (shape t).inside) (row (map shape (drop (i + 1) items))))) none_above
-    ∙ kid_step base facts whole [] next place (shape t) (row (map shape (drop (i + 1) items)))
-    (ap (λ (w : List Tree). facts ++ map (flat base) (facts_from [] next (row (map shape w)))) (sym (drop-item items i t within is)) ∙ known)
-
-module _ (base number next later : ℕ) (above inner : List ℕ) (facts entered now whole : List (Fact Term)) (all : ℕ)
+module _ (relations : Kept) (number next later : ℕ) (above inner : List ℕ) (facts entered now whole : List (Fact Term)) (all : ℕ)
     (is_inner : inner ≡ above ++ number ∷ []) where
   pub field_turn : (fields : List (FieldOf Tree)) (i : ℕ) (f : FieldOf Tree) → i < length fields → f ≡ get_or fields i f
-      → entered ≡ facts ++ fact_over (base + 1) (Plain number ∷ Const f.name ∷ Plain next ∷ []) ∷ []
-      → now ≡ entered ++ map (flat base) (node_facts (turned inner) next (shape f.tree))
+      → entered ≡ facts ++ kept relations (field (Plain number) (Const f.name) (Plain next) ∷ [])
+      → now ≡ entered ++ kept relations (node_facts (turned inner) next (shape f.tree))
       → later ≡ suc next + size (shape f.tree).inside
-      → (facts ++ map (flat base) (facts_from (number ∷ turned above) next (named_row (map shaped_field (drop i fields)))) ≡ whole)
+      → (facts ++ kept relations (facts_from (number ∷ turned above) next (named_row (map shaped_field (drop i fields)))) ≡ whole)
       × (next + size (named_row (map shaped_field (drop i fields))) ≡ all)
-      → (now ++ map (flat base) (facts_from (number ∷ turned above) later (named_row (map shaped_field (drop (i + 1) fields)))) ≡ whole)
+      → (now ++ kept relations (facts_from (number ∷ turned above) later (named_row (map shaped_field (drop (i + 1) fields)))) ≡ whole)
       × (later + size (named_row (map shaped_field (drop (i + 1) fields))) ≡ all)
   field_turn fields i f within is put more numbered known =
       rw (more, put, numbered)
-      (field_facts base number next above inner facts whole all is_inner fields i f within is known.0, field_count next all fields i f within is known.1)
+      (field_facts relations number next above inner facts whole all is_inner fields i f within is known.0, field_count next all fields i f within is known.1)
 
   pub item_turn : (items : List Tree) (i : ℕ) (t : Tree) → i < length items → t ≡ get_or items i t
-      → entered ≡ facts ++ fact_over (base + 2) (Plain number ∷ Plain next ∷ []) ∷ []
-      → now ≡ entered ++ map (flat base) (node_facts (turned inner) next (shape t))
+      → entered ≡ facts ++ kept relations (item (Plain number) (Plain next) ∷ [])
+      → now ≡ entered ++ kept relations (node_facts (turned inner) next (shape t))
       → later ≡ suc next + size (shape t).inside
-      → (facts ++ map (flat base) (facts_from (number ∷ turned above) next (row (map shape (drop i items)))) ≡ whole)
+      → (facts ++ kept relations (facts_from (number ∷ turned above) next (row (map shape (drop i items)))) ≡ whole)
       × (next + size (row (map shape (drop i items))) ≡ all)
-      → (now ++ map (flat base) (facts_from (number ∷ turned above) later (row (map shape (drop (i + 1) items)))) ≡ whole)
+      → (now ++ kept relations (facts_from (number ∷ turned above) later (row (map shape (drop (i + 1) items)))) ≡ whole)
       × (later + size (row (map shape (drop (i + 1) items))) ≡ all)
   item_turn items i t within is put more numbered known =
       rw (more, put, numbered) (
-        item_facts base number next above inner facts whole all is_inner items i t within is known.0,
+        item_facts relations number next above inner facts whole all is_inner items i t within is known.0,
         item_count next all items i t within is known.1,
       )
-
-plus_none : (n : ℕ) → n ≡ n + 0
-plus_none n = omega arith
-
-module _ (base next later : ℕ) (above : List ℕ) (facts entered now whole : List (Fact Term)) (all : ℕ) (none_above : above ≡ []) where
-  pub document_turn : (items : List Tree) (i : ℕ) (t : Tree) → i < length items → t ≡ get_or items i t
-      → entered ≡ facts ++ fact_over base (Plain next ∷ []) ∷ []
-      → now ≡ entered ++ map (flat base) (node_facts (turned above) next (shape t))
-      → later ≡ suc next + size (shape t).inside
-      → (facts ++ map (flat base) (facts_from [] next (row (map shape (drop i items)))) ≡ whole) × (next + size (row (map shape (drop i items))) ≡ all)
-      → (now ++ map (flat base) (facts_from [] later (row (map shape (drop (i + 1) items)))) ≡ whole)
-      × (later + size (row (map shape (drop (i + 1) items))) ≡ all)
-  document_turn items i t within is put more numbered known =
-      let entered_at : entered ≡ facts ++ fact_over (base + 0) (Plain next ∷ []) ∷ [] =
-      put ∙ ap (λ (r : ℕ). facts ++ fact_over r (Plain next ∷ []) ∷ []) (plus_none base) in
-      rw (more, entered_at, numbered)
-      (document_facts base next above facts whole none_above items i t within is known.0, item_count next all items i t within is known.1)
 
 -- ---- names that rise
 

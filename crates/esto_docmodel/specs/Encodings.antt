@@ -1,11 +1,12 @@
 -- The facts of documents, and the atoms of a pattern.
-use Rattle.std.specs.Prelude.{ℕ, suc, ◌+◌, List, [], ◌∷◌, ◌++◌, length, map, Option, Some, None}
+use Rattle.std.specs.Prelude.{ℕ, Bool, suc, ◌+◌, List, [], ◌∷◌, ◌++◌, filter, length, map, Option, Some, None}
 use Rattle.esto_term.specs.declared.term.Term.{Term}
 use Rattle.esto_term.specs.declared.term.Term.TheVariants.{Const, Plain}
 use Rattle.esto_semantics.specs.declared.fact.Fact.{Fact}
 use Rattle.esto_docmodel.specs.DocumentFacts.{DocFact, root, field, item, value, below, flat}
 use Rattle.esto_docmodel.specs.Forests.{Label, name, place, Forest, none, kid}
 use Rattle.esto_docmodel.specs.Patterns.{Entries, done, holds, group}
+use Rattle.esto_docmodel.specs.declared.kept.Kept.{Kept}
 use Rattle.esto_docmodel.specs.declared.pattern.Step.{Step}
 use Rattle.esto_docmodel.specs.declared.pattern.Step.TheVariants.{Name, Item, Below}
 
@@ -42,6 +43,22 @@ facts_from above n (kid label content inside rest) =
 -- The facts of documents, numbered from `first`, in the five relations from the base on.
 abbrev pub facts_of : ℕ → ℕ → Forest → List (Fact Term)
 facts_of base first forest = map (flat base) (facts_from [] first forest)
+
+-- Whether the fact is of one of the five relations that are kept.
+abbrev pub is_kept : Kept → DocFact Term → Bool
+is_kept relations (root n) = relations.root
+is_kept relations (field p k n) = relations.field
+is_kept relations (item p n) = relations.item
+is_kept relations (value n t) = relations.value
+is_kept relations (below a n) = relations.below
+
+-- Of these facts those of the relations that are kept, in order.
+abbrev pub kept : Kept → List (DocFact Term) → List (Fact Term)
+kept relations facts = map (flat relations.base) (filter (is_kept relations) facts)
+
+-- Of the facts of documents, numbered from `first`, those of the relations that are kept.
+abbrev pub kept_of : Kept → ℕ → Forest → List (Fact Term)
+kept_of relations first forest = kept relations (facts_from [] first forest)
 
 -- ---- patterns
 

@@ -1,19 +1,14 @@
-//! The encodings of documents and of patterns.
+//! The facts that are put, and the encoding of patterns.
 ghost use Rattle.std.specs.Prelude.{◌≡◌, ◌≤◌, ◌+◌, suc, [], ◌∷◌, ◌++◌, length, map, IfOk, OnOk};
 ghost use Rattle.esto_term.specs.declared.term.Term.TheVariants.{Const, Plain};
-ghost use Rattle.esto_constraint.specs.EncodingRules.{document_rules_2};
-ghost use Rattle.esto_constraint.specs.Matches.{AreMet};
 ghost use Rattle.esto_docmodel.specs.DocumentFacts.{flat};
-ghost use Rattle.esto_docmodel.specs.Encodings.{facts_of, atoms_of, atoms, end, step_atoms, used, belows, facts_from, size};
-ghost use Rattle.esto_docmodel.specs.Meanings.{HaveRootsOnTop};
-ghost use Rattle.esto_docmodel.specs.Putting.{fact_over, turned, node_facts};
-ghost use Rattle.esto_docmodel.specs.Rising.{IsRising, AreRising};
-ghost use Rattle.esto_docmodel.specs.Shapes.{shape, row, named_row, shaped_field, documents, entries_of};
+ghost use Rattle.esto_docmodel.specs.Encodings.{atoms_of, atoms, end, step_atoms, used};
+ghost use Rattle.esto_docmodel.specs.Putting.{fact_over};
+ghost use Rattle.esto_docmodel.specs.Shapes.{entries_of};
 
 use crate::pattern::{Entry, Pattern, Step};
-use crate::tree::{Fields, Tree, Trees};
 use esto_semantics::{Atoms, Fact, Facts};
-use esto_term::{List, OutOfMemory, Replicate, Term, Text, Values};
+use esto_term::{List, OutOfMemory, Replicate, Term, Terms, Text};
 use std::alloc::Global;
 
 /// The facts of documents, and the first number that is no node's.
@@ -31,7 +26,7 @@ pub struct EncodedAtoms {
 }
 
 /// The greatest number of a base, beyond which one of the five relations has no number.
-const LAST_BASE: usize = usize::MAX - 4;
+pub const LAST_BASE: usize = usize::MAX - 4;
 
 /// The number after that one. Want of memory is answered for the greatest, which no count of nodes comes to.
 pub fn after(number: u64) -> Result<u64, OutOfMemory>
@@ -43,17 +38,32 @@ pub fn after(number: u64) -> Result<u64, OutOfMemory>
     }
 }
 
+/// An empty row, with room for so many terms.
+fn row_with_room(alloc: Global, terms: usize) -> Result<Terms, OutOfMemory>
+    ensures { IfOk result (λ it. it ≡ []) }
+{
+    match Vec::with_capacity(alloc, terms) {
+        Ok(terms) => Ok(List::from_vec(terms)),
+        Err(_) => Err(OutOfMemory),
+    }
+}
+
 /// Puts a fact over one node.
-fn put_one(alloc: Global, facts: &mut Facts, relation: usize, node: u64) -> Result<(), OutOfMemory>
+pub fn put_one(
+    alloc: Global,
+    facts: &mut Facts,
+    relation: usize,
+    node: u64,
+) -> Result<(), OutOfMemory>
     ensures { OnOk result (facts.new ≡ facts.old ++ fact_over relation (Plain node ∷ []) ∷ []) }
 {
-    let mut terms = List::new(alloc);
+    let mut terms = row_with_room(alloc, 1)?;
     terms.push(Term::Plain(node))?;
     facts.push(Fact { relation, terms })
 }
 
 /// Puts a fact over a node and a term.
-fn put_two(
+pub fn put_two(
     alloc: Global,
     facts: &mut Facts,
     relation: usize,
@@ -63,224 +73,29 @@ fn put_two(
     ensures { OnOk result (facts.new ≡ facts.old
         ++ fact_over relation (Plain node ∷ term ∷ []) ∷ []) }
 {
-    let mut terms = List::new(alloc);
+    let mut terms = row_with_room(alloc, 2)?;
     terms.push(Term::Plain(node))?;
     terms.push(term)?;
     facts.push(Fact { relation, terms })
 }
 
 /// Puts a fact over a node, a name and another node.
-fn put_named(
+pub fn put_named(
     alloc: Global,
     facts: &mut Facts,
     relation: usize,
     node: u64,
-    name: &Text,
+    name: &str,
     other: u64,
 ) -> Result<(), OutOfMemory>
     ensures { OnOk result (facts.new ≡ facts.old
         ++ fact_over relation (Plain node ∷ Const name.now ∷ Plain other ∷ []) ∷ []) }
 {
-    let mut terms = List::new(alloc);
+    let mut terms = row_with_room(alloc, 3)?;
     terms.push(Term::Plain(node))?;
-    terms.push(Term::Const(name.copy(alloc)?))?;
+    terms.push(Term::Const(Text::from_str(alloc, name)?))?;
     terms.push(Term::Plain(other))?;
     facts.push(Fact { relation, terms })
-}
-
-/// Puts one fact for each node above, the outermost first.
-fn put_belows(
-    alloc: Global,
-    facts: &mut Facts,
-    base: usize,
-    above: &[u64],
-    number: u64,
-) -> Result<(), OutOfMemory>
-    requires { base + 4 ≤ 18446744073709551615 }
-    ensures { OnOk result (facts.new ≡ facts.old
-        ++ map (flat base) (belows (turned above.now) number)) }
-{
-    'above: for ancestor in above {
-        put_two(alloc, facts, base + 4, *ancestor, Term::Plain(number))?;
-    }
-    Ok(())
-}
-
-/// These numbers, and that one after them.
-fn with_last(alloc: Global, above: &Values<u64>, number: u64) -> Result<Values<u64>, OutOfMemory>
-    ensures { IfOk result (λ it. it ≡ above.now ++ number ∷ []) }
-{
-    let mut it = Values::from_slice(alloc, above.items())?;
-    it.push(number)?;
-    Ok(it)
-}
-
-/// Puts the facts of a node and of all that stands inside it, but for how it is entered.
-#[cycle(put)]
-fn put_node(
-    alloc: Global,
-    facts: &mut Facts,
-    base: usize,
-    tree: &Tree,
-    above: &Values<u64>,
-    number: u64,
-) -> Result<u64, OutOfMemory>
-    requires { base + 4 ≤ 18446744073709551615 }
-    ensures facts { OnOk result (facts.new ≡ facts.old
-        ++ map (flat base) (node_facts (turned above.now) number (shape tree.now))) }
-    ensures rising { OnOk result (IsRising (shape tree.now).inside) }
-    ensures next { IfOk result (λ next. next ≡ suc number + size (shape tree.now).inside) }
-{
-    put_belows(alloc, facts, base, above.items(), number)?;
-    let next = after(number)?;
-    match tree {
-        Tree::Value(text) => {
-            let text = Term::Const(text.copy(alloc)?);
-            put_two(alloc, facts, base + 3, number, text)?;
-            Ok(next)
-        }
-        Tree::Nothing => Ok(next),
-        Tree::Fields(fields) => {
-            let inner = with_last(alloc, above, number)?;
-            put_fields(alloc, facts, base, fields, above, &inner, number, next)
-        }
-        Tree::Items(items) => {
-            let inner = with_last(alloc, above, number)?;
-            put_items(
-                alloc,
-                facts,
-                base,
-                items.items(),
-                above,
-                &inner,
-                number,
-                next,
-            )
-        }
-    }
-}
-
-/// Puts the facts of the fields of a node.
-#[cycle(put)]
-fn put_fields(
-    alloc: Global,
-    facts: &mut Facts,
-    base: usize,
-    fields: &Fields,
-    above: &Values<u64>,
-    inner: &Values<u64>,
-    number: u64,
-    first: u64,
-) -> Result<u64, OutOfMemory>
-    requires relations { base + 4 ≤ 18446744073709551615 }
-    requires inside { inner.now ≡ above.now ++ number ∷ [] }
-    ensures facts { OnOk result (facts.new ≡ facts.old
-        ++ map (flat base) (facts_from (number ∷ turned above.now) first
-        (named_row (map shaped_field fields.now)))) }
-    ensures rising { OnOk result (IsRising (named_row (map shaped_field fields.now))) }
-    ensures next { IfOk result (λ next. next ≡ first + size
-        (named_row (map shaped_field fields.now))) }
-{
-    let mut next = first;
-    'fields: for field in fields.items() {
-        put_named(alloc, facts, base + 1, number, &field.name, next)?;
-        next = put_node(alloc, facts, base, &field.tree, inner, next)?;
-    }
-    Ok(next)
-}
-
-/// Puts the facts of the items of a node.
-#[cycle(put)]
-fn put_items(
-    alloc: Global,
-    facts: &mut Facts,
-    base: usize,
-    items: &[Tree],
-    above: &Values<u64>,
-    inner: &Values<u64>,
-    number: u64,
-    first: u64,
-) -> Result<u64, OutOfMemory>
-    requires relations { base + 4 ≤ 18446744073709551615 }
-    requires inside { inner.now ≡ above.now ++ number ∷ [] }
-    ensures facts { OnOk result (facts.new ≡ facts.old
-        ++ map (flat base) (facts_from (number ∷ turned above.now) first
-        (row (map shape items.now)))) }
-    ensures rising { OnOk result (IsRising (row (map shape items.now))) }
-    ensures next { IfOk result (λ next. next ≡ first + size (row (map shape items.now))) }
-{
-    let mut next = first;
-    'items: for item in items {
-        put_two(alloc, facts, base + 2, number, Term::Plain(next))?;
-        next = put_node(alloc, facts, base, item, inner, next)?;
-    }
-    Ok(next)
-}
-
-/// Puts the facts of documents.
-fn put_documents(
-    alloc: Global,
-    facts: &mut Facts,
-    base: usize,
-    trees: &[Tree],
-    above: &Values<u64>,
-    first: u64,
-) -> Result<u64, OutOfMemory>
-    requires relations { base + 4 ≤ 18446744073709551615 }
-    requires inside { above.now ≡ [] }
-    ensures facts { OnOk result
-        (facts.new ≡ facts.old ++ facts_of base first (documents trees.now)) }
-    ensures rising { OnOk result (IsRising (documents trees.now)) }
-    ensures next { IfOk result (λ next. next ≡ first + size (documents trees.now)) }
-{
-    let mut next = first;
-    'trees: for tree in trees {
-        put_one(alloc, facts, base, next)?;
-        next = put_node(alloc, facts, base, tree, above, next)?;
-    }
-    Ok(next)
-}
-
-/// The facts of documents, numbered from `next` on.
-pub fn numbered(
-    alloc: Global,
-    base: usize,
-    trees: &[Tree],
-    next: u64,
-) -> Result<Encoded, OutOfMemory>
-    requires { base + 4 ≤ 18446744073709551615 }
-    ensures facts { IfOk result (λ it. it.facts ≡ facts_of base next (documents trees.now)) }
-    ensures next { IfOk result (λ it. it.next ≡ next + size (documents trees.now)) }
-    ensures rising { OnOk result (AreRising trees.now) }
-{
-    let mut facts = List::new(alloc);
-    let above = Values::new(alloc);
-    let next = put_documents(alloc, &mut facts, base, trees, &above, next)?;
-    Ok(Encoded { facts, next })
-}
-
-/// The facts of documents in the five relations from the base on: root, field, item, value and below. Nodes are numbered
-/// in preorder from `next` on, documents, fields and items in order, and the answer's `next` is the first number that is
-/// not used. The facts of a node follow one another: how it is entered, what it stands below from the document down, and
-/// what it holds. They meet the rules of documents, and no node that stands below another is a document. OutOfMemory
-/// comes too where a relation or a node has no number of 64 bits.
-pub fn encode_documents(
-    alloc: Global,
-    base: usize,
-    trees: &Trees,
-    next: u64,
-) -> Result<Encoded, OutOfMemory>
-    ensures facts { IfOk result (λ it. it.facts ≡ facts_of base next (documents trees.now)) }
-    ensures next { IfOk result (λ it. it.next ≡ next + size (documents trees.now)) }
-    ensures rising { OnOk result (AreRising trees.now) }
-    ensures rules { IfOk result (λ it. AreMet it.facts (document_rules_2 base)) }
-    ensures roots { IfOk result (λ it. HaveRootsOnTop base it.facts) }
-{
-    if base > LAST_BASE {
-        return Err(OutOfMemory);
-    }
-    let encoded = numbered(alloc, base, trees.items(), next)?;
-    Ok(encoded)
 }
 
 /// Puts the atom of a step.
@@ -297,7 +112,7 @@ fn put_step(
         ++ map (flat base) (step_atoms (step.now ∷ []) from to)) }
 {
     match step {
-        Step::Name(name) => put_named(alloc, body, base + 1, from, name, to),
+        Step::Name(name) => put_named(alloc, body, base + 1, from, name.as_str(), to),
         Step::Item => put_two(alloc, body, base + 2, from, Term::Plain(to)),
         Step::Below => put_two(alloc, body, base + 4, from, Term::Plain(to)),
     }

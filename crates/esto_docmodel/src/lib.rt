@@ -1,19 +1,24 @@
 //! Documents and patterns of them: the facts of documents, the atoms of a pattern, and a pattern's
 //! own meaning. Contracts see a tree by its shape and a pattern by its entries, as the definitions
-//! in `specs/` have them. Start from `encode_documents`, `encode_pattern` and `match_pattern`.
+//! in `specs/` have them. Start from `encode_document`, `encode_pattern` and `match_pattern`.
 #![tactic(auto)]
 
+mod documents;
 mod encode;
 mod field;
 mod fields;
+mod kept;
 mod laws;
 mod layout;
 mod matches;
+mod nodes;
 mod pattern;
 mod tree;
 
-pub use encode::{Encoded, EncodedAtoms, encode_documents, encode_pattern};
+pub use documents::encode_document;
+pub use encode::{Encoded, EncodedAtoms, encode_pattern};
 pub use field::FieldOf;
+pub use kept::Kept;
 pub use laws::{documents_meet_the_rules, encodings_mean_the_same, matches_rest_on_their_terms};
 pub use layout::{MAX_LAYOUT_DEPTH, is_layout};
 pub use matches::{Valuations, match_pattern};

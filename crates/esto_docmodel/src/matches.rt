@@ -10,13 +10,13 @@ ghost use Rattle.esto_docmodel.specs.Patterns.{done, Mentions};
 ghost use Rattle.esto_docmodel.specs.Shapes.{shape, entry_shape, entries_of};
 ghost use Rattle.esto_docmodel.specs.Valuations.{HaveFlatTerms, AreMatches, BindsVariables, GivesTexts, ComesBefore};
 
-use crate::encode::{after, encode_pattern, numbered};
+use crate::documents::document_facts;
+use crate::encode::{after, encode_pattern};
 use crate::pattern::{Entry, Pattern};
 use crate::tree::Tree;
 use esto_query::{Name, Names, Query, Valuation, answers};
 use esto_term::{List, OutOfMemory, Replicate, Term, TermRows, Terms, Text};
 use std::alloc::Global;
-use std::slice::from_ref;
 
 /// A list of valuations.
 pub type Valuations = List<Valuation>;
@@ -151,8 +151,8 @@ fn rows_of(
     ensures ascending { IfOk result IsAscending }
 {
     let query = query_of(alloc, pattern, variables)?;
-    let encoded = numbered(alloc, 0, from_ref(tree), 0)?;
-    answers(alloc, &query, &encoded.facts)
+    let facts = document_facts(alloc, tree)?;
+    answers(alloc, &query, &facts)
 }
 
 /// The valuation of a row of that head.

@@ -11,3 +11,4 @@ pub mod PlainLemmas
 pub mod RowLemmas
 pub mod GroupLemmas
 pub mod WriteLemmas
+pub mod EncodingLemmas

@@ -6,3 +6,4 @@ pub mod Documents
 pub mod Plain
 pub mod Laws
 pub mod Written
+pub mod Encoding

@@ -1,8 +1,9 @@
-//! JSON files of documents: read as trees, opened as rows of texts by a layout, and written. Start
-//! from `read_trees`, `open_documents` and `write_documents`.
+//! JSON files of documents: read as trees or as facts, opened as rows of texts by a layout, and written. Start
+//! from `encode_file`, `read_trees`, `open_documents` and `write_documents`.
 #![tactic(auto)]
 
 mod document;
+mod encode;
 mod from_json;
 pub mod laws;
 mod layout;
@@ -11,6 +12,7 @@ mod rows;
 mod trees;
 mod write;
 
+pub use encode::encode_file;
 pub use layout::Layout;
 pub use rows::open_documents;
 pub use trees::read_trees;

@@ -3,17 +3,17 @@ use Rattle.esto_docmodel.proofs.EncodeLemmas.{value_put, nothing_put, fields_put
 use Rattle.std.proofs.Common.{arith}
 use Rattle.std.proofs.lemmas.Result.{on_ok_weaker}
 use Rattle.esto_docmodel.proofs.RisingLemmas.{field_end, item_end}
-use Rattle.esto_docmodel.proofs.encode.+put.Goals as goal
+use Rattle.esto_docmodel.proofs.documents.+put.Goals as goal
 
 pub put_fields-fields-preserved : goal.put_fields-fields-preserved
 put_fields-fields-preserved t c = let p =
     field_turn _ _ _ _ _ _ _ _ _ _ _ c.requires.inside c.items-field-items.result.now _ _ c.fields-test.true c.field-item.is
-    c.in_ok-put_named.ensures c.in_ok-next.ensures.facts c.in_ok-next.ensures.next (c.fields.invariant.0, c.fields.invariant.1) in
+    (rw c.as_str.ensures at c.in_ok-put_field.ensures) c.in_ok-next.ensures.facts c.in_ok-next.ensures.next (c.fields.invariant.0, c.fields.invariant.1) in
     (p.0, p.1, field_inside c.items-field-items.result.now _ _ _ c.fields-test.true c.field-item.is c.in_ok-next.ensures.rising c.fields.invariant.2)
 
 pub put_items-items-preserved : goal.put_items-items-preserved
 put_items-items-preserved t c = let p =
-    item_turn _ _ _ _ _ _ _ _ _ _ _ c.requires.inside _ _ _ c.items-test.true c.item-item.is c.in_ok-put_two.ensures c.in_ok-next.ensures.facts
+    item_turn _ _ _ _ _ _ _ _ _ _ _ c.requires.inside _ _ _ c.items-test.true c.item-item.is c.in_ok-put_item.ensures c.in_ok-next.ensures.facts
     c.in_ok-next.ensures.next (c.items.invariant.0, c.items.invariant.1) in
     (p.0, p.1, item_inside _ _ _ _ c.items-test.true c.item-item.is c.in_ok-next.ensures.rising c.items.invariant.2)
 
@@ -25,32 +25,32 @@ put_fields-returns-clause-rising t c =
 pub put_items-returns-clause-rising : goal.put_items-returns-clause-rising
 put_items-returns-clause-rising t c = item_end c.args.items.now c.items.item-index (omega (arith, c.items-test.false)) c.items.invariant.2
 
-pub put_node-returns-in_ok-put_two-in-Value-clause-facts : goal.put_node-returns-in_ok-put_two-in-Value-clause-facts
-put_node-returns-in_ok-put_two-in-Value-clause-facts t c =
-    value_put c.args.base c.args.number c.args.above.now _ _ (rw c.items.ensures at c.in_ok-put_belows.ensures) c.args.tree.now c.in-Value.text _ _
-    c.in-Value.is c.in_ok-copy-in-Value.ensures c.in_ok-put_two-in-Value.ensures
+pub put_node-returns-in_ok-put_value-in-Value-clause-facts : goal.put_node-returns-in_ok-put_value-in-Value-clause-facts
+put_node-returns-in_ok-put_value-in-Value-clause-facts t c =
+    value_put c.args.relations.now c.args.number c.args.above.now _ _ (rw c.items.ensures at c.in_ok-put_belows.ensures) c.args.tree.now c.in-Value.text _ _
+    c.in-Value.is c.as_str.ensures c.in_ok-put_value-in-Value.ensures
 
 pub put_node-returns-in-Nothing-clause-facts : goal.put_node-returns-in-Nothing-clause-facts
 put_node-returns-in-Nothing-clause-facts t c =
-    nothing_put c.args.base c.args.number c.args.above.now _ _ (rw c.items.ensures at c.in_ok-put_belows.ensures) c.args.tree.now c.in-Nothing.is
+    nothing_put c.args.relations.now c.args.number c.args.above.now _ _ (rw c.items.ensures at c.in_ok-put_belows.ensures) c.args.tree.now c.in-Nothing.is
 
 pub put_node-returns-in_ok-inner-in-Fields-clause-facts : goal.put_node-returns-in_ok-inner-in-Fields-clause-facts
 put_node-returns-in_ok-inner-in-Fields-clause-facts t c =
     on_ok_weaker c.put_fields.result
-    (fields_put c.args.base c.args.number c.args.above.now _ _ (rw c.items.ensures at c.in_ok-put_belows.ensures) c.args.tree.now c.in-Fields.fields _ _
+    (fields_put c.args.relations.now c.args.number c.args.above.now _ _ (rw c.items.ensures at c.in_ok-put_belows.ensures) c.args.tree.now c.in-Fields.fields _ _
     c.in-Fields.is c.in_ok-next.ensures) c.put_fields.ensures.facts
 
 pub put_node-returns-in_ok-inner-in-Items-clause-facts : goal.put_node-returns-in_ok-inner-in-Items-clause-facts
 put_node-returns-in_ok-inner-in-Items-clause-facts t c =
     on_ok_weaker c.put_items.result
-    (items_put c.args.base c.args.number c.args.above.now _ _ (rw c.items.ensures at c.in_ok-put_belows.ensures) c.args.tree.now c.in-Items.items _ _
+    (items_put c.args.relations.now c.args.number c.args.above.now _ _ (rw c.items.ensures at c.in_ok-put_belows.ensures) c.args.tree.now c.in-Items.items _ _
     c.in-Items.is c.in_ok-next.ensures) (rw c.items-in-Items.ensures at c.put_items.ensures.facts)
 
-pub put_node-returns-in_ok-put_two-in-Value-clause-rising : goal.put_node-returns-in_ok-put_two-in-Value-clause-rising
-put_node-returns-in_ok-put_two-in-Value-clause-rising t c = leaf_rising _ (value_inside c.args.tree.now c.in-Value.text c.in-Value.is)
+pub put_node-returns-in_ok-put_value-in-Value-clause-rising : goal.put_node-returns-in_ok-put_value-in-Value-clause-rising
+put_node-returns-in_ok-put_value-in-Value-clause-rising t c = leaf_rising _ (value_inside c.args.tree.now c.in-Value.text c.in-Value.is)
 
-pub put_node-returns-in_ok-put_two-in-Value-clause-next : goal.put_node-returns-in_ok-put_two-in-Value-clause-next
-put_node-returns-in_ok-put_two-in-Value-clause-next t c = leaf_next _ c.args.number _ (value_inside c.args.tree.now c.in-Value.text c.in-Value.is)
+pub put_node-returns-in_ok-put_value-in-Value-clause-next : goal.put_node-returns-in_ok-put_value-in-Value-clause-next
+put_node-returns-in_ok-put_value-in-Value-clause-next t c = leaf_next _ c.args.number _ (value_inside c.args.tree.now c.in-Value.text c.in-Value.is)
     c.in_ok-next.ensures
 
 pub put_node-returns-in-Nothing-clause-rising : goal.put_node-returns-in-Nothing-clause-rising

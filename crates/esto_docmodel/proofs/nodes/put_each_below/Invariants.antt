@@ -2,7 +2,7 @@ use Rattle.std.proofs.Common.{◌≡◌, ◌++◌, map, drop}
 use Rattle.esto_docmodel.specs.DocumentFacts.{flat}
 use Rattle.esto_docmodel.specs.Encodings.{belows}
 use Rattle.esto_docmodel.specs.Putting.{turned}
-use Rattle.esto_docmodel.proofs.encode.put_belows.Given as goal
+use Rattle.esto_docmodel.proofs.nodes.put_each_below.Given as goal
 
 -- the facts so far, with those of the nodes above that are left, are all of them
 abbrev pub invariant-above : goal.invariant-above

@@ -1,0 +1,173 @@
+//! The encoding of documents.
+ghost use Rattle.std.specs.Prelude.{◌≡◌, ◌≤◌, ◌+◌, suc, [], ◌∷◌, ◌++◌, map, IfOk, OnOk};
+ghost use Rattle.esto_docmodel.specs.Encodings.{facts_from, facts_of, kept, kept_of, size};
+ghost use Rattle.esto_docmodel.specs.Putting.{Encodes, turned, node_facts};
+ghost use Rattle.esto_docmodel.specs.Rising.{IsRising, AreRising};
+ghost use Rattle.esto_docmodel.specs.Shapes.{shape, row, named_row, shaped_field, documents};
+
+use crate::encode::{Encoded, LAST_BASE, after};
+use crate::kept::Kept;
+use crate::nodes::{put_belows, put_field, put_item, put_root, put_value, with_node};
+use crate::tree::{Fields, Tree};
+use esto_semantics::Facts;
+use esto_term::{List, OutOfMemory, Values};
+use std::alloc::Global;
+
+/// Puts the facts of a node and of all that stands inside it, but for how it is entered.
+#[cycle(put)]
+fn put_node(
+    alloc: Global,
+    facts: &mut Facts,
+    relations: &Kept,
+    tree: &Tree,
+    above: &Values<u64>,
+    number: u64,
+) -> Result<u64, OutOfMemory>
+    requires { relations.now.base + 4 ≤ 18446744073709551615 }
+    ensures facts { OnOk result (facts.new ≡ facts.old
+        ++ kept relations.now (node_facts (turned above.now) number (shape tree.now))) }
+    ensures rising { OnOk result (IsRising (shape tree.now).inside) }
+    ensures next { IfOk result (λ next. next ≡ suc number + size (shape tree.now).inside) }
+{
+    put_belows(alloc, facts, relations, above.items(), number)?;
+    let next = after(number)?;
+    match tree {
+        Tree::Value(text) => {
+            put_value(alloc, facts, relations, number, text.as_str())?;
+            Ok(next)
+        }
+        Tree::Nothing => Ok(next),
+        Tree::Fields(fields) => {
+            let inner = with_node(alloc, above, number)?;
+            put_fields(alloc, facts, relations, fields, above, &inner, number, next)
+        }
+        Tree::Items(items) => {
+            let inner = with_node(alloc, above, number)?;
+            put_items(
+                alloc,
+                facts,
+                relations,
+                items.items(),
+                above,
+                &inner,
+                number,
+                next,
+            )
+        }
+    }
+}
+
+/// Puts the facts of the fields of a node.
+#[cycle(put)]
+fn put_fields(
+    alloc: Global,
+    facts: &mut Facts,
+    relations: &Kept,
+    fields: &Fields,
+    above: &Values<u64>,
+    inner: &Values<u64>,
+    number: u64,
+    first: u64,
+) -> Result<u64, OutOfMemory>
+    requires base { relations.now.base + 4 ≤ 18446744073709551615 }
+    requires inside { inner.now ≡ above.now ++ number ∷ [] }
+    ensures facts { OnOk result (facts.new ≡ facts.old
+        ++ kept relations.now (facts_from (number ∷ turned above.now) first
+        (named_row (map shaped_field fields.now)))) }
+    ensures rising { OnOk result (IsRising (named_row (map shaped_field fields.now))) }
+    ensures next { IfOk result (λ next. next ≡ first + size
+        (named_row (map shaped_field fields.now))) }
+{
+    let mut next = first;
+    'fields: for field in fields.items() {
+        put_field(alloc, facts, relations, number, field.name.as_str(), next)?;
+        next = put_node(alloc, facts, relations, &field.tree, inner, next)?;
+    }
+    Ok(next)
+}
+
+/// Puts the facts of the items of a node.
+#[cycle(put)]
+fn put_items(
+    alloc: Global,
+    facts: &mut Facts,
+    relations: &Kept,
+    items: &[Tree],
+    above: &Values<u64>,
+    inner: &Values<u64>,
+    number: u64,
+    first: u64,
+) -> Result<u64, OutOfMemory>
+    requires base { relations.now.base + 4 ≤ 18446744073709551615 }
+    requires inside { inner.now ≡ above.now ++ number ∷ [] }
+    ensures facts { OnOk result (facts.new ≡ facts.old
+        ++ kept relations.now (facts_from (number ∷ turned above.now) first
+        (row (map shape items.now)))) }
+    ensures rising { OnOk result (IsRising (row (map shape items.now))) }
+    ensures next { IfOk result (λ next. next ≡ first + size (row (map shape items.now))) }
+{
+    let mut next = first;
+    'items: for item in items {
+        put_item(alloc, facts, relations, number, next)?;
+        next = put_node(alloc, facts, relations, item, inner, next)?;
+    }
+    Ok(next)
+}
+
+/// Puts the facts of a document, and answers the first number that is not used.
+fn put_document(
+    alloc: Global,
+    facts: &mut Facts,
+    relations: &Kept,
+    tree: &Tree,
+    first: u64,
+) -> Result<u64, OutOfMemory>
+    requires { relations.now.base + 4 ≤ 18446744073709551615 }
+    ensures facts { OnOk result
+        (facts.new ≡ facts.old ++ kept_of relations.now first (documents (tree.now ∷ []))) }
+    ensures rising { OnOk result (AreRising (tree.now ∷ [])) }
+    ensures next { IfOk result (λ next. next ≡ first + size (documents (tree.now ∷ []))) }
+{
+    let above = Values::new(alloc);
+    put_root(alloc, facts, relations, first)?;
+    put_node(alloc, facts, relations, tree, &above, first)
+}
+
+/// Puts the facts of a document after those that are there, of the relations that are kept: root, field, item, value and
+/// below, from the base on. Nodes are numbered in preorder from `next` on, fields and items in order, and `next` then is
+/// the first number that is not used. The facts of a node follow one another: how it is entered, what it stands below from
+/// the document down, and what it holds. OutOfMemory comes too where a relation or a node has no number of 64 bits.
+pub fn encode_document(
+    alloc: Global,
+    encoded: &mut Encoded,
+    relations: &Kept,
+    tree: &Tree,
+) -> Result<(), OutOfMemory>
+    ensures { OnOk result (Encodes relations.now (tree.now ∷ []) encoded.old encoded.new) }
+{
+    if relations.base > LAST_BASE {
+        return Err(OutOfMemory);
+    }
+    encoded.next = put_document(alloc, &mut encoded.facts, relations, tree, encoded.next)?;
+    Ok(())
+}
+
+/// All five relations, from 0 on.
+const EVERY: Kept = Kept {
+    base: 0,
+    root: true,
+    field: true,
+    item: true,
+    value: true,
+    below: true,
+};
+
+/// The facts of a document, with numbers and relations from 0 on.
+pub fn document_facts(alloc: Global, tree: &Tree) -> Result<Facts, OutOfMemory>
+    ensures facts { IfOk result (λ it. it ≡ facts_of 0 0 (documents (tree.now ∷ []))) }
+    ensures rising { OnOk result (AreRising (tree.now ∷ [])) }
+{
+    let mut facts = List::new(alloc);
+    put_document(alloc, &mut facts, &EVERY, tree, 0)?;
+    Ok(facts)
+}

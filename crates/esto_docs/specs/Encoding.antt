@@ -1,0 +1,36 @@
+-- The facts of the documents of a JSON file.
+use Rattle.std.specs.Prelude.{◌≡◌, ◌+◌, ℕ, false, true, List, Option, Some, None, Result, Ok, Err}
+use Rattle.esto_docmodel.specs.Encodings.{kept_of, size}
+use Rattle.esto_docmodel.specs.Putting.{Encodes}
+use Rattle.esto_docmodel.specs.Rising.{AreRising}
+use Rattle.esto_docmodel.specs.Shapes.{documents}
+use Rattle.esto_docmodel.specs.declared.encode.Encoded.{Encoded}
+use Rattle.esto_docmodel.specs.declared.kept.Kept.{Kept}
+use Rattle.esto_docmodel.specs.declared.tree.Tree.{Tree}
+use Rattle.esto_ports.specs.declared.file_fault.FileFault.{FileFault}
+use Rattle.esto_ports.specs.declared.file_fault.FileError.{FileError}
+use Rattle.esto_ports.specs.declared.file_fault.FileError.TheVariants.{Fault, OutOfMemory}
+use Rattle.esto_docs.specs.Files.{is_bad, trees_of_line}
+use Rattle.esto_docs.specs.declared.parse.ParseError.{ParseError}
+use Rattle.esto_docs.specs.declared.parse.ParseError.TheVariants as parse
+
+-- They are the facts of these documents, of the relations that are kept, whose nodes are numbered from `first` on, and the first number that is no node's. The
+-- names of the documents' fields rise.
+pub record AreEncoded (relations : Kept) (first : ℕ) (trees : List Tree) (encoded : Encoded) : Type 0 where
+  pub facts : encoded.facts ≡ kept_of relations first (documents trees)
+  pub next : encoded.next ≡ first + size (documents trees)
+  pub rising : AreRising trees
+
+-- There is no fault, and these are the facts of the documents; or it is the first fault, and there is one; or memory is wanting.
+abbrev pub GivesEncoded : Kept → ℕ → List Tree → Option FileFault → Result Encoded FileError → Type 0
+GivesEncoded relations first trees fault (Ok encoded) = (fault ≡ None) × AreEncoded relations first trees encoded
+GivesEncoded relations first trees fault (Err (Fault found)) = fault ≡ Some found
+GivesEncoded relations first trees fault (Err OutOfMemory) = Unit {0}
+
+-- ---- for private clauses
+
+-- The facts of the line's documents are put to those that were there, or the line is bad; or memory is wanting.
+abbrev pub EncodesLine : Kept → List ℕ → Encoded → Encoded → Result (Unit {0}) ParseError → Type 0
+EncodesLine relations line old new (Ok _) = (is_bad line ≡ false) × Encodes relations (trees_of_line line) old new
+EncodesLine relations line old new (Err parse.BadJson) = is_bad line ≡ true
+EncodesLine relations line old new (Err parse.OutOfMemory) = Unit {0}
