@@ -16,11 +16,21 @@ fn constant(alloc: Global, cell: &Text) -> Result<Term, OutOfMemory>
     Ok(Term::Const(cell.copy(alloc)?))
 }
 
+/// An empty row, with room for so many terms.
+fn row_with_room(alloc: Global, terms: usize) -> Result<Terms, OutOfMemory>
+    ensures { IfOk result (λ it. it ≡ []) }
+{
+    match Vec::with_capacity(alloc, terms) {
+        Ok(terms) => Ok(List::from_vec(terms)),
+        Err(_) => Err(OutOfMemory),
+    }
+}
+
 /// The constants of the cells, in order.
 pub fn constants(alloc: Global, cells: &[Text]) -> Result<Terms, OutOfMemory>
     ensures { IfOk result (λ it. it ≡ map Const cells.now) }
 {
-    let mut terms = List::new(alloc);
+    let mut terms = row_with_room(alloc, cells.len())?;
     'cells: for cell in cells {
         terms.push(constant(alloc, cell)?)?;
     }
@@ -36,11 +46,11 @@ fn fact_of(alloc: Global, relation: usize, row: &TextRow) -> Result<Atom, OutOfM
 }
 
 /// Puts the fact of the row, unless the row was seen.
-fn put_row(
+fn put_row<'a>(
     alloc: Global,
     relation: usize,
-    row: &TextRow,
-    seen: &mut Seen,
+    row: &'a TextRow,
+    seen: &mut Seen<'a>,
     facts: &mut Facts,
 ) -> Result<(), OutOfMemory>
     requires { facts.old ≡ map (row_fact relation) seen.old }

@@ -7,47 +7,39 @@ use indexmap::IndexSet;
 use std::alloc::Global;
 use std::marker::Model;
 
-/// Rows that were seen, each once, which contracts see as their list, in order of first occurrence.
+/// Rows that were seen, each once, whose cells are lent, not copied; contracts see their list, in order of first
+/// occurrence.
 #[derive(Drop)]
-pub struct Seen {
-    rows: IndexSet<Vec<Vec<u8>>>,
+pub struct Seen<'a> {
+    rows: IndexSet<Vec<&'a str>>,
 }
 
-impl Model for Seen {
+impl<'a> Model for Seen<'a> {
     ghost use Rattle.std.specs.Prelude.{List, ℕ, map};
 
     ghost Value = { List (List (List ℕ)) };
 
-    ghost view = { λ it. map (λ row. map (λ cell. cell.items) row.items) it.rows.keys };
+    ghost view = { λ it. map (λ row. map (λ cell. cell.now) row.items) it.rows.keys };
 }
 
-/// A copy of the cell's bytes.
-fn bytes_of(alloc: Global, cell: &Text) -> Result<Vec<u8>, OutOfMemory>
-    ensures { IfOk result (λ it. it.items ≡ cell.now) }
+/// The cells, lent.
+fn lent<'a>(alloc: Global, cells: &'a [Text]) -> Result<Vec<&'a str>, OutOfMemory>
+    ensures { IfOk result (λ it. map (λ cell. cell.now) it.items ≡ cells.now) }
 {
-    match Vec::from_slice(alloc, cell.bytes()) {
-        Ok(bytes) => Ok(bytes),
-        Err(_) => Err(OutOfMemory),
-    }
-}
-
-/// A copy of the cells' bytes.
-fn cells_of(alloc: Global, cells: &[Text]) -> Result<Vec<Vec<u8>>, OutOfMemory>
-    ensures { IfOk result (λ it. map (λ cell. cell.items) it.items ≡ cells.now) }
-{
-    let mut copied = Vec::new(alloc);
+    let Ok(mut row) = Vec::with_capacity(alloc, cells.len()) else {
+        return Err(OutOfMemory);
+    };
     'cells: for cell in cells {
-        let bytes = bytes_of(alloc, cell)?;
-        let Ok(()) = copied.push(bytes) else {
+        let Ok(()) = row.push(cell.as_str()) else {
             return Err(OutOfMemory);
         };
     }
-    Ok(copied)
+    Ok(row)
 }
 
-impl Seen {
+impl<'a> Seen<'a> {
     /// No rows, which take no memory.
-    pub fn new(alloc: Global) -> Seen
+    pub fn new(alloc: Global) -> Seen<'a>
         ensures { result ≡ [] }
     {
         Seen {
@@ -56,10 +48,10 @@ impl Seen {
     }
 
     /// Adds a row, unless it is there, and answers whether it was added.
-    pub fn add(&mut self, alloc: Global, row: &TextRow) -> Result<bool, OutOfMemory>
+    pub fn add(&mut self, alloc: Global, row: &'a TextRow) -> Result<bool, OutOfMemory>
         ensures { IfOk result (λ is_new. IsAdded self.old self.new row.now is_new) }
     {
-        let cells = cells_of(alloc, row.items())?;
+        let cells = lent(alloc, row.items())?;
         let Ok((_, is_new)) = self.rows.insert_full(cells) else {
             return Err(OutOfMemory);
         };
