@@ -11,15 +11,15 @@ use Rattle.esto_course.specs.Course.{Course, IsQuiet, Stops, judges, demands, gi
 use Rattle.esto_course.specs.Course.Stops.{refused}
 use Rattle.esto_course.proofs.Asking.{first_way_asks, quiet_demands, quiet_judges, quiet_then}
 use Rattle.esto_course.proofs.Steps.{Leads, first_stops, then_stops, then_goes, gives_goes, caused_more, each_next, each_stops, each_goes}
-use Rattle.esto_fill.specs.Files.{FindsFault, IsLoadedFrom, dataset_fault}
-use Rattle.esto_fill.specs.Laws.{LoadedAreFlat}
+use Rattle.esto_fill.specs.Files.{AreFactsFrom, FindsFault, IsLoadedFrom, dataset_fault}
+use Rattle.esto_fill.proofs.FileLemmas.{facts_flat}
 use Rattle.esto_fill.specs.declared.datasets.DatasetBytes.{DatasetBytes}
 use Rattle.esto_fill.specs.declared.loaded.Loaded.{Loaded}
+use Rattle.esto_fill.specs.declared.wanted.Wanted.{Wanted}
 use Rattle.esto_ports.specs.Files.{Files}
 use Rattle.esto_ports.specs.declared.file_fault.FileError.{FileError}
 use Rattle.esto_ports.specs.declared.file_fault.FileError.TheVariants.{Fault}
 use Rattle.esto_ports.specs.declared.file_fault.FileFault.{FileFault}
-use Rattle.esto_semantics.specs.Maps.{AreFlat}
 use Rattle.esto_semantics.specs.declared.fact.Fact.{Fact}
 use Rattle.esto_term.proofs.ListLemmas.{Contains-cases, Contains-head, Contains-nil}
 use Rattle.esto_term.proofs.PlaceLemmas.{item_at}
@@ -66,12 +66,12 @@ own_name datasets number dataset own at is = ap (λ (it : Dataset). it.name) (sa
 
 -- ---- one file
 
-module _ (files : Option Files) (datasets : List Dataset) (number : ℕ) (source : Source) (at : IsSourceAt datasets number source) where
+module _ (files : Option Files) (datasets : List Dataset) (wanted : Wanted) (number : ℕ) (source : Source) (at : IsSourceAt datasets number source) where
   -- an error that `?` hands on where the file is not fetched
   pub load_exit : {rose : Type 0} {before after : Option (List (List ℕ))} (old : Loaded) (error : Status) (result : Result Loaded Status)
       → IsErrAnd result (λ handed. handed ≡ error) → Stops IsWant (IsCaused rose) (fetches files source.file DATASET_LIMIT) error
       → AsksIn before after (fetches files source.file DATASET_LIMIT) (Err error)
-      → LoadsNext files datasets number old rose before after result
+      → LoadsNext files datasets wanted number old rose before after result
   load_exit old error (Ok _) handed stops asks = absurd handed
   load_exit old error (Err handed_on) handed stops asks = rw handed (
     unfetched_stops (IsSourceAt datasets number) (λ it. it.file) DATASET_LIMIT (λ it. reads_data it.dataset) files source at stops,
@@ -81,8 +81,8 @@ module _ (files : Option Files) (datasets : List Dataset) (number : ℕ) (source
   module _ (bytes : List ℕ) (fetched : (fetches files source.file DATASET_LIMIT).goes bytes) (before after : Option (List (List ℕ)))
       (asked : AsksIn before after (fetches files source.file DATASET_LIMIT) (Ok bytes)) where
     -- it is fetched, and its content read
-    pub loads_next_by : (old : Loaded) (rose : Type 0) (result : Result Loaded Status) → ReadsData datasets number source.dataset bytes old result
-        → LoadsNext files datasets number old rose before after result
+    pub loads_next_by : (old : Loaded) (rose : Type 0) (result : Result Loaded Status) → ReadsData datasets wanted number source.dataset bytes old result
+        → LoadsNext files datasets wanted number old rose before after result
     loads_next_by old rose (Ok new) (good, more) = (
       bytes,
       opened_goes (IsSourceAt datasets number) (λ it. it.file) DATASET_LIMIT (λ it. reads_data it.dataset) files source at bytes fetched good,
@@ -103,23 +103,23 @@ abbrev with_file : List DatasetBytes → ℕ → List ℕ → List DatasetBytes
 with_file contents number bytes = contents ++ record { dataset = number; bytes = bytes } ∷ []
 
 -- after the files of the first numbers, so many: these, with which the course goes on, their facts, and the names that came to those that were asked for
-pub record SoFarLoaded (files : Option Files) (datasets : List Dataset) (numbers : List ℕ) (before : Option (List (List ℕ))) (index : ℕ) (loaded : Loaded)
+pub record SoFarLoaded (files : Option Files) (datasets : List Dataset) (wanted : Wanted) (numbers : List ℕ) (before : Option (List (List ℕ))) (index : ℕ) (loaded : Loaded)
     (now : Option (List (List ℕ))) : Type 0 where
   pub contents : List DatasetBytes
   pub along : IsAlong (loads_next files datasets) numbers (loads_files files datasets numbers) before index contents now
-  pub are : IsLoadedFrom datasets contents loaded
+  pub are : IsLoadedFrom datasets wanted contents loaded
 
-module _ (files : Option Files) (datasets : List Dataset) (numbers : List ℕ) (before : Option (List (List ℕ))) where
-  pub loading_starts : (loaded : Loaded) → loaded.facts ≡ [] → loaded.next ≡ 0 → SoFarLoaded files datasets numbers before 0 loaded before
+module _ (files : Option Files) (datasets : List Dataset) (wanted : Wanted) (numbers : List ℕ) (before : Option (List (List ℕ))) where
+  pub loading_starts : (loaded : Loaded) → loaded.facts ≡ [] → loaded.next ≡ 0 → SoFarLoaded files datasets wanted numbers before 0 loaded before
   loading_starts loaded facts next =
-      record { contents = []; along = along_starts (loads_next files datasets) numbers [] before; are = (facts, next) }
+      record { contents = []; along = along_starts (loads_next files datasets) numbers [] before; are = ([], (refl, next), facts) }
 
-  module _ (index : ℕ) (loaded : Loaded) (now : Option (List (List ℕ))) (so_far : SoFarLoaded files datasets numbers before index loaded now) where
+  module _ (index : ℕ) (loaded : Loaded) (now : Option (List (List ℕ))) (so_far : SoFarLoaded files datasets wanted numbers before index loaded now) where
     module _ (number : ℕ) (below : index < length numbers) (is : number ≡ get_or numbers index number) where
       -- one file more
-      pub loading_goes : (next : Loaded) (bytes : List ℕ) → (opens_dataset files datasets number).goes bytes → LoadsMore datasets number bytes loaded next
+      pub loading_goes : (next : Loaded) (bytes : List ℕ) → (opens_dataset files datasets number).goes bytes → LoadsMore datasets wanted number bytes loaded next
           → (later : Option (List (List ℕ))) → AsksIn now later (opens_dataset files datasets number) (Ok bytes)
-          → SoFarLoaded files datasets numbers before (index + 1) next later
+          → SoFarLoaded files datasets wanted numbers before (index + 1) next later
       loading_goes next bytes goes more later asked = record {
         contents = with_file so_far.contents number bytes;
         along = along_goes (loads_next files datasets) numbers (loads_files files datasets numbers) before index so_far.contents now so_far.along number below
@@ -143,7 +143,7 @@ module _ (files : Option Files) (datasets : List Dataset) (numbers : List ℕ) (
           (exit_asks (opens_dataset files datasets number) (λ it. gives (with_file so_far.contents number it)) asked)
 
     -- no file is left
-    pub loading_ends : length numbers ≤ index → (rose : Type 0) → LoadsFiles files datasets numbers rose before now (Ok loaded)
+    pub loading_ends : length numbers ≤ index → (rose : Type 0) → LoadsFiles files datasets wanted numbers rose before now (Ok loaded)
     loading_ends le rose = (
       so_far.contents,
       along_ends (loads_next files datasets) numbers (loads_files files datasets numbers) before index so_far.contents now so_far.along le,
@@ -152,12 +152,12 @@ module _ (files : Option Files) (datasets : List Dataset) (numbers : List ℕ) (
     )
 
 -- the error of one file that `?` hands on
-pub loading_exit : {rose : Type 0} {before after : Option (List (List ℕ))} (files : Option Files) (datasets : List Dataset) (numbers : List ℕ) (error : Status)
+pub loading_exit : {rose : Type 0} {before after : Option (List (List ℕ))} (files : Option Files) (datasets : List Dataset) (wanted : Wanted) (numbers : List ℕ) (error : Status)
     (result : Result Loaded Status) → IsErrAnd result (λ handed. handed ≡ error) → Stops IsWant (IsCaused rose) (loads_files files datasets numbers) error
     → AsksIn before after (loads_files files datasets numbers) (Err error)
-    → LoadsFiles files datasets numbers rose before after result
-loading_exit files datasets numbers error (Ok _) handed stops asks = absurd handed
-loading_exit files datasets numbers error (Err handed_on) handed stops asks = rw handed (stops, asks)
+    → LoadsFiles files datasets wanted numbers rose before after result
+loading_exit files datasets wanted numbers error (Ok _) handed stops asks = absurd handed
+loading_exit files datasets wanted numbers error (Err handed_on) handed stops asks = rw handed (stops, asks)
 
 -- ---- that each has a file
 
@@ -220,20 +220,21 @@ demands_quiet datasets numbers = quiet_each (demands_file datasets)
     (λ place given number. quiet_then (judges (λ dataset. slice_get datasets number ≡ Some dataset) (λ _. ⊥)) _ (quiet_judges _ _)
     (λ dataset. quiet_demands (IsSome dataset.file) (NoData dataset.name))) 0 tt numbers
 
-facts_go : (datasets : List Dataset) (contents : List DatasetBytes) (loaded : Loaded) → IsLoadedFrom datasets contents loaded → AreFlat loaded.facts
-    → (judges {E = Status} (AreFactsOfFiles datasets contents) (λ _. ⊥)).goes loaded.facts
+facts_go : (datasets : List Dataset) (contents : List DatasetBytes) (facts : List (Fact Term)) (next : ℕ) → AreFactsFrom datasets 0 contents facts next
+    → (judges {E = Status} (AreFactsOfFiles datasets contents) (λ _. ⊥)).goes facts
 unfolding judges
-facts_go datasets contents loaded are flat = record { next = loaded.next; are = are; flat = flat }
+facts_go datasets contents facts next are = record { next = next; are = are; flat = facts_flat datasets 0 contents facts next are }
 
 -- ---- all together
 
-module _ (files : Option Files) (datasets : List Dataset) (Needs : Dataset → Type 0) (numbers : List ℕ) (needed : AreNeeded datasets Needs numbers) where
+module _ (files : Option Files) (datasets : List Dataset) (Needs : Dataset → Type 0) (wanted : Wanted) (numbers : List ℕ)
+    (needed : AreNeeded datasets Needs numbers) where
   pub needed_there : (number : ℕ) → Contains numbers number → number < length datasets
   needed_there number inside = let found = (needed.exact number).0 inside in slice_get_within datasets number found.0 found.1
 
   -- a dataset has no file
   pub demand_exit : (rose : Type 0) (error : Status) (result : Result Loaded Status) → IsErrAnd result (λ handed. handed ≡ error)
-      → Stops IsWant (IsCaused ⊥) (demands_files datasets numbers) error → Loads (loads files datasets Needs) rose result
+      → Stops IsWant (IsCaused ⊥) (demands_files datasets numbers) error → Loads wanted (loads files datasets Needs) rose result
   unfolding judges
   demand_exit rose error (Ok _) handed stops = absurd handed
   demand_exit rose error (Err handed_on) handed stops =
@@ -241,15 +242,18 @@ module _ (files : Option Files) (datasets : List Dataset) (Needs : Dataset → T
       (first_stops _ _ (caused_more _ error (caused_weaker (λ none. absurd none)) stops)))
 
   -- all have one, and the files are opened
-  pub loads_by : LoadedAreFlat → (demands_files datasets numbers).goes tt → (rose : Type 0) (before after : Option (List (List ℕ)))
-      (result : Result Loaded Status) → LoadsFiles files datasets numbers rose before after result
-      → Loads (loads files datasets Needs) rose result
+  pub loads_by : (demands_files datasets numbers).goes tt → (rose : Type 0) (before after : Option (List (List ℕ)))
+      (result : Result Loaded Status) → LoadsFiles files datasets wanted numbers rose before after result
+      → Loads wanted (loads files datasets Needs) rose result
   unfolding judges
-  loads_by flat have rose before after (Ok loaded) (contents, goes, are, asked) =
-      then_goes (judges (AreNeeded datasets Needs) (λ _. ⊥)) _ numbers loaded.facts needed
-      (then_goes (demands_files datasets numbers) _ tt loaded.facts have
-      (then_goes (loads_files files datasets numbers) _ contents loaded.facts goes (record { next = loaded.next; are = are; flat = flat loaded })))
-  loads_by flat have rose before after (Err refusal) (stops, asked) =
+  loads_by have rose before after (Ok loaded) (contents, goes, (facts, are, some), asked) = (
+    facts,
+    then_goes (judges (AreNeeded datasets Needs) (λ _. ⊥)) _ numbers facts needed
+        (then_goes (demands_files datasets numbers) _ tt facts have
+        (then_goes (loads_files files datasets numbers) _ contents facts goes (facts_go datasets contents facts loaded.next are))),
+    some,
+  )
+  loads_by have rose before after (Err refusal) (stops, asked) =
       then_stops (judges (AreNeeded datasets Needs) (λ _. ⊥)) _ numbers needed
       (then_stops (demands_files datasets numbers) _ tt have (first_stops _ _ stops))
 
@@ -277,28 +281,31 @@ module _ (files : Option Files) (datasets : List Dataset) (Needs : Dataset → T
   -- what is asked for where a dataset has no file, and where all have one
   pub demand_exit_asks : (told : Option (List (List ℕ))) (error : Status) (result : Result Loaded Status) → IsErrAnd result (λ handed. handed ≡ error)
       → Stops IsWant (IsCaused ⊥) (demands_files datasets numbers) error
-      → LoadsAsking told told (loads files datasets Needs) result
+      → LoadsAsking told told wanted (loads files datasets Needs) result
   demand_exit_asks told error (Ok _) handed stops = absurd handed
   demand_exit_asks told error (Err handed_on) handed stops =
       rw handed (found_asks (exit_asks (demands_files datasets numbers) then_loads
       (quiet_asks (demands_files datasets numbers) told (Err error) (demands_quiet datasets numbers) stops)))
 
-  pub loads_by_asks : LoadedAreFlat → (demands_files datasets numbers).goes tt → (rose : Type 0) (before after : Option (List (List ℕ)))
-      (result : Result Loaded Status) → LoadsFiles files datasets numbers rose before after result
-      → LoadsAsking before after (loads files datasets Needs) result
-  loads_by_asks flat have rose before after (Ok loaded) (contents, goes, are, asked) =
-      have_asks have (later_asks (loads_files files datasets numbers) (λ it. judges (AreFactsOfFiles datasets it) (λ _. ⊥)) asked
-      (quiet_asks (judges (AreFactsOfFiles datasets contents) (λ _. ⊥)) after (Ok loaded.facts) (quiet_judges _ _)
-      (facts_go datasets contents loaded are (flat loaded))))
-  loads_by_asks flat have rose before after (Err refusal) (stops, asked) =
+  pub loads_by_asks : (demands_files datasets numbers).goes tt → (rose : Type 0) (before after : Option (List (List ℕ)))
+      (result : Result Loaded Status) → LoadsFiles files datasets wanted numbers rose before after result
+      → LoadsAsking before after wanted (loads files datasets Needs) result
+  loads_by_asks have rose before after (Ok loaded) (contents, goes, (facts, are, some), asked) = (
+    facts,
+    have_asks have (later_asks (loads_files files datasets numbers) (λ it. judges (AreFactsOfFiles datasets it) (λ _. ⊥)) asked
+        (quiet_asks (judges (AreFactsOfFiles datasets contents) (λ _. ⊥)) after (Ok facts) (quiet_judges _ _)
+        (facts_go datasets contents facts loaded.next are))),
+    some,
+  )
+  loads_by_asks have rose before after (Err refusal) (stops, asked) =
       have_asks have (exit_asks (loads_files files datasets numbers) (λ it. judges (AreFactsOfFiles datasets it) (λ _. ⊥)) asked)
 
 -- want of memory, before anything is asked for
-pub wanting_asks : (files : Option Files) (datasets : List Dataset) (Needs : Dataset → Type 0) (told : Option (List (List ℕ))) (result : Result Loaded Status)
+pub wanting_asks : (files : Option Files) (datasets : List Dataset) (Needs : Dataset → Type 0) (wanted : Wanted) (told : Option (List (List ℕ))) (result : Result Loaded Status)
     → IsErrAnd result (λ handed. handed ≡ OutOfMemory)
-    → LoadsAsking told told (loads files datasets Needs) result
-wanting_asks files datasets Needs told (Ok _) handed = absurd handed
-wanting_asks files datasets Needs told (Err handed_on) handed =
+    → LoadsAsking told told wanted (loads files datasets Needs) result
+wanting_asks files datasets Needs wanted told (Ok _) handed = absurd handed
+wanting_asks files datasets Needs wanted told (Err handed_on) handed =
     rw handed (early_want (loads files datasets Needs) told (first_way_asks (judges (AreNeeded datasets Needs) (λ _. ⊥)) _ [] (quiet_judges _ _).underway))
 
 -- ---- which are needed

@@ -1,5 +1,6 @@
 pub mod StepLemmas
 pub mod DatasetLemmas
+pub mod WantedLemmas
 pub mod RowLemmas
 pub mod FindLemmas
 pub mod AlikeLemmas

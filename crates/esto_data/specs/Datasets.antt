@@ -1,12 +1,17 @@
 -- The files of the datasets that a command needs, as steps: each of the datasets has a file; then each file is fetched, and its content read, before the next
 -- is fetched.
-use Rattle.std.specs.Prelude.{◌≡◌, ◌↔◌, ◌⊎◌, ℕ, ◌+◌, ◌<◌, ◌≤◌, List, [], ◌∷◌, ◌++◌, slice_get, AllPairs, Contains, Option, Some, None, IsSome, Result, Ok, Err}
+use Rattle.std.specs.Prelude.{◌≡◌, ◌↔◌, ◌⊎◌, ℕ, ◌+◌, ◌<◌, ◌≤◌, List, [], ◌∷◌, ◌++◌, flat_map, slice_get, AllPairs, Contains, Option, Some, None, IsSome, Result, Ok, Err}
 use Rattle.esto_catalog.specs.Datasets.{relation_count}
 use Rattle.esto_catalog.specs.declared.dataset.Dataset.{Dataset}
 use Rattle.esto_course.specs.Course.{Course, Stops, judges, demands, gives, and_then, each}
 use Rattle.esto_fill.specs.Files.{AreFactsFrom, IsLoadedFrom, dataset_fault}
 use Rattle.esto_fill.specs.declared.datasets.DatasetBytes.{DatasetBytes}
+use Rattle.esto_fill.specs.Wanted.{relations_in, wanted_facts}
 use Rattle.esto_fill.specs.declared.loaded.Loaded.{Loaded}
+use Rattle.esto_fill.specs.declared.wanted.Wanted.{Wanted}
+use Rattle.esto_fill.specs.declared.wanted.Wanted.TheVariants.{Named}
+use Rattle.esto_query.specs.Making.{query_of}
+use Rattle.esto_query.specs.declared.query.Query.{Query}
 use Rattle.esto_ports.specs.Files.{Files}
 use Rattle.esto_ports.specs.declared.file_fault.FileFault.{FileFault}
 use Rattle.esto_semantics.specs.Maps.{AreFlat}
@@ -104,45 +109,50 @@ loads files datasets Needs =
 
 -- ---- what functions answer
 
+-- The relations that the queries name are wanted.
+abbrev pub named_by : List Query → Wanted
+named_by queries = Named (flat_map (λ query. relations_in (query_of query).body) queries)
+
 -- The number has come at the end, where its dataset is needed.
 abbrev pub AddsNeeded : Type 0 → ℕ → List ℕ → List ℕ → Type 0
 AddsNeeded Needed number old new = (Needed × (new ≡ old ++ number ∷ [])) ⊎ (¬ Needed × (new ≡ old))
 
--- The facts that are loaded are some with which the course goes on; or it stops.
-abbrev pub Loads : Course Status (List (Fact Term)) → Type 0 → Result Loaded Status → Type 0
-Loads course rose (Ok loaded) = course.goes loaded.facts
-Loads course rose (Err refusal) = Stops IsWant (IsCaused rose) course refusal
+-- What is loaded are, of facts with which the course goes on, those of the relations that are wanted; or it stops.
+abbrev pub Loads : Wanted → Course Status (List (Fact Term)) → Type 0 → Result Loaded Status → Type 0
+Loads wanted course rose (Ok loaded) = (facts : List (Fact Term)) × course.goes facts × (loaded.facts ≡ wanted_facts wanted facts)
+Loads wanted course rose (Err refusal) = Stops IsWant (IsCaused rose) course refusal
 
--- To the names that were asked for came those for which the course asked, up to the facts that are loaded or to its stop.
-abbrev pub LoadsAsking : Option (List (List ℕ)) → Option (List (List ℕ)) → Course Status (List (Fact Term)) → Result Loaded Status → Type 0
-LoadsAsking before after course (Ok loaded) = AsksIn before after course (Ok loaded.facts)
-LoadsAsking before after course (Err refusal) = AsksIn before after course (Err refusal)
+-- To the names that were asked for came those for which the course asked, up to the facts of which some are loaded or to its stop.
+abbrev pub LoadsAsking : Option (List (List ℕ)) → Option (List (List ℕ)) → Wanted → Course Status (List (Fact Term)) → Result Loaded Status → Type 0
+LoadsAsking before after wanted course (Ok loaded) =
+    (facts : List (Fact Term)) × AsksIn before after course (Ok facts) × (loaded.facts ≡ wanted_facts wanted facts)
+LoadsAsking before after wanted course (Err refusal) = AsksIn before after course (Err refusal)
 
--- After what was loaded come the facts of the file of the dataset of the number, with these bytes.
-abbrev pub LoadsMore : List Dataset → ℕ → List ℕ → Loaded → Loaded → Type 0
-LoadsMore datasets number bytes old new =
-    (contents : List DatasetBytes) → IsLoadedFrom datasets contents old
-    → IsLoadedFrom datasets (contents ++ record { dataset = number; bytes = bytes } ∷ []) new
+-- After what was loaded come the facts of the file of the dataset of the number, with these bytes, of the relations that are wanted.
+abbrev pub LoadsMore : List Dataset → Wanted → ℕ → List ℕ → Loaded → Loaded → Type 0
+LoadsMore datasets wanted number bytes old new =
+    (contents : List DatasetBytes) → IsLoadedFrom datasets wanted contents old
+    → IsLoadedFrom datasets wanted (contents ++ record { dataset = number; bytes = bytes } ∷ []) new
 
 -- The content of the dataset's file has no fault, and its facts come after what was loaded; or the course stops.
-abbrev pub ReadsData : List Dataset → ℕ → Dataset → List ℕ → Loaded → Result Loaded Status → Type 0
-ReadsData datasets number dataset bytes old (Ok new) = (reads_data dataset bytes).goes tt × LoadsMore datasets number bytes old new
-ReadsData datasets number dataset bytes old (Err refusal) = Stops IsWant (IsCaused ⊥) (reads_data dataset bytes) refusal
+abbrev pub ReadsData : List Dataset → Wanted → ℕ → Dataset → List ℕ → Loaded → Result Loaded Status → Type 0
+ReadsData datasets wanted number dataset bytes old (Ok new) = (reads_data dataset bytes).goes tt × LoadsMore datasets wanted number bytes old new
+ReadsData datasets wanted number dataset bytes old (Err refusal) = Stops IsWant (IsCaused ⊥) (reads_data dataset bytes) refusal
 
 -- The file of the dataset of the number was opened, and its facts come after what was loaded; or the course stops. To the names that were asked for came those
 -- for which it asked.
-abbrev pub LoadsNext : Option Files → List Dataset → ℕ → Loaded → Type 0 → Option (List (List ℕ)) → Option (List (List ℕ)) → Result Loaded Status → Type 0
-LoadsNext files datasets number old rose before after (Ok new) =
-    (bytes : List ℕ) × (opens_dataset files datasets number).goes bytes × LoadsMore datasets number bytes old new
+abbrev pub LoadsNext : Option Files → List Dataset → Wanted → ℕ → Loaded → Type 0 → Option (List (List ℕ)) → Option (List (List ℕ)) → Result Loaded Status → Type 0
+LoadsNext files datasets wanted number old rose before after (Ok new) =
+    (bytes : List ℕ) × (opens_dataset files datasets number).goes bytes × LoadsMore datasets wanted number bytes old new
     × AsksIn before after (opens_dataset files datasets number) (Ok bytes)
-LoadsNext files datasets number old rose before after (Err refusal) =
+LoadsNext files datasets wanted number old rose before after (Err refusal) =
     Stops IsWant (IsCaused rose) (opens_dataset files datasets number) refusal × AsksIn before after (opens_dataset files datasets number) (Err refusal)
 
 -- The facts that are loaded are those of the files, all of which were opened; or the course stops. To the names that were asked for came those for which it
 -- asked.
-abbrev pub LoadsFiles : Option Files → List Dataset → List ℕ → Type 0 → Option (List (List ℕ)) → Option (List (List ℕ)) → Result Loaded Status → Type 0
-LoadsFiles files datasets numbers rose before after (Ok loaded) =
-    (contents : List DatasetBytes) × (loads_files files datasets numbers).goes contents × IsLoadedFrom datasets contents loaded
+abbrev pub LoadsFiles : Option Files → List Dataset → Wanted → List ℕ → Type 0 → Option (List (List ℕ)) → Option (List (List ℕ)) → Result Loaded Status → Type 0
+LoadsFiles files datasets wanted numbers rose before after (Ok loaded) =
+    (contents : List DatasetBytes) × (loads_files files datasets numbers).goes contents × IsLoadedFrom datasets wanted contents loaded
     × AsksIn before after (loads_files files datasets numbers) (Ok contents)
-LoadsFiles files datasets numbers rose before after (Err refusal) =
+LoadsFiles files datasets wanted numbers rose before after (Err refusal) =
     Stops IsWant (IsCaused rose) (loads_files files datasets numbers) refusal × AsksIn before after (loads_files files datasets numbers) (Err refusal)

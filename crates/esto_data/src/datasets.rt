@@ -5,10 +5,12 @@ ghost use Rattle.esto_catalog.specs.declared.dataset.Dataset.{Dataset};
 ghost use Rattle.esto_ports.specs.Faults.{Rises};
 ghost use Rattle.esto_opening.specs.Answers.{Answers};
 ghost use Rattle.esto_data.specs.Datasets.{AddsNeeded, AreNeeded, IsAny, HasRelation, IsSourceAt, Loads, LoadsAsking, LoadsFiles, LoadsNext, Names, ReadsData};
+ghost use Rattle.esto_fill.specs.Wanted.{relations_in};
+ghost use Rattle.esto_fill.specs.declared.wanted.Wanted.TheVariants.{Every, Named};
 ghost use Rattle.esto_data.specs.Datasets.{Source, demands_file, demands_files, loads};
 
 use esto_catalog::{Catalogue, Dataset, Datasets, relation_count};
-use esto_fill::{Loaded, load_dataset, loaded_facts_are_flat, nothing_loaded};
+use esto_fill::{Loaded, Wanted, load_dataset, nothing_loaded, wanted_by_body};
 use esto_opening::{Status, fetch};
 use esto_ports::{FileError, Shelf};
 use esto_semantics::{Atom, Atoms};
@@ -102,15 +104,16 @@ pub fn demand_files(alloc: Global, datasets: &Datasets, numbers: &Places) -> Res
 fn load_content(
     alloc: Global,
     catalogue: &Catalogue,
+    wanted: &Wanted,
     number: usize,
     bytes: &Bytes,
     loaded: Loaded,
 ) -> Result<Loaded, Status>
     requires { number < length catalogue.now.datasets }
     ensures { (dataset : Dataset) → slice_get catalogue.now.datasets number ≡ Some dataset
-        → ReadsData catalogue.now.datasets number dataset bytes.now loaded result }
+        → ReadsData catalogue.now.datasets wanted.now number dataset bytes.now loaded result }
 {
-    match load_dataset(alloc, catalogue, number, bytes, loaded) {
+    match load_dataset(alloc, catalogue, wanted, number, bytes, loaded) {
         Ok(loaded) => Ok(loaded),
         Err(FileError::Fault(fault)) => {
             let name = catalogue.datasets.item(number).name.copy(alloc)?;
@@ -125,11 +128,12 @@ fn load_next<S: Shelf>(
     alloc: Global,
     shelf: &mut S,
     catalogue: &Catalogue,
+    wanted: &Wanted,
     number: usize,
     loaded: Loaded,
 ) -> Result<Loaded, Status>
     requires { (source : Source) × IsSourceAt catalogue.now.datasets number source }
-    ensures answer { LoadsNext (S.files shelf.old) catalogue.now.datasets number loaded
+    ensures answer { LoadsNext (S.files shelf.old) catalogue.now.datasets wanted.now number loaded
         (Rises S.faults shelf.old shelf.new) (S.asked shelf.old) (S.asked shelf.new) result }
     ensures files { S.files shelf.new ≡ S.files shelf.old }
     ensures later { S.faults shelf.old ≤ S.faults shelf.new }
@@ -138,49 +142,52 @@ fn load_next<S: Shelf>(
         unreachable!()
     };
     let bytes = fetch(alloc, shelf, file, DATASET_LIMIT)?;
-    load_content(alloc, catalogue, number, &bytes, loaded)
+    load_content(alloc, catalogue, wanted, number, &bytes, loaded)
 }
 
-/// Loads the facts of the files of the datasets of the numbers, in order.
+/// Loads the facts of the files of the datasets of the numbers, in order, of the relations that are wanted.
 pub fn load_files<S: Shelf>(
     alloc: Global,
     shelf: &mut S,
     catalogue: &Catalogue,
+    wanted: &Wanted,
     numbers: &Places,
 ) -> Result<Loaded, Status>
     requires { (number : ℕ) → Contains numbers.now number
         → (source : Source) × IsSourceAt catalogue.now.datasets number source }
-    ensures answer { LoadsFiles (S.files shelf.old) catalogue.now.datasets numbers.now
+    ensures answer { LoadsFiles (S.files shelf.old) catalogue.now.datasets wanted.now numbers.now
         (Rises S.faults shelf.old shelf.new) (S.asked shelf.old) (S.asked shelf.new) result }
     ensures files { S.files shelf.new ≡ S.files shelf.old }
     ensures later { S.faults shelf.old ≤ S.faults shelf.new }
 {
     let mut loaded = nothing_loaded(alloc);
     'numbers: for number in numbers.items() {
-        loaded = load_next(alloc, shelf, catalogue, *number, loaded)?;
+        loaded = load_next(alloc, shelf, catalogue, wanted, *number, loaded)?;
     }
     Ok(loaded)
 }
 
-/// Loads the facts of the files of the datasets that the body names, in order. Each of them has to have a file; then each
-/// is fetched, and its content read, before the next is fetched.
+/// Loads, of the facts of the files of the datasets that the body names, in order, those of the relations that it names.
+/// Each of the datasets has to have a file; then each is fetched, and its content read, before the next is fetched.
 pub fn load_named<S: Shelf>(
     alloc: Global,
     shelf: &mut S,
     catalogue: &Catalogue,
     body: &Atoms,
 ) -> Result<Loaded, Status>
-    ensures answer { Loads (loads (S.files shelf.old) catalogue.now.datasets (Names body.now))
+    ensures answer { Loads (Named (relations_in body.now))
+        (loads (S.files shelf.old) catalogue.now.datasets (Names body.now))
         (Rises S.faults shelf.old shelf.new) result }
     ensures asked { LoadsAsking (S.asked shelf.old) (S.asked shelf.new)
+        (Named (relations_in body.now))
         (loads (S.files shelf.old) catalogue.now.datasets (Names body.now)) result }
     ensures files { S.files shelf.new ≡ S.files shelf.old }
     ensures later { S.faults shelf.old ≤ S.faults shelf.new }
 {
-    loaded_facts_are_flat();
+    let wanted = wanted_by_body(alloc, body.items())?;
     let numbers = named_datasets(alloc, &catalogue.datasets, body)?;
     demand_files(alloc, &catalogue.datasets, &numbers)?;
-    load_files(alloc, shelf, catalogue, &numbers)
+    load_files(alloc, shelf, catalogue, &wanted, &numbers)
 }
 
 /// Loads the facts of the files of all datasets, in order, in the same way.
@@ -189,15 +196,14 @@ pub fn load_all<S: Shelf>(
     shelf: &mut S,
     catalogue: &Catalogue,
 ) -> Result<Loaded, Status>
-    ensures answer { Loads (loads (S.files shelf.old) catalogue.now.datasets IsAny)
+    ensures answer { Loads Every (loads (S.files shelf.old) catalogue.now.datasets IsAny)
         (Rises S.faults shelf.old shelf.new) result }
-    ensures asked { LoadsAsking (S.asked shelf.old) (S.asked shelf.new)
+    ensures asked { LoadsAsking (S.asked shelf.old) (S.asked shelf.new) Every
         (loads (S.files shelf.old) catalogue.now.datasets IsAny) result }
     ensures files { S.files shelf.new ≡ S.files shelf.old }
     ensures later { S.faults shelf.old ≤ S.faults shelf.new }
 {
-    loaded_facts_are_flat();
     let numbers = all_datasets(alloc, &catalogue.datasets)?;
     demand_files(alloc, &catalogue.datasets, &numbers)?;
-    load_files(alloc, shelf, catalogue, &numbers)
+    load_files(alloc, shelf, catalogue, &Wanted::Every, &numbers)
 }

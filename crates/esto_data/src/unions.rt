@@ -2,11 +2,11 @@
 ghost use Rattle.std.specs.Prelude.{◌≡◌, ◌↔◌, ◌≤◌, IsTrue, map, IfOk, OnOk};
 ghost use Rattle.esto_ports.specs.Faults.{Rises};
 ghost use Rattle.esto_query.specs.Making.{query_of};
-ghost use Rattle.esto_data.specs.Datasets.{AddsNeeded, AreNeeded, Loads, LoadsAsking, OneNames, loads};
+ghost use Rattle.esto_data.specs.Datasets.{AddsNeeded, AreNeeded, Loads, LoadsAsking, OneNames, loads, named_by};
 
 use crate::datasets::{demand_files, load_files, names};
 use esto_catalog::{Catalogue, Dataset, Datasets};
-use esto_fill::{Loaded, loaded_facts_are_flat};
+use esto_fill::{Loaded, wanted_by_queries};
 use esto_opening::{Queries, Status};
 use esto_ports::Shelf;
 use esto_query::Query;
@@ -56,24 +56,25 @@ fn named_datasets(
     Ok(numbers)
 }
 
-/// Loads the facts of the files of the datasets that one of the queries names, in order. Each of them has to have a file;
-/// then each is fetched, and its content read, before the next is fetched.
+/// Loads, of the facts of the files of the datasets that one of the queries names, in order, those of the relations that
+/// one of them names. Each of the datasets has to have a file; then each is fetched, and its content read, before the next
+/// is fetched.
 pub fn load_union<S: Shelf>(
     alloc: Global,
     shelf: &mut S,
     catalogue: &Catalogue,
     queries: &Queries,
 ) -> Result<Loaded, Status>
-    ensures answer { Loads (loads (S.files shelf.old) catalogue.now.datasets
+    ensures answer { Loads (named_by queries.now) (loads (S.files shelf.old) catalogue.now.datasets
         (OneNames (map query_of queries.now))) (Rises S.faults shelf.old shelf.new) result }
-    ensures asked { LoadsAsking (S.asked shelf.old) (S.asked shelf.new)
+    ensures asked { LoadsAsking (S.asked shelf.old) (S.asked shelf.new) (named_by queries.now)
         (loads (S.files shelf.old) catalogue.now.datasets
         (OneNames (map query_of queries.now))) result }
     ensures files { S.files shelf.new ≡ S.files shelf.old }
     ensures later { S.faults shelf.old ≤ S.faults shelf.new }
 {
-    loaded_facts_are_flat();
+    let wanted = wanted_by_queries(alloc, queries.items())?;
     let numbers = named_datasets(alloc, &catalogue.datasets, queries)?;
     demand_files(alloc, &catalogue.datasets, &numbers)?;
-    load_files(alloc, shelf, catalogue, &numbers)
+    load_files(alloc, shelf, catalogue, &wanted, &numbers)
 }

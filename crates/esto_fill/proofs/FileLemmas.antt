@@ -3,14 +3,17 @@ use Rattle.std.proofs.Common.{◌≡◌, inl, inr, ℕ, suc, ◌≤◌, ◌<◌,
 use Rattle.std.proofs.Common.{sym, ap, ◌∙◌, subst, append_assoc, append-nil, arith}
 use Rattle.std.proofs.lemmas.List.{take_all}
 use Rattle.std.proofs.lemmas.List.Elements.{Contains-append_cases}
-use Rattle.std.specs.Prelude.{Ok}
+use Rattle.std.specs.Prelude.{true, false, Result, Ok, Err}
 use Rattle.std.proofs.lemmas.Option.{slice_get_within}
 use Rattle.esto_catalog.specs.declared.dataset.Dataset.{Dataset}
 use Rattle.esto_docmodel.specs.DocumentFacts.{DocFact, value, below, row_of, flat}
 use Rattle.esto_docmodel.specs.Encodings.{size, entering, belows, holding, facts_from, facts_of}
 use Rattle.esto_docmodel.specs.Shapes.{documents}
 use Rattle.esto_docmodel.specs.declared.encode.Encoded.{Encoded}
-use Rattle.esto_docmodel.specs.declared.tree.Tree.{Tree}
+use Rattle.esto_docmodel.specs.declared.kept.Kept.{Kept}
+use Rattle.esto_docs.specs.Encoding.{GivesEncoded}
+use Rattle.esto_ports.specs.declared.file_fault.FileError.{FileError}
+use Rattle.esto_ports.specs.declared.file_fault.FileError.TheVariants as content
 use Rattle.esto_docs.specs.Files.{file_trees, trees_fault}
 use Rattle.esto_read.specs.declared.words.DataModel.{DataModel}
 use Rattle.esto_stores.specs.Keys.{key_rows, key_fault}
@@ -25,7 +28,14 @@ use Rattle.esto_term.specs.declared.term.Term.{Term}
 use Rattle.esto_term.specs.declared.term.Term.TheVariants.{Const, Plain}
 use Rattle.esto_term.proofs.ListLemmas.{Contains-nil, Contains-cases, Contains-map_from, HoldsBelow}
 use Rattle.esto_term.proofs.PlaceLemmas.{take-item}
-use Rattle.esto_fill.specs.Files.{dataset_fault, nodes_in, AreFactsOf, AreFactsFrom, AreReadable, GivesFacts, IsLoadedFrom}
+use Rattle.esto_fill.specs.Files.{dataset_fault, nodes_in, AreFactsByModel, AreFactsOf, AreFactsFrom, AreReadable, AreWantedOf, GivesFacts, IsLoadedFrom}
+use Rattle.esto_fill.specs.Wanted.{IsKeptFor, is_wanted, wanted_facts}
+use Rattle.esto_fill.specs.declared.wanted.Wanted.{Wanted}
+use Rattle.esto_fill.specs.declared.wanted.Wanted.TheVariants.{Every, Named}
+use Rattle.esto_fill.specs.Lawful.{IsLawfulBy}
+use Rattle.esto_docmodel.specs.Rising.{IsRising}
+use Rattle.esto_docmodel.proofs.FactLemmas.{these_meet_rules}
+use Rattle.esto_fill.proofs.WantedLemmas.{AreOver, chosen, every_wanted, kept_wanted, wanted_append, wanted_flat}
 use Rattle.esto_fill.specs.declared.loaded.Loaded.{Loaded}
 use Rattle.esto_fill.specs.declared.datasets.DatasetBytes.{DatasetBytes}
 
@@ -136,37 +146,89 @@ file_more datasets first (head ∷ files) facts own next file dataset (its, some
 
 -- ---- what the readers give
 
-pub table_gives : (dataset : Dataset) (bytes : List ℕ) (first : ℕ) (rows : List (List (List ℕ))) (facts : List (Fact Term))
-    → (table_fault dataset.columns bytes ≡ None) × (rows ≡ table_rows dataset.columns bytes) → AreRowFacts dataset.base rows facts
-    → GivesFacts DataModel.Table dataset bytes first (Ok (record { facts = facts; next = first }))
-table_gives dataset bytes first rows facts (clear, read) are = (
-  clear,
-  subst (λ those. AreRowFacts dataset.base those facts) read are,
-  omega arith,
-  rows_flat dataset.base rows facts are,
-)
+rows_over : (relation : ℕ) (rows : List (List (List ℕ))) (facts : List (Fact Term)) → AreRowFacts relation rows facts → AreOver relation facts
+rows_over relation rows facts (kept, once, is) fact inside =
+    let from = Contains-map_from (row_fact relation) kept fact (subst (λ those. Contains those fact) is inside) in
+    ap (λ (it : Fact Term). it.relation) (sym from.2)
 
-pub keys_give : (dataset : Dataset) (bytes : List ℕ) (first : ℕ) (rows : List (List (List ℕ))) (facts : List (Fact Term))
-    → (key_fault 3 bytes ≡ None) × (rows ≡ key_rows bytes) → AreRowFacts dataset.base rows facts
-    → GivesFacts DataModel.Keys dataset bytes first (Ok (record { facts = facts; next = first }))
-keys_give dataset bytes first rows facts (clear, read) are = (
-  clear,
-  subst (λ those. AreRowFacts dataset.base those facts) read are,
-  omega arith,
-  rows_flat dataset.base rows facts are,
-)
+module _ (dataset : Dataset) (wanted : Wanted) (bytes : List ℕ) (first : ℕ) (rows : List (List (List ℕ))) (facts some : List (Fact Term))
+    (are : AreRowFacts dataset.base rows facts) (all : is_wanted wanted dataset.base ≡ true → some ≡ facts)
+    (none : is_wanted wanted dataset.base ≡ false → some ≡ []) where
+  some_of : some ≡ wanted_facts wanted facts
+  some_of = chosen wanted dataset.base facts some (rows_over dataset.base rows facts are) all none
 
-pub documents_give : (dataset : Dataset) (bytes : List ℕ) (first : ℕ) (trees : List Tree) (encoded : Encoded)
-    → (trees_fault dataset.layout bytes ≡ None) × (trees ≡ file_trees dataset.layout bytes) → encoded.facts ≡ facts_of dataset.base first (documents trees)
-    → encoded.next ≡ first + size (documents trees) → GivesFacts DataModel.Documents dataset bytes first (Ok encoded)
-documents_give dataset bytes first trees encoded (clear, read) facts next = (
-  clear,
-  facts ∙ ap (λ those. facts_of dataset.base first (documents those)) read,
-  next ∙ ap (λ those. first + size (documents those)) read,
-  subst AreFlat (sym facts) (documents_flat dataset.base first (documents trees)),
-)
+  some_flat : AreFlat some
+  some_flat = subst AreFlat (sym some_of) (wanted_flat wanted facts (rows_flat dataset.base rows facts are))
+
+  pub table_gives : (table_fault dataset.columns bytes ≡ None) × (rows ≡ table_rows dataset.columns bytes)
+      → GivesFacts DataModel.Table dataset wanted bytes first (Ok (record { facts = some; next = first }))
+  table_gives (clear, read) = (
+    clear,
+    record {
+      facts = facts;
+      are = subst (λ those. AreRowFacts dataset.base those facts) read are;
+      some = some_of;
+      next = omega arith;
+      flat = some_flat;
+      lawful = tt;
+    },
+  )
+
+  pub keys_give : (key_fault 3 bytes ≡ None) × (rows ≡ key_rows bytes)
+      → GivesFacts DataModel.Keys dataset wanted bytes first (Ok (record { facts = some; next = first }))
+  keys_give (clear, read) = (
+    clear,
+    record {
+      facts = facts;
+      are = subst (λ those. AreRowFacts dataset.base those facts) read are;
+      some = some_of;
+      next = omega arith;
+      flat = some_flat;
+      lawful = tt;
+    },
+  )
+
+documents_lawful : (wanted : Wanted) (base first : ℕ) (forest : Forest) (facts : List (Fact Term)) → facts ≡ wanted_facts wanted (facts_of base first forest)
+    → IsRising forest → IsLawfulBy DataModel.Documents wanted base facts
+documents_lawful Every base first forest facts some rising = these_meet_rules base first forest facts (some ∙ every_wanted (facts_of base first forest)) rising
+documents_lawful (Named relations) base first forest facts some rising = tt
+
+pub documents_give : (dataset : Dataset) (wanted : Wanted) (bytes : List ℕ) (first : ℕ) (relations : Kept) → IsKeptFor wanted dataset.base relations
+    → (result : Result Encoded FileError)
+    → GivesEncoded relations first (file_trees dataset.layout bytes) (trees_fault dataset.layout bytes) result
+    → GivesFacts DataModel.Documents dataset wanted bytes first result
+documents_give dataset wanted bytes first relations kept (Ok encoded) (clear, are) =
+    let all = facts_from [] first (documents (file_trees dataset.layout bytes)) in
+    let some = are.facts ∙ kept_wanted wanted dataset.base relations kept all in (
+      clear,
+      record {
+        facts = facts_of dataset.base first (documents (file_trees dataset.layout bytes));
+        are = refl;
+        some = some;
+        next = are.next;
+        flat = subst AreFlat (sym some) (wanted_flat wanted _ (documents_flat dataset.base first (documents (file_trees dataset.layout bytes))));
+        lawful = documents_lawful wanted dataset.base first (documents (file_trees dataset.layout bytes)) encoded.facts some are.rising;
+      },
+    )
+documents_give dataset wanted bytes first relations kept (Err (content.Fault found)) fault = fault
+documents_give dataset wanted bytes first relations kept (Err content.OutOfMemory) want = tt
 
 -- ---- all files
+
+model_flat : (model : DataModel) (dataset : Dataset) (bytes : List ℕ) (first : ℕ) (facts : List (Fact Term))
+    → AreFactsByModel model dataset bytes first facts → AreFlat facts
+model_flat DataModel.Table dataset bytes first facts are = rows_flat dataset.base (table_rows dataset.columns bytes) facts are
+model_flat DataModel.Documents dataset bytes first facts are =
+    subst AreFlat (sym are) (documents_flat dataset.base first (documents (file_trees dataset.layout bytes)))
+model_flat DataModel.Keys dataset bytes first facts are = rows_flat dataset.base (key_rows bytes) facts are
+
+-- the facts of files are over constants and plain terms
+pub facts_flat : (datasets : List Dataset) (first : ℕ) (files : List DatasetBytes) (facts : List (Fact Term)) (next : ℕ)
+    → AreFactsFrom datasets first files facts next → AreFlat facts
+facts_flat datasets first [] facts next (empty, ends) = subst AreFlat (sym empty) (λ term (fact, inside, at). absurd (Contains-nil fact inside))
+facts_flat datasets first (file ∷ files) facts next (dataset, own, others, there, are, from, whole) =
+    subst AreFlat (sym whole) (append_flat own others (model_flat dataset.model dataset file.bytes first own are)
+    (facts_flat datasets (first + nodes_in dataset file.bytes) files others next from))
 
 module _ (datasets : List Dataset) (files : List DatasetBytes) where
   -- none of the files so far has a fault
@@ -175,29 +237,44 @@ module _ (datasets : List Dataset) (files : List DatasetBytes) where
       → dataset_fault dataset file.bytes ≡ None) files count
 
   pub loaded_more : (count : ℕ) (file : DatasetBytes) (old new : Loaded) → count < length files → file ≡ get_or files count file
-      → IsLoadedFrom datasets (take count files) old
-      → ((those : List DatasetBytes) → IsLoadedFrom datasets those old → IsLoadedFrom datasets (those ++ file ∷ []) new)
-      → IsLoadedFrom datasets (take (count + 1) files) new
+      → IsLoadedFrom datasets Every (take count files) old
+      → ((those : List DatasetBytes) → IsLoadedFrom datasets Every those old → IsLoadedFrom datasets Every (those ++ file ∷ []) new)
+      → IsLoadedFrom datasets Every (take (count + 1) files) new
   loaded_more count file old new within read before step =
-      subst (λ those. IsLoadedFrom datasets those new) (sym (take-item files count file within read))
+      subst (λ those. IsLoadedFrom datasets Every those new) (sym (take-item files count file within read))
       (step (take count files) before)
 
   pub all_readable : (count : ℕ) → length files ≤ count → AreReadableBelow count → AreReadable datasets files
   all_readable count past fine at file dataset there = fine at file
       (let within = slice_get_within files at file there in omega (arith, within, past)) there dataset
 
+-- where all relations are wanted, all facts are loaded
+pub loaded_all : (datasets : List Dataset) (files : List DatasetBytes) (loaded : Loaded) → IsLoadedFrom datasets Every files loaded
+    → AreFactsFrom datasets 0 files loaded.facts loaded.next
+loaded_all datasets files loaded (facts, are, some) =
+    subst (λ those. AreFactsFrom datasets 0 files those loaded.next) (sym (some ∙ every_wanted facts)) are
+
 -- all files are loaded, where the loop goes over a list that is theirs
 pub all_loaded : (datasets : List Dataset) (files items : List DatasetBytes) (count : ℕ) (loaded : Loaded) → items ≡ files → length items ≤ count
-    → IsLoadedFrom datasets (take count items) loaded → AreReadableBelow datasets items count → AreReadable datasets files × IsLoadedFrom datasets files loaded
+    → IsLoadedFrom datasets Every (take count items) loaded → AreReadableBelow datasets items count
+    → AreReadable datasets files × AreFactsFrom datasets 0 files loaded.facts loaded.next
 all_loaded datasets files items count loaded same past are fine =
-    subst (λ those. AreReadable datasets those × IsLoadedFrom datasets those loaded) same
-    (all_readable datasets items count past fine, subst (λ those. IsLoadedFrom datasets those loaded) (take_all count items past) are)
+    subst (λ those. AreReadable datasets those × AreFactsFrom datasets 0 those loaded.facts loaded.next) same (
+      all_readable datasets items count past fine,
+      loaded_all datasets items loaded (subst (λ those. IsLoadedFrom datasets Every those loaded) (take_all count items past) are),
+    )
 
-pub load_more : (datasets : List Dataset) (files : List DatasetBytes) (number : ℕ) (bytes : List ℕ) (dataset : Dataset) (old : Loaded)
-    (own facts : List (Fact Term)) (next : ℕ) → IsLoadedFrom datasets files old → slice_get datasets number ≡ Some dataset
-    → AreFactsOf dataset bytes old.next own → facts ≡ old.facts ++ own → next ≡ old.next + nodes_in dataset bytes
-    → AreFactsFrom datasets 0 (files ++ record { dataset = number; bytes = bytes } ∷ []) facts next
-load_more datasets files number bytes dataset old own facts next before there are whole ends =
-    subst (λ those. AreFactsFrom datasets 0 (files ++ record { dataset = number; bytes = bytes } ∷ []) those next) (sym whole)
-    (subst (AreFactsFrom datasets 0 (files ++ record { dataset = number; bytes = bytes } ∷ []) (old.facts ++ own)) (sym ends)
-    (file_more datasets 0 files old.facts own old.next (record { dataset = number; bytes = bytes }) dataset before there are))
+pub load_more : (datasets : List Dataset) (wanted : Wanted) (files : List DatasetBytes) (number : ℕ) (bytes : List ℕ) (dataset : Dataset) (old : Loaded)
+    (own : Encoded) (facts : List (Fact Term)) → IsLoadedFrom datasets wanted files old → slice_get datasets number ≡ Some dataset
+    → AreWantedOf dataset.model dataset wanted bytes old.next own → facts ≡ old.facts ++ own.facts
+    → (all : List (Fact Term)) × AreFactsFrom datasets 0 (files ++ record { dataset = number; bytes = bytes } ∷ []) all own.next
+    × (facts ≡ wanted_facts wanted all)
+load_more datasets wanted files number bytes dataset old own facts (before, were, some) there are whole = (
+  before ++ are.facts,
+  subst (AreFactsFrom datasets 0 (files ++ record { dataset = number; bytes = bytes } ∷ []) (before ++ are.facts)) (sym are.next)
+      (file_more datasets 0 files before are.facts old.next (record { dataset = number; bytes = bytes }) dataset were there are.are),
+  whole
+      ∙ ap (λ those. those ++ own.facts) some
+      ∙ ap (λ those. wanted_facts wanted before ++ those) are.some
+      ∙ sym (wanted_append wanted before are.facts),
+)

@@ -3,8 +3,12 @@ pub mod OrderLemmas
 pub mod TextLemmas
 pub mod ApartLemmas
 pub mod RecordLemmas
+pub mod WantedLemmas
+pub mod LawfulLemmas
+pub mod SameLemmas
 pub mod FileLemmas
 pub mod FilledLemmas
+pub mod ConstantLemmas
 pub mod DifferenceLemmas
 pub mod LawLemmas
 pub mod AuditLemmas

@@ -1,7 +1,7 @@
 -- The answers of unions of queries over facts.
 use Rattle.std.proofs.Common.{◌≡◌, ◌↔◌, ◌<◌, ◌≤◌, ◌+◌, inl, inr, ℕ, List, [], ◌∷◌, ◌++◌, length, take, map, get_or, Contains, sym, subst}
 use Rattle.std.proofs.lemmas.List.{take_all}
-use Rattle.std.proofs.lemmas.List.Elements.{Contains-append_cases, Contains-push_cases, Contains-append_left, Contains-append_right}
+use Rattle.std.proofs.lemmas.List.Elements.{Contains-push_cases, Contains-append_left, Contains-append_right}
 use Rattle.esto_query.specs.Making.{query_of}
 use Rattle.esto_query.specs.declared.query.Query.{Query}
 use Rattle.esto_semantics.specs.Facts.{Database}
@@ -24,21 +24,6 @@ module _ (facts : List (Fact Term)) where
 
   pub rows_of_none : HaveRowsOf [] []
   rows_of_none row = ((λ inside. absurd (Contains-nil row inside)), (λ (query, inside, answer). absurd (Contains-nil query inside)))
-
-  -- a query's answers that are put at the end come to the rows
-  pub answers_added : (query : Query) (old own new : List (List Term))
-      → ((row : List Term) → Contains own row ↔ IsAnswerInto Const (query_of query) (Contains facts) row) → new ≡ old ++ own
-      → AddsAnswers query facts old new
-  answers_added query old own new are is = subst (AddsAnswers query facts old) (sym is) (λ row. (
-    (λ inside. elim (Contains-append_cases old own row inside) [
-      | inl before ↦ inl before
-      | inr mine ↦ inr ((are row).0 mine)
-    ]),
-    (λ either. elim either [
-      | inl before ↦ Contains-append_left old own row before
-      | inr answer ↦ Contains-append_right old own row ((are row).1 answer)
-    ]),
-  ))
 
   -- with the answers of one query more
   rows_of_more : (queries : List Query) (query : Query) (old new : List (List Term)) → HaveRowsOf queries old → AddsAnswers query facts old new

@@ -21,6 +21,10 @@ use Rattle.esto_fill.specs.declared.datasets.DatasetBytes.{DatasetBytes}
 use Rattle.esto_fill.specs.declared.datasets.LoadError.{LoadError}
 use Rattle.esto_fill.specs.declared.datasets.LoadError.TheVariants.{Fault, OutOfMemory}
 use Rattle.esto_fill.specs.declared.loaded.Loaded.{Loaded}
+use Rattle.esto_fill.specs.declared.wanted.Wanted.{Wanted}
+use Rattle.esto_fill.specs.declared.wanted.Wanted.TheVariants.{Every}
+use Rattle.esto_fill.specs.Lawful.{IsLawfulBy}
+use Rattle.esto_fill.specs.Wanted.{wanted_facts}
 
 -- ---- the file of one dataset
 
@@ -70,9 +74,11 @@ AreFactsFrom datasets first (file ∷ files) facts next =
     (dataset : Dataset) × (own others : List (Fact Term)) × (slice_get datasets file.dataset ≡ Some dataset) × AreFactsOf dataset file.bytes first own
     × AreFactsFrom datasets (first + nodes_in dataset file.bytes) files others next × (facts ≡ own ++ others)
 
--- What is loaded are the facts of the files, whose nodes are numbered from 0 on, and the first number that is no node's.
-abbrev pub IsLoadedFrom : List Dataset → List DatasetBytes → Loaded → Type 0
-IsLoadedFrom datasets files loaded = AreFactsFrom datasets 0 files loaded.facts loaded.next
+-- What is loaded are, of the facts of the files, whose nodes are numbered from 0 on, those of the relations that are wanted, and the first number that is no
+-- node's.
+abbrev pub IsLoadedFrom : List Dataset → Wanted → List DatasetBytes → Loaded → Type 0
+IsLoadedFrom datasets wanted files loaded =
+    (facts : List (Fact Term)) × AreFactsFrom datasets 0 files facts loaded.next × (loaded.facts ≡ wanted_facts wanted facts)
 
 -- No file has a fault.
 abbrev pub AreReadable : List Dataset → List DatasetBytes → Type 0
@@ -94,7 +100,7 @@ pub record IsFirstFault (datasets : List Dataset) (files : List DatasetBytes) (n
 
 -- What comes of loading the files: their facts, where no file has a fault; or the fault of the first that has one; or memory is wanting.
 abbrev pub LoadsFacts : List Dataset → List DatasetBytes → Result Loaded LoadError → Type 0
-LoadsFacts datasets files (Ok loaded) = AreReadable datasets files × IsLoadedFrom datasets files loaded
+LoadsFacts datasets files (Ok loaded) = AreReadable datasets files × AreFactsFrom datasets 0 files loaded.facts loaded.next
 LoadsFacts datasets files (Err (Fault number fault)) = IsFirstFault datasets files number fault
 LoadsFacts datasets files (Err OutOfMemory) = Unit {0}
 
@@ -111,19 +117,27 @@ AreApart files = AllPairs (λ file other. file.dataset ≢ other.dataset) files
 
 -- ---- for private clauses
 
--- The facts of the file of a dataset of this model, which are over constants and plain terms, and the first number that is no node's; or the file's first
--- fault; or memory is wanting.
-abbrev pub GivesFacts : DataModel → Dataset → List ℕ → ℕ → Result Encoded FileError → Type 0
-GivesFacts model dataset bytes first (Ok encoded) =
-    (fault_by_model model dataset bytes ≡ None) × AreFactsByModel model dataset bytes first encoded.facts
-    × (encoded.next ≡ first + nodes_by_model model dataset bytes) × AreFlat encoded.facts
-GivesFacts model dataset bytes first (Err (content.Fault found)) = fault_by_model model dataset bytes ≡ Some found
-GivesFacts model dataset bytes first (Err content.OutOfMemory) = Unit {0}
+-- Of the facts of the file of a dataset of this model those that are wanted, which are over constants and plain terms, and the first number that is no
+-- node's.
+pub record AreWantedOf (model : DataModel) (dataset : Dataset) (wanted : Wanted) (bytes : List ℕ) (first : ℕ) (encoded : Encoded) : Type 0 where
+  pub facts : List (Fact Term)
+  pub are : AreFactsByModel model dataset bytes first facts
+  pub some : encoded.facts ≡ wanted_facts wanted facts
+  pub next : encoded.next ≡ first + nodes_by_model model dataset bytes
+  pub flat : AreFlat encoded.facts
+  pub lawful : IsLawfulBy model wanted dataset.base encoded.facts
+
+-- These facts of the file, which has no fault; or the file's first fault; or memory is wanting.
+abbrev pub GivesFacts : DataModel → Dataset → Wanted → List ℕ → ℕ → Result Encoded FileError → Type 0
+GivesFacts model dataset wanted bytes first (Ok encoded) =
+    (fault_by_model model dataset bytes ≡ None) × AreWantedOf model dataset wanted bytes first encoded
+GivesFacts model dataset wanted bytes first (Err (content.Fault found)) = fault_by_model model dataset bytes ≡ Some found
+GivesFacts model dataset wanted bytes first (Err content.OutOfMemory) = Unit {0}
 
 -- The facts of the file come after those that were loaded; or the file has a fault, and this is the first; or memory is wanting.
 abbrev pub AddsFile : List Dataset → DatasetBytes → Loaded → Result Loaded LoadError → Type 0
 AddsFile datasets file old (Ok new) =
-    ((files : List DatasetBytes) → IsLoadedFrom datasets files old → IsLoadedFrom datasets (files ++ file ∷ []) new)
+    ((files : List DatasetBytes) → IsLoadedFrom datasets Every files old → IsLoadedFrom datasets Every (files ++ file ∷ []) new)
     × ((dataset : Dataset) → slice_get datasets file.dataset ≡ Some dataset → dataset_fault dataset file.bytes ≡ None)
 AddsFile datasets file old (Err (Fault number fault)) =
     (number ≡ file.dataset) × ((dataset : Dataset) × (slice_get datasets file.dataset ≡ Some dataset) × (dataset_fault dataset file.bytes ≡ Some fault))

@@ -18,6 +18,7 @@ use Rattle.esto_semantics.specs.Rules.{Rule, AreRules}
 use Rattle.esto_semantics.specs.Standing.{Stands}
 use Rattle.esto_semantics.specs.Unions.{IsUnionAnswer}
 use Rattle.esto_semantics.specs.declared.fact.Fact.{Fact}
+use Rattle.esto_semantics.specs.declared.fact.Value.{Value}
 use Rattle.esto_semantics.specs.declared.fact.Value.TheVariants.{Text}
 use Rattle.esto_stores.specs.Rows.{Row}
 use Rattle.esto_term.specs.declared.term.Term.{Term}
@@ -33,10 +34,17 @@ use Rattle.esto_fill.specs.declared.filled.FillError.TheVariants as filled
 use Rattle.esto_fill.specs.declared.loaded.Loaded.{Loaded}
 use Rattle.esto_fill.specs.declared.rows.AnswerError.{AnswerError}
 use Rattle.esto_fill.specs.declared.rows.AnswerError.TheVariants as answer
+use Rattle.esto_fill.specs.Lawful.{AreLawful}
+use Rattle.esto_fill.specs.Wanted.{AreWanted, wanted_facts}
+use Rattle.esto_fill.specs.declared.wanted.Wanted.{Wanted}
 
 -- The facts of each value that is loaded are over constants and plain terms.
 abbrev pub LoadedAreFlat : Type 0
 LoadedAreFlat = (loaded : Loaded) → AreFlat loaded.facts
+
+-- The facts of each value that is loaded meet the rules of the documents from its bases on.
+abbrev pub LoadedAreLawful : Type 0
+LoadedAreLawful = (loaded : Loaded) → AreLawful loaded.documents loaded.facts
 
 -- Facts over constants and plain terms are stood for by their database.
 abbrev pub FactsStand : Type 0
@@ -117,6 +125,12 @@ AnswersRestOnDatasets =
     → AreFactsFrom datasets 0 all facts next → AreFactsFrom datasets 0 some others other
     → ((row : Row) → IsAnswer query (database_of facts) (map Text row) ↔ IsAnswer query (database_of others) (map Text row))
     × (HaveTextsOnly (IsAnswer query (database_of facts)) → HaveTextsOnly (IsAnswer query (database_of others)))
+
+-- Over the facts of the relations that are wanted, among which is each relation of its body, a query has the answers that it has over all facts.
+abbrev pub AnswersRestOnRelations : Type 0
+AnswersRestOnRelations =
+    (wanted : Wanted) (facts : List (Fact Term)) (query : ConjunctiveQuery) (values : List Value) → AreWanted wanted query.body
+    → IsAnswer query (database_of (wanted_facts wanted facts)) values ↔ IsAnswer query (database_of facts) values
 
 -- ---- rows and files
 

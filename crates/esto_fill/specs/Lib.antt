@@ -1,4 +1,6 @@
 pub mod Databases
+pub mod Wanted
+pub mod Lawful
 pub mod Texts
 pub mod Files
 pub mod Filled

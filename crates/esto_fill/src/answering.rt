@@ -1,20 +1,20 @@
 //! The answers of a query, and of a union of queries, over the facts of datasets.
-ghost use Rattle.std.specs.Prelude.{◌≡◌, ◌↔◌, ◌++◌, List, map, Contains, IfOk, OnOk};
+ghost use Rattle.std.specs.Prelude.{◌↔◌, List, map, Contains, IfOk};
 ghost use Rattle.esto_term.specs.declared.term.Term.{Term};
 ghost use Rattle.esto_query.specs.Making.{query_of};
 ghost use Rattle.esto_query.specs.Rows.{IsAscending};
 ghost use Rattle.esto_semantics.specs.Queries.{IsAnswer};
 ghost use Rattle.esto_semantics.specs.Unions.{IsUnionAnswer};
 ghost use Rattle.esto_fill.specs.Databases.{database_of};
-ghost use Rattle.esto_fill.specs.Placing.{AddsAnswers, IsUnionRow};
+ghost use Rattle.esto_fill.specs.Placing.{IsUnionRow};
 ghost use Rattle.esto_fill.specs.Texts.{GivesTexts};
 
 use crate::laws::{facts_stand_as_databases, loaded_facts_are_flat};
 use crate::loaded::Loaded;
 use crate::rows::{AnswerError, texts_of};
-use esto_query::{IndexedFacts, Query, answers, in_order, queries_are_sound};
+use esto_query::{Columns, IndexedFacts, Query, answers, in_order, queries_are_sound};
 use esto_semantics::databases_stand_for_facts;
-use esto_term::{OutOfMemory, Replicate, TermRows, Terms, TextRows};
+use esto_term::{OutOfMemory, TermRows, TextRows};
 use std::alloc::Global;
 
 /// The query's answers over the database of the facts, as texts: each once, in rising order, cell by cell by bytes.
@@ -30,30 +30,13 @@ pub fn answer(alloc: Global, query: &Query, loaded: &Loaded) -> Result<TextRows,
     texts_of(alloc, &rows)
 }
 
-// Puts copies of the rows at the end.
-fn add_rows(alloc: Global, rows: &mut Vec<Terms>, own: &[Terms]) -> Result<(), OutOfMemory>
-    ensures { OnOk result (rows.new.items ≡ rows.old.items ++ own.now) }
-{
-    'own: for row in own {
-        let Ok(()) = rows.push(row.copy(alloc)?) else {
-            return Err(OutOfMemory);
-        };
+// The columns by which the answers of the queries are found.
+fn columns_of(alloc: Global, queries: &[Query]) -> Result<Columns, OutOfMemory> {
+    let mut columns = Columns::none(alloc);
+    'queries: for query in queries {
+        columns.add_asked(alloc, &[], query.body.items())?;
     }
-    Ok(())
-}
-
-// Adds the answers of the query over the facts.
-fn add_answers(
-    alloc: Global,
-    rows: &mut Vec<Terms>,
-    query: &Query,
-    facts: &IndexedFacts,
-) -> Result<(), OutOfMemory>
-    ensures { OnOk result (AddsAnswers query.now facts.now rows.old.items rows.new.items) }
-{
-    let own = facts.answers(alloc, query)?;
-    add_rows(alloc, rows, own.items())?;
-    Ok(())
+    Ok(columns)
 }
 
 // The answers of the queries together over the facts: each once, in the order of terms.
@@ -68,7 +51,7 @@ fn union_answers(
 {
     let mut rows = Vec::new(alloc);
     'queries: for query in queries {
-        add_answers(alloc, &mut rows, query, facts)?;
+        facts.add_answers(alloc, query, &mut rows)?;
     }
     let rows = in_order(alloc, &mut rows)?;
     Ok(rows)
@@ -89,7 +72,8 @@ pub fn answer_union(
     facts_stand_as_databases();
     loaded_facts_are_flat();
     queries_are_sound();
-    let facts = IndexedFacts::of(alloc, &loaded.facts)?;
+    let columns = columns_of(alloc, queries)?;
+    let facts = IndexedFacts::by(alloc, columns, &loaded.facts)?;
     let rows = union_answers(alloc, queries, &facts)?;
     texts_of(alloc, &rows)
 }

@@ -10,15 +10,18 @@ ghost use Rattle.esto_views.specs.Fragments.{views_of};
 ghost use Rattle.esto_fill.specs.Databases.{database_of};
 ghost use Rattle.esto_fill.specs.Differences.{Audits};
 ghost use Rattle.esto_fill.specs.Judging.{JudgesRules, JudgesFragment, JudgesFragments};
+ghost use Rattle.esto_fill.specs.Lawful.{AreLawful};
 ghost use Rattle.esto_fill.specs.Texts.{AreTextViews, HaveTextsOnly};
 
 use crate::apart::{Apart, first_apart, ordered_rows};
-use crate::laws::{facts_stand_as_databases, loaded_facts_are_flat};
+use crate::laws::{facts_stand_as_databases, loaded_documents_are_lawful, loaded_facts_are_flat};
 use crate::loaded::Loaded;
 use crate::record::record_of;
 use crate::rows::{counted, text_row};
+use crate::tried::meets_by_law;
+use crate::views::columns_of_views;
 use esto_catalog::Catalogue;
-use esto_constraint::{Broken, Rules, least_active_matches_are_least, meets, rules_are_sound};
+use esto_constraint::{Broken, Rules, least_active_matches_are_least, rules_are_sound};
 use esto_query::{Facts, IndexedFacts, queries_are_sound};
 use esto_semantics::databases_stand_for_facts;
 use esto_term::{List, OutOfMemory, Replicate, Text, TextRow, TextRows};
@@ -60,16 +63,18 @@ impl Replicate for Difference {
 fn broken_rule(
     alloc: Global,
     rules: &Rules,
+    bases: &[usize],
     facts: &Facts,
 ) -> Result<Option<Difference>, OutOfMemory>
-    requires { AreFlat facts.now }
+    requires flat { AreFlat facts.now }
+    requires lawful { AreLawful bases.now facts.now }
     ensures { IfOk result (JudgesRules (rules_of rules.now) (map written rules.now) facts.now) }
 {
     databases_stand_for_facts();
     facts_stand_as_databases();
     rules_are_sound();
     least_active_matches_are_least();
-    let Some(broken) = meets(alloc, rules, facts)? else {
+    let Some(broken) = meets_by_law(alloc, rules, bases, facts)? else {
         return Ok(None);
     };
     let rule = rules.item(broken.rule);
@@ -123,7 +128,8 @@ fn apart_fragment(
     ensures { IfOk result (JudgesFragments (map (λ fragment. fragment.name) fragments.now)
         (views_of fragments.now) (database_of facts.now) rows.now) }
 {
-    let indexed = IndexedFacts::of(alloc, facts)?;
+    let columns = columns_of_views(alloc, fragments)?;
+    let indexed = IndexedFacts::by(alloc, columns, facts)?;
     'fragments: for number in 0..fragments.len() {
         let fragment = fragments.item(number);
         let outcome = apart_of(alloc, fragment, &indexed, rows.item(number))?;
@@ -153,7 +159,9 @@ pub fn audit(
         (views_of catalogue.now.fragments) loaded.now.facts (IsRowOf (held_by rows.now)) outcome) }
 {
     loaded_facts_are_flat();
-    let broken = broken_rule(alloc, &catalogue.rules, &loaded.facts)?;
+    loaded_documents_are_lawful();
+    let bases = loaded.documents.items();
+    let broken = broken_rule(alloc, &catalogue.rules, bases, &loaded.facts)?;
     if broken.is_some() {
         return Ok(broken);
     }

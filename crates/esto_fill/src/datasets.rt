@@ -5,13 +5,16 @@ ghost use Rattle.esto_fill.specs.Files.{AddsFile, GivesFacts, dataset_fault, Fin
 ghost use Rattle.esto_fill.specs.declared.datasets.DatasetBytes.{DatasetBytes};
 ghost use Rattle.esto_fill.specs.declared.datasets.LoadError.TheVariants as load;
 
+use crate::lawful::lawful_bases;
 use crate::loaded::{Loaded, nothing_loaded};
+use crate::wanted::{Wanted, if_wanted, kept_for};
 use esto_catalog::{Catalogue, Dataset};
-use esto_docmodel::{Encoded, encode_documents};
-use esto_docs::read_trees;
+use esto_docmodel::Encoded;
+use esto_docs::encode_file;
 use esto_ports::{FileError, FileFault};
 use esto_read::DataModel;
 use esto_relmodel::table_facts;
+use esto_semantics::Facts;
 use esto_stores::{open_keys, open_table};
 use esto_term::{Bytes, List, OutOfMemory};
 use std::alloc::Global;
@@ -49,58 +52,79 @@ impl From<OutOfMemory> for LoadError {
 fn facts_of_table(
     alloc: Global,
     dataset: &Dataset,
+    wanted: &Wanted,
     bytes: &[u8],
     first: u64,
 ) -> Result<Encoded, FileError>
-    ensures { GivesFacts DataModel.Table dataset.now bytes.now first result }
+    ensures { GivesFacts DataModel.Table dataset.now wanted.now bytes.now first result }
 {
     let rows = open_table(alloc, bytes, &dataset.columns)?;
     let facts = table_facts(alloc, dataset.base, &rows)?;
-    Ok(Encoded { facts, next: first })
+    Ok(Encoded {
+        facts: if_wanted(alloc, wanted, dataset.base, facts),
+        next: first,
+    })
 }
 
 // The facts of the documents of a file, whose nodes are numbered from `first` on.
 fn facts_of_documents(
     alloc: Global,
     dataset: &Dataset,
+    wanted: &Wanted,
     bytes: &[u8],
     first: u64,
 ) -> Result<Encoded, FileError>
-    ensures { GivesFacts DataModel.Documents dataset.now bytes.now first result }
+    ensures { GivesFacts DataModel.Documents dataset.now wanted.now bytes.now first result }
 {
-    let trees = read_trees(alloc, bytes, &dataset.layout)?;
-    let encoded = encode_documents(alloc, dataset.base, &trees, first)?;
-    Ok(encoded)
+    let relations = kept_for(wanted, dataset.base)?;
+    encode_file(alloc, bytes, &dataset.layout, &relations, first)
 }
 
 // The facts of the lines of a key file.
 fn facts_of_keys(
     alloc: Global,
     dataset: &Dataset,
+    wanted: &Wanted,
     bytes: &[u8],
     first: u64,
 ) -> Result<Encoded, FileError>
-    ensures { GivesFacts DataModel.Keys dataset.now bytes.now first result }
+    ensures { GivesFacts DataModel.Keys dataset.now wanted.now bytes.now first result }
 {
     let rows = open_keys(alloc, bytes, KEY_CELLS)?;
     let facts = table_facts(alloc, dataset.base, &rows)?;
-    Ok(Encoded { facts, next: first })
+    Ok(Encoded {
+        facts: if_wanted(alloc, wanted, dataset.base, facts),
+        next: first,
+    })
 }
 
 // The facts of the file of a dataset, whose nodes are numbered from `first` on, and the first number that is no node's.
 fn facts_of(
     alloc: Global,
     dataset: &Dataset,
+    wanted: &Wanted,
     bytes: &[u8],
     first: u64,
 ) -> Result<Encoded, FileError>
-    ensures { GivesFacts dataset.now.model dataset.now bytes.now first result }
+    ensures { GivesFacts dataset.now.model dataset.now wanted.now bytes.now first result }
 {
     match dataset.model {
-        DataModel::Table => facts_of_table(alloc, dataset, bytes, first),
-        DataModel::Documents => facts_of_documents(alloc, dataset, bytes, first),
-        DataModel::Keys => facts_of_keys(alloc, dataset, bytes, first),
+        DataModel::Table => facts_of_table(alloc, dataset, wanted, bytes, first),
+        DataModel::Documents => facts_of_documents(alloc, dataset, wanted, bytes, first),
+        DataModel::Keys => facts_of_keys(alloc, dataset, wanted, bytes, first),
     }
+}
+
+// The facts, and the others after them; nothing is moved where there is none before.
+fn joined(facts: Facts, others: Facts) -> Result<Facts, OutOfMemory>
+    ensures { IfOk result (λ it. it ≡ facts ++ others) }
+{
+    if facts.is_empty() {
+        return Ok(others);
+    }
+    let mut all = facts;
+    all.append(others)?;
+    Ok(all)
 }
 
 // What was loaded, and after it the facts of the file.
@@ -113,37 +137,55 @@ fn add_file(
     requires { file.now.dataset < length catalogue.now.datasets }
     ensures { AddsFile catalogue.now.datasets file.now loaded result }
 {
-    match load_dataset(alloc, catalogue, file.dataset, &file.bytes, loaded) {
+    match load_dataset(
+        alloc,
+        catalogue,
+        &Wanted::Every,
+        file.dataset,
+        &file.bytes,
+        loaded,
+    ) {
         Ok(more) => Ok(more),
         Err(FileError::Fault(fault)) => Err(LoadError::Fault(file.dataset, fault)),
         Err(FileError::OutOfMemory) => Err(LoadError::OutOfMemory),
     }
 }
 
-/// What was loaded, and after it the facts of the file of the dataset of that number, whose nodes are numbered from
-/// `next` on; or the file has a fault, and this is the first. OutOfMemory comes too where a node has no number of 64 bits.
+/// What was loaded, and after it, of the facts of the file of the dataset of that number, whose nodes are numbered from
+/// `next` on, those of the relations that are wanted, all of them and no others; or the file has a fault, and this is the
+/// first, whatever is wanted. OutOfMemory comes too where a node has no number of 64 bits.
 pub fn load_dataset(
     alloc: Global,
     catalogue: &Catalogue,
+    wanted: &Wanted,
     number: usize,
     bytes: &Bytes,
     loaded: Loaded,
 ) -> Result<Loaded, FileError>
     requires { number < length catalogue.now.datasets }
     ensures loaded { IfOk result (λ it. (files : List DatasetBytes)
-        → IsLoadedFrom catalogue.now.datasets files loaded
-        → IsLoadedFrom catalogue.now.datasets
+        → IsLoadedFrom catalogue.now.datasets wanted.now files loaded
+        → IsLoadedFrom catalogue.now.datasets wanted.now
         (files ++ record { dataset = number; bytes = bytes.now } ∷ []) it) }
     ensures fault { IfSome (slice_get catalogue.now.datasets number) (λ dataset.
         FindsFault (dataset_fault dataset bytes.now) result) }
 {
     let dataset = catalogue.datasets.item(number);
-    let own = facts_of(alloc, dataset, bytes.bytes(), loaded.next)?;
-    let mut facts = loaded.facts;
-    facts.append(own.facts)?;
+    let own = facts_of(alloc, dataset, wanted, bytes.bytes(), loaded.next)?;
+    let documents = lawful_bases(
+        alloc,
+        &dataset.model,
+        wanted,
+        dataset.base,
+        &loaded.documents,
+        loaded.facts.items(),
+        own.facts.items(),
+    )?;
+    let facts = joined(loaded.facts, own.facts)?;
     Ok(Loaded {
         facts,
         next: own.next,
+        documents,
     })
 }
 

@@ -1,5 +1,5 @@
 //! Laws of the facts of datasets and the rows of fragments.
-ghost use Rattle.esto_fill.specs.Laws.{AnswersRestOnDatasets, LoadedAreFlat, FactsStand, FactsAreOne, FaultsAreOne, ReadableHaveNone, AnswersAreOne};
+ghost use Rattle.esto_fill.specs.Laws.{AnswersRestOnDatasets, AnswersRestOnRelations, LoadedAreFlat, LoadedAreLawful, FactsStand, FactsAreOne, FaultsAreOne, ReadableHaveNone, AnswersAreOne};
 ghost use Rattle.esto_fill.specs.Laws.{UnionAnswersAreOne, JudgementsAreOne, FillsAreOne, AuditsAreOne, AuditsAreOverFiles, AgreeingAnswersAreTexts};
 ghost use Rattle.esto_fill.specs.Laws.{AgreeingAnswersAreOne};
 
@@ -9,6 +9,11 @@ use esto_semantics::databases_stand_for_facts;
 /// A law: what is loaded keeps what its description says.
 pub fn loaded_facts_are_flat()
     ensures { LoadedAreFlat }
+{}
+
+/// A law: what is loaded meets the rules of the documents from its bases on.
+pub fn loaded_documents_are_lawful()
+    ensures { LoadedAreLawful }
 {}
 
 /// A law: facts over constants and plain terms, as databases stand for facts, are stood for by the database in which a
@@ -39,6 +44,11 @@ pub fn outcomes_are_one()
 /// no other answers over the facts of all, it has none over the others.
 pub fn answers_rest_on_their_datasets()
     ensures { AnswersRestOnDatasets }
+{}
+
+/// A law: a query has the same answers over the facts of the relations that its body names as over all facts.
+pub fn answers_rest_on_their_relations()
+    ensures { AnswersRestOnRelations }
 {}
 
 /// A law: an audit of fragments' rows is one of the files of which they are the rows.

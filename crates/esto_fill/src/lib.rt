@@ -8,20 +8,24 @@ mod apart;
 mod auditing;
 mod datasets;
 mod filled;
+mod lawful;
 mod laws;
 mod loaded;
 mod record;
 mod rows;
+mod tried;
 mod views;
+mod wanted;
 
 pub use answering::{answer, answer_union};
 pub use auditing::{Difference, TextRowsList, audit};
 pub use datasets::{DatasetBytes, LoadError, LoadList, dataset_facts, load_dataset};
 pub use filled::{FillError, fill};
 pub use laws::{
-    agreeing_answers_are_one, answers_rest_on_their_datasets, audits_are_over_files,
-    facts_stand_as_databases, loaded_facts_are_flat, outcomes_are_one,
+    agreeing_answers_are_one, answers_rest_on_their_datasets, answers_rest_on_their_relations,
+    audits_are_over_files, facts_stand_as_databases, loaded_facts_are_flat, outcomes_are_one,
 };
 pub use loaded::{Loaded, nothing_loaded};
 pub use rows::AnswerError;
 pub use views::audit_views;
+pub use wanted::{Wanted, wanted_by_body, wanted_by_queries};

@@ -9,7 +9,7 @@ pub numbers-init : goal.numbers-init
 numbers-init g c = (
   refl,
   omega arith,
-  loading_starts (g.S.Shelf.files c.args.shelf.now) c.args.catalogue.now.datasets c.args.numbers.now (g.S.Shelf.asked c.args.shelf.now)
+  loading_starts (g.S.Shelf.files c.args.shelf.now) c.args.catalogue.now.datasets c.args.wanted.now c.args.numbers.now (g.S.Shelf.asked c.args.shelf.now)
       c.nothing_loaded-loaded.result c.nothing_loaded-loaded.ensures.facts c.nothing_loaded-loaded.ensures.next,
 )
 
@@ -18,14 +18,14 @@ returns-in_err-loaded-clause-answer g c =
     let stops = rw c.numbers.invariant.0 at c.in_err-loaded.ensures.answer in
     let items = c.items-number-items.result.now in
     let below : c.numbers.number-index < length c.args.numbers.now = omega (arith, c.numbers-test.true, ap length c.items-number-items.ensures) in
-    loading_exit (g.S.Shelf.files c.args.shelf.now) c.args.catalogue.now.datasets c.args.numbers.now _ c.from_residual.result c.from_residual.ensures.1
+    loading_exit (g.S.Shelf.files c.args.shelf.now) c.args.catalogue.now.datasets c.args.wanted.now c.args.numbers.now _ c.from_residual.result c.from_residual.ensures.1
     (end_stops (g.S.Shelf.faults c.args.shelf.now) (g.S.Shelf.faults c.numbers.shelf) (g.S.Shelf.faults c.load_next.new.shelf)
     (g.S.Shelf.faults c.load_next.new.shelf)
-    (loading_stops (g.S.Shelf.files c.args.shelf.now) c.args.catalogue.now.datasets c.args.numbers.now (g.S.Shelf.asked c.args.shelf.now)
+    (loading_stops (g.S.Shelf.files c.args.shelf.now) c.args.catalogue.now.datasets c.args.wanted.now c.args.numbers.now (g.S.Shelf.asked c.args.shelf.now)
     c.numbers.number-index c.numbers.loaded (g.S.Shelf.asked c.numbers.shelf) c.numbers.invariant.2 (get_or items c.numbers.number-index 0) below
     (number_read c.args.numbers.now items c.numbers.number-index c.items-number-items.ensures c.numbers-test.true) stops.0)
     c.numbers.invariant.1 c.in_err-loaded.ensures.later (omega arith))
-    (loading_stop_asks (g.S.Shelf.files c.args.shelf.now) c.args.catalogue.now.datasets c.args.numbers.now (g.S.Shelf.asked c.args.shelf.now)
+    (loading_stop_asks (g.S.Shelf.files c.args.shelf.now) c.args.catalogue.now.datasets c.args.wanted.now c.args.numbers.now (g.S.Shelf.asked c.args.shelf.now)
     c.numbers.number-index c.numbers.loaded (g.S.Shelf.asked c.numbers.shelf) c.numbers.invariant.2 (get_or items c.numbers.number-index 0) below
     (number_read c.args.numbers.now items c.numbers.number-index c.items-number-items.ensures c.numbers-test.true)
     (g.S.Shelf.asked c.load_next.new.shelf) _ stops.1)
@@ -37,7 +37,7 @@ numbers-preserved g c =
     let below : c.numbers.number-index < length c.args.numbers.now = omega (arith, c.numbers-test.true, ap length c.items-number-items.ensures) in (
       c.in_ok-loaded.ensures.files ∙ c.numbers.invariant.0,
       omega (arith, c.numbers.invariant.1, c.in_ok-loaded.ensures.later),
-      loading_goes (g.S.Shelf.files c.args.shelf.now) c.args.catalogue.now.datasets c.args.numbers.now (g.S.Shelf.asked c.args.shelf.now)
+      loading_goes (g.S.Shelf.files c.args.shelf.now) c.args.catalogue.now.datasets c.args.wanted.now c.args.numbers.now (g.S.Shelf.asked c.args.shelf.now)
           c.numbers.number-index c.numbers.loaded (g.S.Shelf.asked c.numbers.shelf) c.numbers.invariant.2 (get_or items c.numbers.number-index 0) below
           (number_read c.args.numbers.now items c.numbers.number-index c.items-number-items.ensures c.numbers-test.true)
           c.in_ok-loaded.loaded opens.0 opens.1 opens.2 (g.S.Shelf.asked c.load_next.new.shelf) opens.3,
@@ -46,5 +46,5 @@ numbers-preserved g c =
 pub returns-clause-answer : goal.returns-clause-answer
 returns-clause-answer g c =
     let le : length c.args.numbers.now ≤ c.numbers.number-index = omega (arith, c.numbers-test.false, ap length c.items-number-items.ensures) in
-    loading_ends (g.S.Shelf.files c.args.shelf.now) c.args.catalogue.now.datasets c.args.numbers.now (g.S.Shelf.asked c.args.shelf.now)
+    loading_ends (g.S.Shelf.files c.args.shelf.now) c.args.catalogue.now.datasets c.args.wanted.now c.args.numbers.now (g.S.Shelf.asked c.args.shelf.now)
     c.numbers.number-index c.numbers.loaded (g.S.Shelf.asked c.numbers.shelf) c.numbers.invariant.2 le (Rises g.S.Shelf.faults c.args.shelf.now c.numbers.shelf)

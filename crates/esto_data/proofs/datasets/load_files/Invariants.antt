@@ -5,5 +5,5 @@ use Rattle.esto_data.proofs.datasets.load_files.Given as goal
 abbrev pub invariant-numbers : goal.invariant-numbers
 invariant-numbers g l =
     (g.S.Shelf.files l.shelf ≡ g.S.Shelf.files l.initial.shelf) × (g.S.Shelf.faults l.initial.shelf ≤ g.S.Shelf.faults l.shelf)
-    × SoFarLoaded (g.S.Shelf.files l.initial.shelf) l.catalogue.datasets l.numbers (g.S.Shelf.asked l.initial.shelf) l.number-index l.loaded
+    × SoFarLoaded (g.S.Shelf.files l.initial.shelf) l.catalogue.datasets l.wanted l.numbers (g.S.Shelf.asked l.initial.shelf) l.number-index l.loaded
     (g.S.Shelf.asked l.shelf)

@@ -8,7 +8,7 @@ use Rattle.esto_fill.proofs.auditing.broken_rule.Goals as goal
 pub returns-in_default : goal.returns-in_default
 returns-in_default c =
     let met = rw c.in_default.is at c.in_ok-broken.ensures in
-    met_meets c.databases_stand_for_facts.ensures.rules c.args.facts.now (c.facts_stand_as_databases.ensures c.args.facts.now c.requires)
+    met_meets c.databases_stand_for_facts.ensures.rules c.args.facts.now (c.facts_stand_as_databases.ensures c.args.facts.now c.requires.flat)
     (rules_of c.args.rules.now) (are_rules c.rules_are_sound.ensures.rules c.args.rules.now) met
 
 pub item-rule-requires : goal.item-rule-requires
@@ -23,6 +23,6 @@ returns c =
     let rules = c.args.rules.now in
     let broken = rw c.in-Some.is at c.in_ok-broken.ensures in
     rule_broken c.databases_stand_for_facts.ensures.rules c.least_active_matches_are_least.ensures c.args.facts.now
-    (c.facts_stand_as_databases.ensures c.args.facts.now c.requires) rules (are_rules c.rules_are_sound.ensures.rules rules) c.in-Some.broken.rule
+    (c.facts_stand_as_databases.ensures c.args.facts.now c.requires.flat) rules (are_rules c.rules_are_sound.ensures.rules rules) c.in-Some.broken.rule
     c.in_ok-number.number c.item-rule.result.now c.in-Some.broken.found.valuation c.in-Some.broken.found.places c.in_ok-cells.cells c.in_ok-number.ensures
     c.item-rule.ensures broken c.in_ok-cells.ensures

@@ -3,5 +3,5 @@ use Rattle.esto_fill.proofs.datasets.facts_of_documents.Goals as goal
 
 pub returns : goal.returns
 returns c =
-    documents_give c.args.dataset.now c.args.bytes.now c.args.first c.in_ok-trees.trees c.in_ok-encoded.encoded c.in_ok-trees.ensures
-    c.in_ok-encoded.ensures.facts c.in_ok-encoded.ensures.next
+    documents_give c.args.dataset.now c.args.wanted.now c.args.bytes.now c.args.first c.in_ok-relations.relations c.in_ok-relations.ensures
+    c.encode_file.result c.encode_file.ensures

@@ -12,6 +12,7 @@ use Rattle.esto_views.specs.declared.fragments.FragmentDef.{FragmentDef}
 use Rattle.esto_fill.specs.Databases.{database_of}
 use Rattle.esto_fill.specs.Texts.{HaveTextsOnly, JudgesRows}
 use Rattle.esto_fill.proofs.TextLemmas.{all_texts, first_view, views_before}
+use Rattle.esto_fill.proofs.ConstantLemmas.{constant_views}
 use Rattle.esto_fill.proofs.views.audit_views.Goals as goal
 
 pub judge_view-requires : goal.judge_view-requires
@@ -42,3 +43,7 @@ pub returns : goal.returns
 returns c =
     all_texts c.args.catalogue.now.fragments c.items-fragment-items.result.now (database_of c.args.loaded.now.facts) c.items-fragment-items.ensures
     c.fragments.fragment-index c.fragments-test.false c.fragments.invariant
+
+pub returns-then-are_of_constants : goal.returns-then-are_of_constants
+returns-then-are_of_constants c = constant_views c.args.loaded.now.facts (rw c.items.ensures at (c.are_of_constants.ensures c.if-are_of_constants.true))
+    c.args.catalogue.now.fragments (λ query. (c.queries_are_sound.ensures query).query)
