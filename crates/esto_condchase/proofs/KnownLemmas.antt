@@ -4,15 +4,15 @@ use Rattle.std.proofs.Common.{refl, sym, ap, ◌∙◌, subst, arith}
 use Rattle.std.specs.List.{AllZip}
 use Rattle.std.proofs.lemmas.Bool.{cases_lt}
 use Rattle.std.proofs.lemmas.List.{get_or-set_other, get_or-set_same, get_or_default, length-set, nil_from_length, take_all}
-use Rattle.std.proofs.lemmas.List.Elements.{All-contains, Contains-append_cases, Contains-append_left, Contains-append_right, Contains-push, Contains-push_cases}
+use Rattle.std.proofs.lemmas.List.Elements.{Contains-append_left, Contains-push, Contains-push_cases}
 use Rattle.esto_term.specs.declared.term.Term.{Term}
 use Rattle.esto_term.proofs.ListLemmas.{Contains-nil, Contains-head, Contains-one}
 use Rattle.std.proofs.lemmas.Option.{same_Some}
 use Rattle.esto_term.proofs.PlaceLemmas.{take-item}
 use Rattle.esto_term.proofs.ZipLemmas.{zip_append, zip_split}
-use Rattle.esto_semantics.specs.Sets.{Within, Covers}
+use Rattle.esto_semantics.specs.Sets.{Covers}
 use Rattle.esto_semantics.specs.declared.fact.Fact.{Fact}
-use Rattle.esto_bits.specs.Kept.{AreOver, Kept, CoversAlso, CoversBoth, CoversEither}
+use Rattle.esto_bits.specs.Kept.{Kept, CoversBoth}
 use Rattle.esto_world_laws.specs.Claims.{AreSameClaim}
 use Rattle.esto_world_laws.specs.Matches.{IsLike, taken}
 use Rattle.esto_world_laws.specs.declared.entry.Claim.{Claim}
@@ -153,10 +153,10 @@ module _ (ones : List Reached) (place : ℕ) (below : place < length ones) (one 
     | inl before ↦ inr (at, omega (arith, before, below), sym (get_or-set_other ones place at own it (λ same. omega (arith, before, same))) ∙ read)
     | inr after ↦ elim (cases_lt place at) [
       | inl behind ↦ inr (
-          at,
-          omega (arith, within, length-set ones place own),
-          sym (get_or-set_other ones place at own it (λ same. omega (arith, behind, same))) ∙ read,
-        )
+        at,
+        omega (arith, within, length-set ones place own),
+        sym (get_or-set_other ones place at own it (λ same. omega (arith, behind, same))) ∙ read,
+      )
       | inr here ↦
           let same : at ≡ place = omega (arith, after, here) in
           inl (sym read ∙ ap (λ n. get_or put n it) same ∙ get_or-set_same ones place own it below)
@@ -166,16 +166,16 @@ module _ (ones : List Reached) (place : ℕ) (below : place < length ones) (one 
   to_put : (it : Reached) → Contains ones it → (it ≡ one) ⊎ Contains put it
   to_put it (at, within, read) = elim (cases_lt at place) [
     | inl before ↦ inr (
-        at,
-        omega (arith, within, length-set ones place own),
-        get_or-set_other ones place at own it (λ same. omega (arith, before, same)) ∙ read,
-      )
+      at,
+      omega (arith, within, length-set ones place own),
+      get_or-set_other ones place at own it (λ same. omega (arith, before, same)) ∙ read,
+    )
     | inr after ↦ elim (cases_lt place at) [
       | inl behind ↦ inr (
-          at,
-          omega (arith, within, length-set ones place own),
-          get_or-set_other ones place at own it (λ same. omega (arith, behind, same)) ∙ read,
-        )
+        at,
+        omega (arith, within, length-set ones place own),
+        get_or-set_other ones place at own it (λ same. omega (arith, behind, same)) ∙ read,
+      )
       | inr here ↦
           let same : at ≡ place = omega (arith, after, here) in
           inl (sym read ∙ ap (λ n. get_or ones n it) same ∙ get_or_default ones place it one below ∙ is)
@@ -201,11 +201,11 @@ module _ (ones : List Reached) (place : ℕ) (below : place < length ones) (one 
     (λ which. elim which [
       | inl (it, inside, to_is, covers) ↦ elim (to_put it inside) [
         | inl its ↦ (
-            own,
-            own_put,
-            same ∙ ap (λ (them : Reached). them.to) (sym its) ∙ to_is,
-            (by set).1 (inl (subst (λ (them : Reached). Covers them.by.sets set) its covers)),
-          )
+          own,
+          own_put,
+          same ∙ ap (λ (them : Reached). them.to) (sym its) ∙ to_is,
+          (by set).1 (inl (subst (λ (them : Reached). Covers them.by.sets set) its covers)),
+        )
         | inr there ↦ (it, there, to_is, covers)
       ]
       | inr (to_is, covers, others_cover) ↦ (own, own_put, same ∙ to_is, (by set).1 (inr (covers, others_cover)))

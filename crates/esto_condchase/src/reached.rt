@@ -210,9 +210,7 @@ fn steps_from(
         ⊎ StepsFrom knowns.now from.now these.now atom.now one.now to set)) }
 {
     'knowns: for known in knowns {
-        step_with(
-            alloc, knowns, from, these, atom, one, known, count, later,
-        )?;
+        step_with(alloc, knowns, from, these, atom, one, known, count, later)?;
     }
     Ok(())
 }
@@ -236,9 +234,7 @@ pub fn next(
 {
     let mut later = Vec::new(alloc);
     'ones: for one in ones {
-        steps_from(
-            alloc, knowns, from, these, atom, one, count, &mut later,
-        )?;
+        steps_from(alloc, knowns, from, these, atom, one, count, &mut later)?;
     }
     Ok(List::from_vec(later))
 }

@@ -1,4 +1,4 @@
-use Rattle.std.proofs.Common.{◌∙◌, refl}
+use Rattle.std.proofs.Common.{◌∙◌}
 use Rattle.esto_condchase.proofs.KnownLemmas.{reach_new, reached_more}
 use Rattle.esto_condchase.proofs.reached.add_new.Goals as goal
 

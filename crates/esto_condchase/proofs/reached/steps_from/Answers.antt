@@ -29,5 +29,5 @@ knowns-preserved c = record {
 pub returns-clause-reach : goal.returns-clause-reach
 returns-clause-reach c to set =
     gathers_over_all (λ (key : List Term × List Bool) (known : KnownBy). StepsWith c.args.knowns.now c.args.from.now c.args.these.now c.args.atom.now
-      c.args.one.now known key.0 key.1) c.args.knowns.now (λ key. Reach c.args.later.now.items key.0 key.1) c.knowns.known-index
+    c.args.one.now known key.0 key.1) c.args.knowns.now (λ key. Reach c.args.later.now.items key.0 key.1) c.knowns.known-index
     (λ key. Reach c.knowns.later.items key.0 key.1) c.knowns-test.false c.knowns.invariant.gathers (to, set)
