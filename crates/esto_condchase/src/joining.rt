@@ -203,9 +203,7 @@ fn join_each(
         → IsUnionMet entries.now since (entries.now ++ more.new) first second from.now to.now) }
 {
     'firsts: for first in firsts {
-        join_one(
-            alloc, entries, since, *first, seconds, from, to, sets, more,
-        )?;
+        join_one(alloc, entries, since, *first, seconds, from, to, sets, more)?;
     }
     Ok(())
 }
@@ -450,9 +448,7 @@ fn join_groups(
     ensures joined { OnOk result (AreJoined entries.now (entries.now ++ more.new)) }
 {
     'firsts: for (number, first) in groups.items().iter().enumerate() {
-        join_group(
-            alloc, entries, groups, since, number, first, count, more,
-        )?;
+        join_group(alloc, entries, groups, since, number, first, count, more)?;
     }
     Ok(())
 }

@@ -165,12 +165,7 @@ fn new_group(alloc: Global, key: u64, count: usize) -> Group {
 }
 
 /// The group of one way.
-fn begun(
-    alloc: Global,
-    key: u64,
-    place: usize,
-    product: &RowBits,
-) -> Result<Group, OutOfMemory> {
+fn begun(alloc: Global, key: u64, place: usize, product: &RowBits) -> Result<Group, OutOfMemory> {
     let mut group = new_group(alloc, key, product.count());
     put_way(alloc, place, product, &mut group)?;
     Ok(group)

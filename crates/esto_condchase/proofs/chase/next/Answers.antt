@@ -16,15 +16,15 @@ add_all-requires-clause-asked c entry inside =
 pub returns-clause-grown : goal.returns-clause-grown
 returns-clause-grown c =
     let follow = λ (entry : Entry) (inside : Contains c.items.result.now entry).
-        asked_follows_on (rules_of c.args.rules.now) c.args.count c.args.entries.now c.in_ok-asked.asked c.in_ok-asked.ensures.grows entry
-        (subst (λ it. Contains it entry) c.items.ensures inside) in
+    asked_follows_on (rules_of c.args.rules.now) c.args.count c.args.entries.now c.in_ok-asked.asked c.in_ok-asked.ensures.grows entry
+    (subst (λ it. Contains it entry) c.items.ensures inside) in
     on_ok_weaker c.add_all.result (λ grown. (c.items.result.now, grown (rules_of c.args.rules.now) follow)) c.add_all.ensures.grown
 
 pub returns-clause-answered : goal.returns-clause-answered
 returns-clause-answered c =
     let follow = λ (entry : Entry) (inside : Contains c.items.result.now entry).
-        asked_follows_on (rules_of c.args.rules.now) c.args.count c.args.entries.now c.in_ok-asked.asked c.in_ok-asked.ensures.grows entry
-        (subst (λ it. Contains it entry) c.items.ensures inside) in
+    asked_follows_on (rules_of c.args.rules.now) c.args.count c.args.entries.now c.in_ok-asked.asked c.in_ok-asked.ensures.grows entry
+    (subst (λ it. Contains it entry) c.items.ensures inside) in
     on_ok_weaker c.add_all.result
     (λ grown atoms number rule at chosen matches claim asks. covered_grown (rules_of c.args.rules.now) c.args.count c.args.entries.now c.items.result.now
     c.add_all.new.entries (grown (rules_of c.args.rules.now) follow) atoms claim
@@ -34,8 +34,8 @@ returns-clause-answered c =
 pub returns-clause-joined : goal.returns-clause-joined
 returns-clause-joined c =
     let follow = λ (entry : Entry) (inside : Contains c.items.result.now entry).
-        asked_follows_on (rules_of c.args.rules.now) c.args.count c.args.entries.now c.in_ok-asked.asked c.in_ok-asked.ensures.grows entry
-        (subst (λ it. Contains it entry) c.items.ensures inside) in
+    asked_follows_on (rules_of c.args.rules.now) c.args.count c.args.entries.now c.in_ok-asked.asked c.in_ok-asked.ensures.grows entry
+    (subst (λ it. Contains it entry) c.items.ensures inside) in
     on_ok_weaker c.add_all.result
     (λ grown atoms term next other one two. covered_grown (rules_of c.args.rules.now) c.args.count c.args.entries.now c.items.result.now
     c.add_all.new.entries (grown (rules_of c.args.rules.now) follow) atoms (Same term other)

@@ -7,8 +7,8 @@ use Rattle.esto_condchase.proofs.joining.has_new.Goals as goal
 pub returns-then-place-since-clause-new : goal.returns-then-place-since-clause-new
 returns-then-place-since-clause-new c _ old =
     let below = old (get_or c.args.places.now c.places.place-index 0) (Contains-read c.args.places.now c.places.place-index
-        (get_or c.args.places.now c.places.place-index 0) c.places-test.true
-        (get_or_default c.args.places.now c.places.place-index 0 (get_or c.args.places.now c.places.place-index 0) c.places-test.true)) in
+    (get_or c.args.places.now c.places.place-index 0) c.places-test.true
+    (get_or_default c.args.places.now c.places.place-index 0 (get_or c.args.places.now c.places.place-index 0) c.places-test.true)) in
     let above = c.if-place-since.true in omega (arith, below, above)
 
 pub places-preserved : goal.places-preserved

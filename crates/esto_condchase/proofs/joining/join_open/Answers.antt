@@ -18,7 +18,7 @@ pub join_each-requires-clause-meet : goal.join_each-requires-clause-meet
 join_each-requires-clause-meet c place other inside inside_too =
     let given = (subst (λ it. AreOpen c.args.entries.now c.args.sets.now.sets it c.in_ok-firsts.firsts) c.items.ensures c.in_ok-firsts.ensures).of_given in
     let given_too =
-        (subst (λ it. AreOpen c.args.entries.now c.args.sets.now.sets it c.in_ok-seconds.seconds) c.items-2.ensures c.in_ok-seconds.ensures).of_given in
+    (subst (λ it. AreOpen c.args.entries.now c.args.sets.now.sets it c.in_ok-seconds.seconds) c.items-2.ensures c.in_ok-seconds.ensures).of_given in
     places_meet c.args.entries.now c.args.first.now c.args.second.now c.args.from.now c.args.to.now c.requires.first c.requires.second c.requires.meet
     place other (given place (subst (λ it. Contains it place) c.items-4.ensures inside))
     (given_too other (subst (λ it. Contains it other) c.items-5.ensures inside_too))
