@@ -10,7 +10,7 @@ use Rattle.esto_term.specs.declared.term.Term.TheVariants.{Const, Plain}
 use Rattle.esto_term.proofs.PlaceLemmas.{drop-item, drop-there}
 use Rattle.esto_semantics.specs.declared.fact.Fact.{Fact}
 use Rattle.esto_docmodel.specs.DocumentFacts.{DocFact, root, field, item, value, below, flat}
-use Rattle.esto_docmodel.specs.Encodings.{size, entering, belows, holding, facts_from, is_kept, kept, kept_of, end, step_atoms, atoms}
+use Rattle.esto_docmodel.specs.Encodings.{size, entering, belows, holding, facts_from, every, is_kept, kept, kept_of, end, step_atoms, atoms}
 use Rattle.esto_docmodel.specs.Patterns.{done}
 use Rattle.esto_docmodel.specs.Forests.{Label, name, place, Forest, none, kid, Node, node}
 use Rattle.esto_docmodel.specs.Putting.{fact_over, turned, node_facts}
@@ -107,15 +107,18 @@ pub all_put : (relations : Kept) → AreAllKept relations → (facts : List (Doc
     → new ≡ old ++ kept relations facts → new ≡ map (flat relations.base) facts
 all_put relations each facts old new empty put = put ∙ ap (λ (w : List (Fact Term)). w ++ kept relations facts) empty ∙ all_kept relations each facts
 
-abbrev pub every : ℕ → Kept
-every base = record { base = base; root = true; field = true; item = true; value = true; below = true }
-
 pub every_kept : (base : ℕ) → AreAllKept (every base)
 every_kept base (root n) = refl
 every_kept base (field p k n) = refl
 every_kept base (item p n) = refl
 every_kept base (value n t) = refl
 every_kept base (below a n) = refl
+
+pub every_put : (base : ℕ) (relations : Kept) (facts : List (DocFact Term)) (old new : List (Fact Term)) → relations ≡ every base → old ≡ []
+    → new ≡ old ++ kept relations facts → new ≡ map (flat base) facts
+every_put base relations facts old new is empty put =
+    all_put relations (subst AreAllKept (sym is) (every_kept base)) facts old new empty put
+    ∙ ap (λ (it : Kept). map (flat it.base) facts) is
 
 -- ---- a node
 

@@ -16,3 +16,4 @@ pub mod LayoutLemmas
 pub mod MentionLemmas
 pub mod MatchLemmas
 pub mod VariableLemmas
+pub mod DocumentLemmas

@@ -1,5 +1,5 @@
 -- The facts of documents, and the atoms of a pattern.
-use Rattle.std.specs.Prelude.{ℕ, Bool, suc, ◌+◌, List, [], ◌∷◌, ◌++◌, filter, length, map, Option, Some, None}
+use Rattle.std.specs.Prelude.{ℕ, Bool, true, suc, ◌+◌, List, [], ◌∷◌, ◌++◌, filter, length, map, Option, Some, None}
 use Rattle.esto_term.specs.declared.term.Term.{Term}
 use Rattle.esto_term.specs.declared.term.Term.TheVariants.{Const, Plain}
 use Rattle.esto_semantics.specs.declared.fact.Fact.{Fact}
@@ -43,6 +43,10 @@ facts_from above n (kid label content inside rest) =
 -- The facts of documents, numbered from `first`, in the five relations from the base on.
 abbrev pub facts_of : ℕ → ℕ → Forest → List (Fact Term)
 facts_of base first forest = map (flat base) (facts_from [] first forest)
+
+-- All five relations are kept, from the base on.
+abbrev pub every : ℕ → Kept
+every base = record { base = base; root = true; field = true; item = true; value = true; below = true }
 
 -- Whether the fact is of one of the five relations that are kept.
 abbrev pub is_kept : Kept → DocFact Term → Bool

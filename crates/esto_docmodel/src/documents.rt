@@ -1,6 +1,9 @@
 //! The encoding of documents.
 ghost use Rattle.std.specs.Prelude.{◌≡◌, ◌≤◌, ◌+◌, suc, [], ◌∷◌, ◌++◌, map, IfOk, OnOk};
-ghost use Rattle.esto_docmodel.specs.Encodings.{facts_from, facts_of, kept, kept_of, size};
+ghost use Rattle.esto_constraint.specs.EncodingRules.{document_rules_2};
+ghost use Rattle.esto_constraint.specs.Matches.{AreMet};
+ghost use Rattle.esto_docmodel.specs.Encodings.{every, facts_from, facts_of, kept, kept_of, size};
+ghost use Rattle.esto_docmodel.specs.Meanings.{HaveRootsOnTop};
 ghost use Rattle.esto_docmodel.specs.Putting.{Encodes, turned, node_facts};
 ghost use Rattle.esto_docmodel.specs.Rising.{IsRising, AreRising};
 ghost use Rattle.esto_docmodel.specs.Shapes.{shape, row, named_row, shaped_field, documents};
@@ -8,7 +11,7 @@ ghost use Rattle.esto_docmodel.specs.Shapes.{shape, row, named_row, shaped_field
 use crate::encode::{Encoded, LAST_BASE, after};
 use crate::kept::Kept;
 use crate::nodes::{put_belows, put_field, put_item, put_root, put_value, with_node};
-use crate::tree::{Fields, Tree};
+use crate::tree::{Fields, Tree, Trees};
 use esto_semantics::Facts;
 use esto_term::{List, OutOfMemory, Values};
 use std::alloc::Global;
@@ -152,15 +155,19 @@ pub fn encode_document(
     Ok(())
 }
 
-/// All five relations, from 0 on.
-const EVERY: Kept = Kept {
-    base: 0,
-    root: true,
-    field: true,
-    item: true,
-    value: true,
-    below: true,
-};
+/// All five relations, from the base on.
+fn every(base: usize) -> Kept
+    ensures { result ≡ every base }
+{
+    Kept {
+        base,
+        root: true,
+        field: true,
+        item: true,
+        value: true,
+        below: true,
+    }
+}
 
 /// The facts of a document, with numbers and relations from 0 on.
 pub fn document_facts(alloc: Global, tree: &Tree) -> Result<Facts, OutOfMemory>
@@ -168,6 +175,44 @@ pub fn document_facts(alloc: Global, tree: &Tree) -> Result<Facts, OutOfMemory>
     ensures rising { OnOk result (AreRising (tree.now ∷ [])) }
 {
     let mut facts = List::new(alloc);
-    put_document(alloc, &mut facts, &EVERY, tree, 0)?;
+    put_document(alloc, &mut facts, &every(0), tree, 0)?;
     Ok(facts)
+}
+
+/// Puts the facts of documents, one after another.
+fn put_documents(
+    alloc: Global,
+    encoded: &mut Encoded,
+    relations: &Kept,
+    trees: &[Tree],
+) -> Result<(), OutOfMemory>
+    ensures { OnOk result (Encodes relations.now trees.now encoded.old encoded.new) }
+{
+    'trees: for tree in trees {
+        encode_document(alloc, encoded, relations, tree)?;
+    }
+    Ok(())
+}
+
+/// The facts of documents in the five relations from the base on: root, field, item, value and below. Nodes are numbered
+/// in preorder from `next` on, documents, fields and items in order, and the answer's `next` is the first number that is
+/// not used. The facts of a node follow one another: how it is entered, what it stands below from the document down, and
+/// what it holds. They meet the rules of documents, and no node that stands below another is a document. OutOfMemory
+/// comes too where a relation or a node has no number of 64 bits.
+pub fn encode_documents(
+    alloc: Global,
+    base: usize,
+    trees: &Trees,
+    next: u64,
+) -> Result<Encoded, OutOfMemory>
+    ensures facts { IfOk result (λ it. it.facts ≡ facts_of base next (documents trees.now)) }
+    ensures next { IfOk result (λ it. it.next ≡ next + size (documents trees.now)) }
+    ensures rising { OnOk result (AreRising trees.now) }
+    ensures rules { IfOk result (λ it. AreMet it.facts (document_rules_2 base)) }
+    ensures roots { IfOk result (λ it. HaveRootsOnTop base it.facts) }
+{
+    let facts = List::new(alloc);
+    let mut encoded = Encoded { facts, next };
+    put_documents(alloc, &mut encoded, &every(base), trees.items())?;
+    Ok(encoded)
 }

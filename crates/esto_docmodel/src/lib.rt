@@ -15,7 +15,7 @@ mod nodes;
 mod pattern;
 mod tree;
 
-pub use documents::encode_document;
+pub use documents::{encode_document, encode_documents};
 pub use encode::{Encoded, EncodedAtoms, encode_pattern};
 pub use field::FieldOf;
 pub use kept::Kept;

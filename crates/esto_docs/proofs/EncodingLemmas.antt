@@ -1,33 +1,24 @@
 -- Documents encoded one after another.
-use Rattle.std.proofs.Common.{◌≡◌, ℕ, ◌+◌, ◌<◌, List, [], ◌∷◌, ◌++◌, take, length, get_or, sym, ap, ◌∙◌, subst, arith, append-nil}
+use Rattle.std.proofs.Common.{◌≡◌, ℕ, ◌+◌, ◌<◌, List, [], ◌∷◌, ◌++◌, take, length, get_or, sym, ap, ◌∙◌, subst, arith}
 use Rattle.serde_json.specs.View.{view, items_view}
 use Rattle.serde_json.specs.declared.value.Value.{Value}
 use Rattle.esto_semantics.specs.declared.fact.Fact.{Fact}
 use Rattle.esto_term.specs.declared.term.Term.{Term}
-use Rattle.esto_docmodel.specs.Encodings.{facts_from, kept, kept_of, size}
+use Rattle.esto_docmodel.specs.Encodings.{kept_of}
 use Rattle.esto_docmodel.specs.Putting.{Encodes}
 use Rattle.esto_docmodel.specs.Shapes.{documents}
 use Rattle.esto_docmodel.specs.declared.encode.Encoded.{Encoded}
 use Rattle.esto_docmodel.specs.declared.kept.Kept.{Kept}
 use Rattle.esto_docmodel.specs.declared.tree.Tree.{Tree}
-use Rattle.esto_docmodel.proofs.EncodeLemmas.{kept-append, rising_append, row_append, size_append}
+use Rattle.esto_docmodel.proofs.DocumentLemmas.{kept_append}
+use Rattle.esto_docmodel.proofs.EncodeLemmas.{rising_append, size_append}
 use Rattle.esto_docs.proofs.TreeLemmas.{trees_more}
 use Rattle.esto_docs.specs.Encoding.{AreEncoded}
 use Rattle.esto_docs.specs.Trees.{tree_of, trees_of}
 
-kept_append : (relations : Kept) (first : ℕ) (trees more : List Tree) → kept_of relations first (documents (trees ++ more))
-    ≡ kept_of relations first (documents trees) ++ kept_of relations (first + size (documents trees)) (documents more)
-kept_append relations first trees more =
-    ap (kept relations) (row_append trees more first)
-    ∙ kept-append relations (facts_from [] first (documents trees)) (facts_from [] (first + size (documents trees)) (documents more))
-
 -- no documents
 pub none_encoded : (relations : Kept) (first : ℕ) (encoded : Encoded) → encoded.facts ≡ [] → encoded.next ≡ first → AreEncoded relations first [] encoded
 none_encoded relations first encoded empty next = record { facts = empty; next = omega (arith, next); rising = tt }
-
--- no documents more
-pub none_more : (relations : Kept) (encoded : Encoded) → Encodes relations [] encoded encoded
-none_more relations encoded = record { facts = sym (append-nil encoded.facts); next = omega arith; rising = tt }
 
 -- more documents after those that are encoded
 pub encoded_more : (relations : Kept) (first : ℕ) (trees more : List Tree) (old new : Encoded) → AreEncoded relations first trees old
