@@ -1,13 +1,16 @@
 -- What is covered, and entries that are added where it is not.
-use Rattle.std.proofs.Common.{◌≡◌, ◌⊎◌, inl, inr, ℕ, ◌+◌, ◌<◌, Bool, List, [], ◌∷◌, ◌++◌, length, take, get_or, Contains, refl, sym, ap, ◌∙◌, subst}
+use Rattle.std.proofs.Common.{◌≡◌, ◌⊎◌, inl, inr, ℕ, ◌+◌, ◌<◌, ◌≤◌, Bool, List, [], ◌∷◌, ◌++◌, length, take, get_or, slice_get, Some, arith, Contains, refl, sym, ap, ◌∙◌, subst}
+use Rattle.std.proofs.Common.{ltb, true}
+use Rattle.std.proofs.lemmas.Bool.Decides.{nat_tests}
+use Rattle.std.proofs.lemmas.Option.{slice_get_within}
 use Rattle.std.proofs.lemmas.List.{append_assoc, append-nil}
 use Rattle.std.proofs.lemmas.List.Elements.{Contains-append_cases, Contains-append_left, Contains-append_right, Contains-push, Contains-push_cases}
 use Rattle.esto_semantics.specs.Rules.{Rule}
 use Rattle.esto_semantics.specs.Sets.{Within}
 use Rattle.esto_views.specs.declared.expansion.ExpandedFact.{ExpandedFact}
 use Rattle.esto_term.specs.declared.term.Term.{Term}
-use Rattle.esto_term.proofs.ListLemmas.{Contains-nil}
-use Rattle.esto_term.proofs.PlaceLemmas.{take-item}
+use Rattle.esto_term.proofs.ListLemmas.{Contains-nil, Contains-at, place-from_Contains}
+use Rattle.esto_term.proofs.PlaceLemmas.{take-item, item_at}
 use Rattle.esto_world_laws.specs.Matches.{Touching}
 use Rattle.esto_world_laws.specs.Worlds.{InWorld, AreOfCount}
 use Rattle.esto_world_laws.specs.Claims.{AreSameClaim}
@@ -18,8 +21,15 @@ use Rattle.esto_world_laws.specs.declared.entry.Claim.TheVariants.{Fact as State
 use Rattle.esto_world_laws.specs.declared.entry.Reason.{Reason}
 use Rattle.esto_world_laws.specs.declared.entry.Entry.{Entry}
 use Rattle.esto_world_laws.proofs.GrowLemmas.{InWorld-more, InWorld-within, IsCovered-more, Follows-append, AreDerived-push}
-use Rattle.esto_condchase.specs.Rounds.{IsAdded, IsNoted, IsTrivial, IsThere, IsFollowing, AsksMore, IsGrownBy}
+use Rattle.esto_condchase.specs.Rounds.{IsAdded, IsNoted, IsTrivial, IsThere, IsFollowing, AsksMore, IsAddedAt, IsGrownBy, IsGrownIn}
+use Rattle.esto_condchase.specs.Turns.{AreTurnsOf}
+use Rattle.esto_condchase.specs.declared.turns.Turn.{Turn}
 use Rattle.esto_known.specs.Indexes.{CoversClaim}
+
+-- what is read at a place stands there
+pub read_at : {X : Type 0} (items : List X) (place : ℕ) (item : X) → true ≡ ltb place (length items) → item ≡ get_or items place item
+    → slice_get items place ≡ Some item
+read_at items place item inside at = item_at items place item (grind (arith, nat_tests)) at
 
 -- ---- covered
 
@@ -176,34 +186,74 @@ module _ (entries later : List Entry) (entry : Entry) (added : IsAdded entries e
         (AreDerived-push expanded rules entries entry derived (record { follows = follows; uncovered = new.0 }))
   ]
 
-pub grown_none : (rules : List Rule) (count : ℕ) (entries : List Entry) → IsGrownBy rules count entries [] entries
-grown_none rules count entries = record {
+pub grown_none : (rules : List Rule) (count : ℕ) (entries asked : List Entry) → IsGrownIn rules count entries asked [] entries
+grown_none rules count entries asked = record {
   more = ([], sym (append-nil entries));
   derived = λ expanded derived. derived;
-  there = λ entry inside. absurd (Contains-nil entry inside);
+  there = λ turn entry inside. absurd (Contains-nil turn inside);
 }
 
-module _ (rules : List Rule) (count : ℕ) (entries asked : List Entry) (place : ℕ) (entry : Entry) (inside : place < length asked)
-    (is : entry ≡ get_or asked place entry) (current later : List Entry)
-    (added : IsAdded current entry.claim entry.product entry.reason later) (follows : IsFollowing rules count entries entry)
-    (so_far : IsGrownBy rules count entries (take place asked) current) where
-  its : (others : List Entry) × (later ≡ current ++ others)
-  its = added_more current later entry added
+pub added_at_counted : (entries asked later : List Entry) (place count : ℕ) → ((entry : Entry) → Contains asked entry → length entry.product ≡ count)
+    → IsAddedAt entries asked place later → AreOfCount count entries → AreOfCount count later
+added_at_counted entries asked later place count counted (inl (entry, at, added)) counts =
+    added_counted entries later entry added count (counted entry (Contains-at asked place entry at)) counts
+added_at_counted entries asked later place count counted (inr (past, same)) counts = subst (AreOfCount count) (sym same) counts
 
-  pub grown_turn : IsGrownBy rules count entries (take (place + 1) asked) later
-  grown_turn = record {
+-- one turn more
+module _ (rules : List Rule) (count : ℕ) (entries asked : List Entry)
+    (follow : (entry : Entry) → Contains asked entry → IsFollowing rules count entries entry) (turns : List Turn) (place : ℕ) (turn : Turn)
+    (inside : place < length turns) (is : turn ≡ get_or turns place turn) (current later : List Entry)
+    (so_far : IsGrownIn rules count entries asked (take place turns) current) where
+  turn_added : (entry : Entry) → slice_get asked turn.place ≡ Some entry → IsAdded current entry.claim entry.product entry.reason later
+      → IsGrownIn rules count entries asked (take (place + 1) turns) later
+  turn_added entry at added = record {
     more = (so_far.more.0 ++ its.0, its.1 ∙ ap (λ it. it ++ its.0) so_far.more.1 ∙ append_assoc entries so_far.more.0 its.0);
     derived = λ expanded derived. added_derived current later entry added expanded rules
         (subst (λ it. Follows expanded rules it entry.claim entry.product entry.reason) (sym so_far.more.1)
-        (Follows-append entries so_far.more.0 expanded rules entry.claim entry.product entry.reason (follows.follows expanded)))
+        (Follows-append entries so_far.more.0 expanded rules entry.claim entry.product entry.reason
+        ((follow entry (Contains-at asked turn.place entry at)).follows expanded)))
         (so_far.derived expanded derived);
-    there = λ own asks. elim (Contains-push_cases (take place asked) entry own
-        (subst (λ it. Contains it own) (take-item asked place entry inside is) asks)) [
-          | inl earlier ↦ subst (λ it. IsThere it own.claim own.product) (sym its.1)
-              (there_more current its.0 own.claim own.product (so_far.there own earlier))
-          | inr same ↦ subst (λ (it : Entry). IsThere later it.claim it.product) same (added_there current later entry added)
+    there = λ own asks in_turns read. elim (Contains-push_cases (take place turns) turn own
+        (subst (λ it. Contains it own) (take-item turns place turn inside is) in_turns)) [
+          | inl earlier ↦ subst (λ it. IsThere it asks.claim asks.product) (sym its.1)
+              (there_more current its.0 asks.claim asks.product (so_far.there own asks earlier read))
+          | inr same ↦
+              let both : Some entry ≡ Some asks = sym at ∙ ap (λ (it : Turn). slice_get asked it.place) same ∙ read in
+              let one : entry ≡ asks = cc in
+              subst (λ (it : Entry). IsThere later it.claim it.product) one (added_there current later entry added)
         ];
   }
+    where
+      its : (others : List Entry) × (later ≡ current ++ others)
+      its = added_more current later entry added
+
+  turn_past : length asked ≤ turn.place → later ≡ current → IsGrownIn rules count entries asked (take (place + 1) turns) later
+  turn_past past same = subst (IsGrownIn rules count entries asked (take (place + 1) turns)) (sym same) (record {
+    more = so_far.more;
+    derived = so_far.derived;
+    there = λ own asks in_turns read. elim (Contains-push_cases (take place turns) turn own
+        (subst (λ it. Contains it own) (take-item turns place turn inside is) in_turns)) [
+          | inl earlier ↦ so_far.there own asks earlier read
+          | inr it ↦ absurd (let within = slice_get_within asked own.place asks read in
+              let at = ap (λ (its : Turn). its.place) it in omega (arith, within, past, at))
+        ];
+  })
+
+  pub grown_turn : IsAddedAt current asked turn.place later → IsGrownIn rules count entries asked (take (place + 1) turns) later
+  grown_turn (inl (entry, at, added)) = turn_added entry at added
+  grown_turn (inr (past, same)) = turn_past past same
+
+-- in all turns
+pub grown_all : (rules : List Rule) (count : ℕ) (entries asked : List Entry) (turns : List Turn) (later : List Entry) → AreTurnsOf (length asked) turns
+    → IsGrownIn rules count entries asked turns later → IsGrownBy rules count entries asked later
+grown_all rules count entries asked turns later all grown = record {
+  more = grown.more;
+  derived = grown.derived;
+  there = λ entry inside.
+      let at = place-from_Contains asked entry inside in
+      let turn = all at.0 (slice_get_within asked at.0 entry at.1) in
+      grown.there turn.0 entry turn.1 (ap (slice_get asked) turn.2 ∙ at.1);
+}
 
 -- what is covered by the entries and what was asked for is covered by the later ones
 pub covered_grown : (rules : List Rule) (count : ℕ) (entries asked later : List Entry) → IsGrownBy rules count entries asked later

@@ -1,8 +1,6 @@
 -- What links ask for.
 use Rattle.std.proofs.Common.{◌≡◌, ◌⊎◌, ◌↔◌, ◌<◌, ◌≤◌, ◌+◌, inl, inr, ℕ, Bool, true, false, List, [], ◌∷◌, ◌++◌, length, take, get_or, slice_get, Contains, Some, refl}
 use Rattle.std.proofs.Common.{sym, ap, ◌∙◌, subst, arith}
-use Rattle.std.proofs.Common.{ltb}
-use Rattle.std.proofs.lemmas.Bool.Decides.{nat_tests}
 use Rattle.std.proofs.lemmas.Bool.{cases_order}
 use Rattle.std.proofs.lemmas.List.{take_all}
 use Rattle.std.proofs.lemmas.List.Elements.{Contains-append_cases, Contains-append_left, Contains-append_right, Contains-push, Contains-push_cases}
@@ -99,11 +97,6 @@ group_tells entries groups group it term other is are inside says set covers =
     says_touching entries found.0 set term other found.1 found.3 (says_alike found.0.claim group.claim term other found.2 says)
 
 -- ---- one union
-
--- what is read at a place stands there
-pub read_there : {X : Type 0} (items : List X) (place : ℕ) (item : X) → true ≡ ltb place (length items) → item ≡ get_or items place item
-    → slice_get items place ≡ Some item
-read_there items place item inside at = item_at items place item (grind (arith, nat_tests)) at
 
 one_place : (entries : List Entry) (place : ℕ) (entry : Entry) → slice_get entries place ≡ Some entry → IsUnion entries (place ∷ []) entry.product
 one_place entries place entry at = record {

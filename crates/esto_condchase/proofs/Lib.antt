@@ -1,4 +1,5 @@
 pub mod MeetLemmas
+pub mod TurnLemmas
 pub mod CoverLemmas
 pub mod RoundLemmas
 pub mod JoinLemmas

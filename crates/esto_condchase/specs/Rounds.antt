@@ -1,5 +1,5 @@
 -- What a round adds.
-use Rattle.std.specs.Prelude.{◌≡◌, ◌⊎◌, ◌↔◌, ◌<◌, ℕ, Bool, List, [], ◌∷◌, ◌++◌, length, Contains, Some, slice_get}
+use Rattle.std.specs.Prelude.{◌≡◌, ◌⊎◌, ◌↔◌, ◌<◌, ◌≤◌, ℕ, Bool, List, [], ◌∷◌, ◌++◌, length, Contains, Some, slice_get}
 use Rattle.esto_term.specs.declared.term.Term.{Term}
 use Rattle.esto_semantics.specs.Rules.{Rule, tuple, equality, denial, body_of}
 use Rattle.esto_semantics.specs.declared.fact.Fact.{Fact}
@@ -17,6 +17,7 @@ use Rattle.esto_world_laws.specs.declared.entry.Reason.TheVariants.{Expanded}
 use Rattle.esto_world_laws.specs.declared.entry.Entry.{Entry}
 use Rattle.esto_known.specs.Indexes.{CoversClaim}
 use Rattle.esto_known.specs.declared.group.Group.{Group}
+use Rattle.esto_condchase.specs.declared.turns.Turn.{Turn}
 use Rattle.esto_condchase.specs.declared.ways.Way.{Way}
 
 -- The later list has one entry more, which was not covered, or none, and then the claim was covered.
@@ -50,6 +51,18 @@ pub record IsGrownBy (rules : List Rule) (count : ℕ) (entries asked later : Li
   pub more : (others : List Entry) × (later ≡ entries ++ others)
   pub derived : (expanded : List ExpandedFact) → AreDerived expanded rules entries → AreDerived expanded rules later
   pub there : (entry : Entry) → Contains asked entry → IsThere later entry.claim entry.product
+
+-- The entry at the place is added to the entries, if there is one.
+abbrev pub IsAddedAt : List Entry → List Entry → ℕ → List Entry → Type 0
+IsAddedAt entries asked place later =
+    ((entry : Entry) × (slice_get asked place ≡ Some entry) × IsAdded entries entry.claim entry.product entry.reason later)
+    ⊎ ((length asked ≤ place) × (later ≡ entries))
+
+-- The later entries are the earlier ones, and perhaps others after them, which follow; and they cover what was asked for in these turns.
+pub record IsGrownIn (rules : List Rule) (count : ℕ) (entries asked : List Entry) (turns : List Turn) (later : List Entry) : Type 0 where
+  pub more : (others : List Entry) × (later ≡ entries ++ others)
+  pub derived : (expanded : List ExpandedFact) → AreDerived expanded rules entries → AreDerived expanded rules later
+  pub there : (turn : Turn) (entry : Entry) → Contains turns turn → slice_get asked turn.place ≡ Some entry → IsThere later entry.claim entry.product
 
 -- The entry is that of the expanded fact: it states the fact, its product is the fact's atom alone, and its reason names the atom and the fact's place.
 pub record IsEntryOf (fact : ExpandedFact) (entry : Entry) : Type 0 where

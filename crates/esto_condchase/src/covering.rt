@@ -5,8 +5,9 @@ ghost use Rattle.esto_world_laws.specs.Steps.{IsCovered};
 ghost use Rattle.esto_world_laws.specs.Worlds.{InWorld, AreOfCount};
 ghost use Rattle.esto_world_laws.specs.declared.entry.Claim.TheVariants.{Same};
 ghost use Rattle.esto_world_laws.specs.declared.entry.Entry.{Entry};
-ghost use Rattle.esto_condchase.specs.Rounds.{IsAdded, IsTrivial, IsFollowing, IsGrownBy};
+ghost use Rattle.esto_condchase.specs.Rounds.{IsAdded, IsAddedAt, IsTrivial, IsFollowing, IsGrownBy, IsGrownIn};
 
+use crate::turns::{Turn, turns_of};
 use esto_bits::RowBits;
 use esto_known::Known;
 use esto_term::{OutOfMemory, Replicate, Term};
@@ -56,7 +57,47 @@ pub fn add(alloc: Global, entries: &mut Known, entry: &Entry) -> Result<(), OutO
     Ok(())
 }
 
-/// Adds what is asked for and follows, where the entries do not cover it.
+/// Adds the entry of which it is the turn, unless the entries cover it.
+fn add_at(
+    alloc: Global,
+    entries: &mut Known,
+    asked: &[Entry],
+    turn: &Turn,
+    count: usize,
+) -> Result<(), OutOfMemory>
+    requires counts { AreOfCount count entries.old }
+    requires asked { (entry : Entry) → Contains asked.now entry → length entry.product ≡ count }
+    ensures { OnOk result (IsAddedAt entries.old asked.now turn.now.place entries.new) }
+{
+    let Some(entry) = asked.get(turn.place) else {
+        return Ok(());
+    };
+    add(alloc, entries, entry)?;
+    Ok(())
+}
+
+/// Adds what is asked for and follows, in these turns, where the entries do not cover it.
+fn add_in(
+    alloc: Global,
+    entries: &mut Known,
+    asked: &[Entry],
+    turns: &[Turn],
+    count: usize,
+) -> Result<(), OutOfMemory>
+    requires counts { AreOfCount count entries.old }
+    requires asked { (entry : Entry) → Contains asked.now entry → length entry.product ≡ count }
+    ensures counted { OnOk result (AreOfCount count entries.new) }
+    ensures grown { OnOk result ((rules : List Rule)
+        → ((entry : Entry) → Contains asked.now entry → IsFollowing rules count entries.old entry)
+        → IsGrownIn rules count entries.old asked.now turns.now entries.new) }
+{
+    'turns: for turn in turns {
+        add_at(alloc, entries, asked, turn, count)?;
+    }
+    Ok(())
+}
+
+/// Adds what is asked for and follows, small products first, where the entries do not cover it.
 pub fn add_all(
     alloc: Global,
     entries: &mut Known,
@@ -70,8 +111,6 @@ pub fn add_all(
         → ((entry : Entry) → Contains asked.now entry → IsFollowing rules count entries.old entry)
         → IsGrownBy rules count entries.old asked.now entries.new) }
 {
-    'asked: for entry in asked {
-        add(alloc, entries, entry)?;
-    }
-    Ok(())
+    let turns = turns_of(alloc, asked)?;
+    add_in(alloc, entries, asked, turns.as_slice(), count)
 }

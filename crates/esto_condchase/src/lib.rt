@@ -17,6 +17,7 @@ mod reached;
 mod rounds;
 mod steps;
 mod touching;
+mod turns;
 mod ways;
 
 pub use chase::chase_with_products;
