@@ -135,13 +135,14 @@ fn rounds(
 /// those of the rules' relations.
 ///
 /// Each round goes through the matches of all rules among the entries that stood when it began, modulo equalities, but for
-/// those that use none of the last round's, and adds what they ask for and no entry covers; an equality is an entry of its
-/// own and replaces nothing. A denial asks for nothing. The chase ends after a round that added nothing. Each expanded fact of an atom is a fact of each world that has
-/// the atom. Each world is closed: it meets each rule that is no denial, where linked terms count as one. It is sound: every
-/// database that meets the rules and receives the facts of the set's atoms receives the world. Where no two different
-/// constants are one in it and no denial's body has a match, it is a database that meets the rules; else no such database
-/// receives the set's facts. A term of a fact nests no deeper than the rank of the fact's relation. Source: the backchase
-/// with provenance (Ileana, Cautis, Deutsch and Katsis 2014).
+/// those that use none of the last round's, and through the links that meet; it adds what they ask for and no entry covers,
+/// small products first. An equality is an entry of its own and replaces nothing. A denial asks for nothing. The chase ends
+/// after a round that added nothing. Each expanded fact of an atom is a fact of each world that has the atom. Each world is
+/// closed: it meets each rule that is no denial, where linked terms count as one. It is sound: every database that meets the
+/// rules and receives the facts of the set's atoms receives the world. Where no two different constants are one in it and no
+/// denial's body has a match, it is a database that meets the rules; else no such database receives the set's facts. A term
+/// of a fact nests no deeper than the rank of the fact's relation. Source: the backchase with provenance (Ileana, Cautis,
+/// Deutsch and Katsis 2014).
 pub fn chase_with_products(
     alloc: Global,
     facts: &ExpandedFacts,

@@ -7,7 +7,7 @@ use Rattle.esto_condchase.proofs.joining.join_at.Goals as goal
 pub returns-then-has_new-clause-met : goal.returns-then-has_new-clause-met
 returns-then-has_new-clause-met c other at =
     let both : Some c.in-Some.second.now ≡ Some other = sym (subst (λ its. slice_get its c.args.place ≡ Some c.in-Some.second.now) c.items.ensures
-        (read_at c.items.result.now c.args.place c.in-Some.second.now c.in-Some.ensures.lookup.0 c.in-Some.ensures.lookup.1)) ∙ at in
+    (read_at c.items.result.now c.args.place c.in-Some.second.now c.in-Some.ensures.lookup.0 c.in-Some.ensures.lookup.1)) ∙ at in
     let same : c.in-Some.second.now ≡ other = cc in
     subst (λ it. IsSideMet c.args.entries.now c.args.since (c.args.entries.now ++ c.args.more.now) c.args.number c.args.first.now.claim c.args.place it
     c.args.from.now c.args.via.now) same
@@ -16,7 +16,7 @@ returns-then-has_new-clause-met c other at =
 pub returns-in_default-claim-clause-met : goal.returns-in_default-claim-clause-met
 returns-in_default-claim-clause-met c other at =
     let both : Some c.in-Some.second.now ≡ Some other = sym (subst (λ its. slice_get its c.args.place ≡ Some c.in-Some.second.now) c.items.ensures
-        (read_at c.items.result.now c.args.place c.in-Some.second.now c.in-Some.ensures.lookup.0 c.in-Some.ensures.lookup.1)) ∙ at in
+    (read_at c.items.result.now c.args.place c.in-Some.second.now c.in-Some.ensures.lookup.0 c.in-Some.ensures.lookup.1)) ∙ at in
     let same : c.in-Some.second.now ≡ other = cc in
     subst (λ it. IsSideMet c.args.entries.now c.args.since (c.args.entries.now ++ c.args.more.now) c.args.number c.args.first.now.claim c.args.place it
     c.args.from.now c.args.via.now) same
@@ -30,7 +30,7 @@ returns-clause-asks c rules = AsksMore-then rules c.args.count c.args.entries.no
 pub returns-clause-met : goal.returns-clause-met
 returns-clause-met c other at =
     let both : Some c.in-Some.second.now ≡ Some other = sym (subst (λ its. slice_get its c.args.place ≡ Some c.in-Some.second.now) c.items.ensures
-        (read_at c.items.result.now c.args.place c.in-Some.second.now c.in-Some.ensures.lookup.0 c.in-Some.ensures.lookup.1)) ∙ at in
+    (read_at c.items.result.now c.args.place c.in-Some.second.now c.in-Some.ensures.lookup.0 c.in-Some.ensures.lookup.1)) ∙ at in
     let same : c.in-Some.second.now ≡ other = cc in
     subst (λ it. IsSideMet c.args.entries.now c.args.since (c.args.entries.now ++ c.join_met-2.new.more) c.args.number c.args.first.now.claim c.args.place it
     c.args.from.now c.args.via.now) same

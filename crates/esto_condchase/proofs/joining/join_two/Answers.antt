@@ -9,7 +9,7 @@ pub add-requires : goal.add-requires
 add-requires c =
     let at = read_at c.args.entries.now c.args.first c.in-Some.one.now c.in-Some.ensures.lookup.0 c.in-Some.ensures.lookup.1 in
     let at_other = read_at c.args.entries.now c.args.second c.in-Some-get.two.now c.in-Some-get.ensures.lookup.0
-        c.in-Some-get.ensures.lookup.1 in
+    c.in-Some-get.ensures.lookup.1 in
     ap length c.in_ok-product.ensures ∙ (union_count c.args.entries.now c.args.first c.args.second c.in-Some.one.now c.in-Some-get.two.now c.args.from.now c.args.to.now at at_other
     (c.requires.meet c.in-Some.one.now c.in-Some-get.two.now at at_other)
     c.args.sets.now.count c.requires.counts).1
@@ -22,7 +22,7 @@ pub returns-then-not-branch-clause-met : goal.returns-then-not-branch-clause-met
 returns-then-not-branch-clause-met c =
     let at = read_at c.args.entries.now c.args.first c.in-Some.one.now c.in-Some.ensures.lookup.0 c.in-Some.ensures.lookup.1 in
     let at_other = read_at c.args.entries.now c.args.second c.in-Some-get.two.now c.in-Some-get.ensures.lookup.0
-        c.in-Some-get.ensures.lookup.1 in
+    c.in-Some-get.ensures.lookup.1 in
     union_met c.args.entries.now c.args.first c.args.second c.in-Some.one.now c.in-Some-get.two.now c.args.from.now c.args.to.now at at_other
     (c.requires.meet c.in-Some.one.now c.in-Some-get.two.now at at_other)
     c.args.since (c.args.entries.now ++ c.args.more.now) c.args.sets.now.sets c.requires.tell
@@ -36,7 +36,7 @@ pub returns-clause-asks : goal.returns-clause-asks
 returns-clause-asks c =
     let at = read_at c.args.entries.now c.args.first c.in-Some.one.now c.in-Some.ensures.lookup.0 c.in-Some.ensures.lookup.1 in
     let at_other = read_at c.args.entries.now c.args.second c.in-Some-get.two.now c.in-Some-get.ensures.lookup.0
-        c.in-Some-get.ensures.lookup.1 in
+    c.in-Some-get.ensures.lookup.1 in
     on_ok_weaker c.push.result
     (λ is rules. pushed_asks rules c.args.sets.now.count c.args.entries.now c.args.more.now c.push.new.self c.in_ok-linked.field-0 is
     (union_following c.args.entries.now c.args.first c.args.second c.in-Some.one.now c.in-Some-get.two.now c.args.from.now c.args.to.now at at_other
@@ -48,7 +48,7 @@ pub returns-clause-met : goal.returns-clause-met
 returns-clause-met c =
     let at = read_at c.args.entries.now c.args.first c.in-Some.one.now c.in-Some.ensures.lookup.0 c.in-Some.ensures.lookup.1 in
     let at_other = read_at c.args.entries.now c.args.second c.in-Some-get.two.now c.in-Some-get.ensures.lookup.0
-        c.in-Some-get.ensures.lookup.1 in
+    c.in-Some-get.ensures.lookup.1 in
     on_ok_weaker c.push.result
     (λ is. union_met c.args.entries.now c.args.first c.args.second c.in-Some.one.now c.in-Some-get.two.now c.args.from.now c.args.to.now at at_other
     (c.requires.meet c.in-Some.one.now c.in-Some-get.two.now at at_other)
