@@ -30,10 +30,11 @@ use Rattle.esto_world_laws.proofs.ClosedLemmas.{choose, touching, Fits-linked}
 use Rattle.esto_world_laws.proofs.LinkLemmas.{Linked-touching, Touching-back}
 use Rattle.esto_world_laws.proofs.SoundLemmas.{rows_split}
 use Rattle.esto_world_laws.proofs.TakenLemmas.{taken_cases, taken-Const, taken-stays, Fits-join}
-use Rattle.esto_condchase.specs.Products.{AreKnown, AreTouching, Reach, Steps, IsFirst, IsNext}
+use Rattle.esto_known.specs.Groups.{AreGroups}
+use Rattle.esto_condchase.specs.Products.{AreTouching, Reach, Steps, IsFirst, IsNext}
 use Rattle.esto_known.specs.Indexes.{CoversClaim}
 use Rattle.esto_condchase.specs.Ways.{Tell}
-use Rattle.esto_condchase.specs.declared.known.KnownBy.{KnownBy}
+use Rattle.esto_known.specs.declared.group.Group.{Group}
 use Rattle.esto_condchase.specs.declared.reached.Reached.{Reached}
 use Rattle.esto_condchase.proofs.CoverLemmas.{covers_covered}
 use Rattle.esto_condchase.proofs.WayLemmas.{taken-new}
@@ -156,7 +157,7 @@ module _ (Holds : Claim → Type 0) (from to these : List Term) (rest : List (Fa
     (λ (chosen, are, row). (chosen, are, subst (AllZip (Touching Holds) (terms_of chosen)) (sym (told_row chosen)) row)),
   )
 
--- ---- what is known
+-- ---- what is group
 
 says_alike : (one other : Claim) → AreSameClaim one other → (s t : Term) → SaysOne one s t → SaysOne other s t
 says_alike (Stated fact) other alike s t (inl is) = cc
@@ -181,35 +182,35 @@ states_alike fact one claim is alike = by claim (subst (λ it. AreSameClaim it c
     by (Stated other) same = ap Stated (sym same)
     by (Same left right) never = absurd never
 
-module _ (entries : List Entry) (knowns : List KnownBy) (are_known : AreKnown entries knowns) (set : List Bool) where
-  pub touching_to : (s t : Term) → AreTouching knowns set s t → Touching (InWorld entries set) s t
+module _ (entries : List Entry) (groups : List Group) (are_groups : AreGroups entries groups) (set : List Bool) where
+  pub touching_to : (s t : Term) → AreTouching groups set s t → Touching (InWorld entries set) s t
   touching_to s t (inl is) = inl is
-  touching_to s t (inr (known, inside, (inl is), covers)) =
-      covers_covered entries (Same s t) set (subst (λ it. CoversClaim entries it set) is ((are_known.exact known inside set).0 covers))
-  touching_to s t (inr (known, inside, (inr is), covers)) =
+  touching_to s t (inr (group, inside, (inl is), covers)) =
+      covers_covered entries (Same s t) set (subst (λ it. CoversClaim entries it set) is (((are_groups.each group inside).exact set).0 covers))
+  touching_to s t (inr (group, inside, (inr is), covers)) =
       Touching-back (InWorld entries set) t s (covers_covered entries (Same t s) set (subst (λ it. CoversClaim entries it set) is
-      ((are_known.exact known inside set).0 covers)))
+      (((are_groups.each group inside).exact set).0 covers)))
 
-  by_entry : (entry : Entry) → Contains entries entry → Within entry.product set → (s t : Term) → SaysOne entry.claim s t → AreTouching knowns set s t
+  by_entry : (entry : Entry) → Contains entries entry → Within entry.product set → (s t : Term) → SaysOne entry.claim s t → AreTouching groups set s t
   by_entry entry inside within s t says =
-      let (known, in_knowns, alike) = are_known.all entry inside in
-      inr (known, in_knowns, says_alike entry.claim known.claim alike s t says, (are_known.exact known in_knowns set).1 (entry, inside, alike, within))
+      let (group, in_groups, alike) = are_groups.all entry inside in
+      inr (group, in_groups, says_alike entry.claim group.claim alike s t says, ((are_groups.each group in_groups).exact set).1 (entry, inside, alike, within))
 
-  pub touching_from : (s t : Term) → Touching (InWorld entries set) s t → AreTouching knowns set s t
+  pub touching_from : (s t : Term) → Touching (InWorld entries set) s t → AreTouching groups set s t
   touching_from s t (inl is) = inl is
   touching_from s t (inr (inl (entry, inside, within, is))) = by_entry entry inside within s t (inl is)
   touching_from s t (inr (inr (entry, inside, within, is))) = by_entry entry inside within s t (inr is)
 
-  pub fact_to : (known : KnownBy) → Contains knowns known → (fact : Fact Term) → known.claim ≡ Stated fact → Covers known.by.sets set
+  pub fact_to : (group : Group) → Contains groups group → (fact : Fact Term) → group.claim ≡ Stated fact → Covers group.by.sets set
       → InWorld entries set (Stated fact)
-  fact_to known inside fact is covers =
-      covers_covered entries (Stated fact) set (subst (λ it. CoversClaim entries it set) is ((are_known.exact known inside set).0 covers))
+  fact_to group inside fact is covers =
+      covers_covered entries (Stated fact) set (subst (λ it. CoversClaim entries it set) is (((are_groups.each group inside).exact set).0 covers))
 
   pub fact_from : (fact : Fact Term) → InWorld entries set (Stated fact)
-      → (known : KnownBy) × Contains knowns known × (known.claim ≡ Stated fact) × Covers known.by.sets set
+      → (group : Group) × Contains groups group × (group.claim ≡ Stated fact) × Covers group.by.sets set
   fact_from fact (entry, inside, within, is) =
-      let (known, in_knowns, alike) = are_known.all entry inside in
-      (known, in_knowns, states_alike fact entry.claim known.claim is alike, (are_known.exact known in_knowns set).1 (entry, inside, alike, within))
+      let (group, in_groups, alike) = are_groups.all entry inside in
+      (group, in_groups, states_alike fact entry.claim group.claim is alike, ((are_groups.each group in_groups).exact set).1 (entry, inside, alike, within))
 
 -- ---- what is reached leads on
 
@@ -220,9 +221,9 @@ Leads entries from body ones set = (to : List Term) × Reach ones to set × Goes
 abbrev pub AreLong : List Term → List Reached → Type 0
 AreLong from ones = (to : List Term) (set : List Bool) → Reach ones to set → length from ≡ length to
 
-module _ (entries : List Entry) (knowns : List KnownBy) (are_known : AreKnown entries knowns) (atom : Fact Term) (rest : List (Fact Term)) (from : List Term)
+module _ (entries : List Entry) (groups : List Group) (are_groups : AreGroups entries groups) (atom : Fact Term) (rest : List (Fact Term)) (from : List Term)
     (ones : List Reached) (lengths : AreLong from ones) (later_from : List Term) (later : List Reached)
-    (next : IsNext knowns atom rest from ones later_from later) where
+    (next : IsNext groups atom rest from ones later_from later) where
   abbrev longer : List Term
   longer = from ++ atom.terms
 
@@ -231,23 +232,23 @@ module _ (entries : List Entry) (knowns : List KnownBy) (are_known : AreKnown en
 
   pub lengths_turn : AreLong later_from later
   lengths_turn to set reach =
-      let (one, inside, (known, in_knowns, (fact, states, like, (to_is, covers, covers_known, row)))) = (next.1 to set).0 reach in
+      let (one, inside, (group, in_groups, (fact, states, like, (to_is, covers, covers_known, row)))) = (next.1 to set).0 reach in
       sym (ap length to_is ∙ length-map later_from (taken longer (one.to ++ fact.terms)))
 
   pub leads_turn : (set : List Bool) → Leads entries later_from rest later set ↔ Leads entries from (atom ∷ rest) ones set
   leads_turn set = (
     (λ (to, reach, goes).
-        let (one, inside, (known, in_knowns, (fact, states, like, (to_is, covers, covers_known, row)))) = (next.1 to set).0 reach in
+        let (one, inside, (group, in_groups, (fact, states, like, (to_is, covers, covers_known, row)))) = (next.1 to set).0 reach in
         let l = lengths one.to set (one, inside, refl, covers) in
         let on = (goes_told (InWorld entries set) longer (one.to ++ fact.terms) later_from rest (longer_lengths one.to fact l like.1) next.0).0
         (subst (λ it. GoesOn (InWorld entries set) later_from it rest) to_is goes) in (
           one.to,
           (one, inside, refl, covers),
-          go_join (InWorld entries set) from one.to l atom rest fact (fact_to entries knowns are_known set known in_knowns fact states covers_known) (
+          go_join (InWorld entries set) from one.to l atom rest fact (fact_to entries groups are_groups set group in_groups fact states covers_known) (
             like.0,
             like.1,
-            zip_weaker (AreTouching knowns set) (Touching (InWorld entries set)) fact.terms (map (taken longer (one.to ++ fact.terms)) atom.terms)
-                (λ s t _ one. touching_to entries knowns are_known set s t one) row,
+            zip_weaker (AreTouching groups set) (Touching (InWorld entries set)) fact.terms (map (taken longer (one.to ++ fact.terms)) atom.terms)
+                (λ s t _ one. touching_to entries groups are_groups set s t one) row,
             on,
           ),
         )),
@@ -255,15 +256,15 @@ module _ (entries : List Entry) (knowns : List KnownBy) (are_known : AreKnown en
         let l = lengths one.to set (one, inside, refl, covers) in
         let (fact, holds, (relation, same, row, on)) = go_split (InWorld entries set) from one.to l atom rest
         (subst (λ it. GoesOn (InWorld entries set) from it (atom ∷ rest)) (sym is) goes) in
-        let (known, in_knowns, states, covers_known) = fact_from entries knowns are_known set fact holds in
+        let (group, in_groups, states, covers_known) = fact_from entries groups are_groups set fact holds in
         let own : List Term = map (taken longer (one.to ++ fact.terms)) later_from in (
           own,
           (next.1 own set).1 (
             one,
             inside,
             (
-              known,
-              in_knowns,
+              group,
+              in_groups,
               (
                 fact,
                 states,
@@ -272,8 +273,8 @@ module _ (entries : List Entry) (knowns : List KnownBy) (are_known : AreKnown en
                   refl,
                   covers,
                   covers_known,
-                  zip_weaker (Touching (InWorld entries set)) (AreTouching knowns set) fact.terms (map (taken longer (one.to ++ fact.terms)) atom.terms)
-                      (λ s t _ one. touching_from entries knowns are_known set s t one) row,
+                  zip_weaker (Touching (InWorld entries set)) (AreTouching groups set) fact.terms (map (taken longer (one.to ++ fact.terms)) atom.terms)
+                      (λ s t _ one. touching_from entries groups are_groups set s t one) row,
                 ),
               ),
             ),
@@ -284,8 +285,8 @@ module _ (entries : List Entry) (knowns : List KnownBy) (are_known : AreKnown en
 
 -- ---- the begin: the head with the targets
 
-module _ (entries : List Entry) (knowns : List KnownBy) (are_known : AreKnown entries knowns) (head : List Term) (body : List (Fact Term)) (targets : List Term)
-    (heads : length targets ≡ length head) (joined : AreJoined entries entries) (ones : List Reached) (first : IsFirst knowns head targets ones) where
+module _ (entries : List Entry) (groups : List Group) (are_groups : AreGroups entries groups) (head : List Term) (body : List (Fact Term)) (targets : List Term)
+    (heads : length targets ≡ length head) (joined : AreJoined entries entries) (ones : List Reached) (first : IsFirst groups head targets ones) where
   pub first_lengths : AreLong head ones
   first_lengths to set reach = sym (ap length ((first to set).0 reach).0 ∙ heads)
 
@@ -313,8 +314,8 @@ module _ (entries : List Entry) (knowns : List KnownBy) (are_known : AreKnown en
         let (is, row) = (first to set).0 reach in
         let (chosen, are, rest) : GoesOn Holds head targets body = subst (λ it. GoesOn Holds head it body) is goes in
         is_match chosen are (Fits-join (Touching Holds) head targets (sym heads) (terms_of body) (terms_of chosen)
-        (zip_weaker (AreTouching knowns set) (Touching Holds) targets (map (taken head targets) head)
-        (λ s t _ one. touching_to entries knowns are_known set s t one) row) rest)
+        (zip_weaker (AreTouching groups set) (Touching Holds) targets (map (taken head targets) head)
+        (λ s t _ one. touching_to entries groups are_groups set s t one) row) rest)
 
     first_led : HasMatch Holds head body targets → Leads entries head body ones set
     first_led (val, keeps, sends, fits) =
@@ -327,9 +328,9 @@ module _ (entries : List Entry) (knowns : List KnownBy) (are_known : AreKnown en
         Fits-linked Holds val keeps (head ++ terms_of body) (targets ++ terms_of chosen) all in
         let parts = zip_split (Linked Holds) targets (terms_of chosen) (map m head) (map m (terms_of body)) (heads ∙ sym (length-map head m))
         (subst (AllZip (Linked Holds) (targets ++ terms_of chosen)) (map-append m head (terms_of body)) linked) in
-        let row : AllZip (AreTouching knowns set) targets (map (taken head targets) head) =
-        zip_weaker (Linked Holds) (AreTouching knowns set) targets (map (taken head targets) head)
-        (λ term other _ one. touching_from entries knowns are_known set term other (touching (joined set) term other one))
+        let row : AllZip (AreTouching groups set) targets (map (taken head targets) head) =
+        zip_weaker (Linked Holds) (AreTouching groups set) targets (map (taken head targets) head)
+        (λ term other _ one. touching_from entries groups are_groups set term other (touching (joined set) term other one))
         (Fits-linked Holds val keeps head targets fits) in (
           targets,
           (first targets set).1 (refl, row),
@@ -360,28 +361,28 @@ pub record LedSoFar (entries : List Entry) (head : List Term) (body : List (Fact
   pub leads : (set : List Bool) → Leads entries from (drop place body) ones set ↔ HasMatch (InWorld entries set) head body targets
   pub lengths : AreLong from ones
 
-pub led_first : (entries : List Entry) (knowns : List KnownBy) → AreKnown entries knowns → (head : List Term) (body : List (Fact Term)) (targets : List Term)
-    → length targets ≡ length head → AreJoined entries entries → (from : List Term) (ones : List Reached) → from ≡ head → IsFirst knowns head targets ones
+pub led_first : (entries : List Entry) (groups : List Group) → AreGroups entries groups → (head : List Term) (body : List (Fact Term)) (targets : List Term)
+    → length targets ≡ length head → AreJoined entries entries → (from : List Term) (ones : List Reached) → from ≡ head → IsFirst groups head targets ones
     → LedSoFar entries head body targets 0 from ones
-led_first entries knowns are_known head body targets heads joined from ones is first = rw is record {
-  leads = leads_first entries knowns are_known head body targets heads joined ones first;
-  lengths = first_lengths entries knowns are_known head body targets heads joined ones first;
+led_first entries groups are_groups head body targets heads joined from ones is first = rw is record {
+  leads = leads_first entries groups are_groups head body targets heads joined ones first;
+  lengths = first_lengths entries groups are_groups head body targets heads joined ones first;
 }
 
-pub led_turn : (entries : List Entry) (knowns : List KnownBy) → AreKnown entries knowns → (head : List Term) (body : List (Fact Term)) (targets : List Term)
+pub led_turn : (entries : List Entry) (groups : List Group) → AreGroups entries groups → (head : List Term) (body : List (Fact Term)) (targets : List Term)
     (place : ℕ) (atom : Fact Term) (rest : List (Fact Term)) (from : List Term) (ones : List Reached) (later_from : List Term) (later : List Reached)
     → place < length body → atom ≡ get_or body place atom → rest ≡ drop (place + 1) body → LedSoFar entries head body targets place from ones
-    → IsNext knowns atom rest from ones later_from later → LedSoFar entries head body targets (place + 1) later_from later
-led_turn entries knowns are_known head body targets place atom rest from ones later_from later within is rest_is so_far next =
-    let own : IsNext knowns atom (drop (place + 1) body) from ones later_from later = subst (λ it. IsNext knowns atom it from ones later_from later) rest_is next in
-    let turn = leads_turn entries knowns are_known atom (drop (place + 1) body) from ones so_far.lengths later_from later own in
+    → IsNext groups atom rest from ones later_from later → LedSoFar entries head body targets (place + 1) later_from later
+led_turn entries groups are_groups head body targets place atom rest from ones later_from later within is rest_is so_far next =
+    let own : IsNext groups atom (drop (place + 1) body) from ones later_from later = subst (λ it. IsNext groups atom it from ones later_from later) rest_is next in
+    let turn = leads_turn entries groups are_groups atom (drop (place + 1) body) from ones so_far.lengths later_from later own in
     let split : drop place body ≡ atom ∷ drop (place + 1) body = drop-item body place atom within is in
     record {
       leads = λ set. (
         (λ leads. (so_far.leads set).0 (subst (λ it. Leads entries from it ones set) (sym split) ((turn set).0 leads))),
         (λ matched. (turn set).1 (subst (λ it. Leads entries from it ones set) split ((so_far.leads set).1 matched))),
       );
-      lengths = lengths_turn entries knowns are_known atom (drop (place + 1) body) from ones so_far.lengths later_from later own;
+      lengths = lengths_turn entries groups are_groups atom (drop (place + 1) body) from ones so_far.lengths later_from later own;
     }
 
 pub led_all : (entries : List Entry) (head : List Term) (body : List (Fact Term)) (targets : List Term) (place : ℕ) (from : List Term) (ones items : List Reached)
@@ -399,17 +400,17 @@ led_all entries head body targets place from ones items sets past same so_far ex
           (exact set).1 (one, subst (λ it. Contains it one) (sym same) inside, its)),
     )
 
-pub next_from : (knowns : List KnownBy) (atom : Fact Term) (rest : List (Fact Term)) (from : List Term) (ones : List Reached)
+pub next_from : (groups : List Group) (atom : Fact Term) (rest : List (Fact Term)) (from : List Term) (ones : List Reached)
     (copied grown items live live_items these these_items again : List Term) (its_ones later : List Reached)
     → copied ≡ atom.terms → grown ≡ from ++ copied → items ≡ grown → live ≡ terms_of rest → live_items ≡ live → Tell items live_items these
     → again ≡ grown → these_items ≡ these → its_ones ≡ ones
-    → ((to : List Term) (set : List Bool) → Reach later to set ↔ Steps knowns again these_items atom its_ones to set)
-    → IsNext knowns atom rest from ones these later
-next_from knowns atom rest from ones copied grown items live live_items these these_items again its_ones later copied_is grown_is items_are live_is live_same tell
+    → ((to : List Term) (set : List Bool) → Reach later to set ↔ Steps groups again these_items atom its_ones to set)
+    → IsNext groups atom rest from ones these later
+next_from groups atom rest from ones copied grown items live live_items these these_items again its_ones later copied_is grown_is items_are live_is live_same tell
     again_is these_same ones_same steps =
     let all : grown ≡ from ++ atom.terms = grown_is ∙ ap (λ it. from ++ it) copied_is in (
       subst (λ it. Tell it (terms_of rest) these) (items_are ∙ all) (subst (λ it. Tell items it these) (live_same ∙ live_is) tell),
-      (λ to set. subst (λ it. Reach later to set ↔ Steps knowns it these atom ones to set) (again_is ∙ all)
-          (subst (λ it. Reach later to set ↔ Steps knowns again it atom ones to set) these_same
-          (subst (λ it. Reach later to set ↔ Steps knowns again these_items atom it to set) ones_same (steps to set)))),
+      (λ to set. subst (λ it. Reach later to set ↔ Steps groups it these atom ones to set) (again_is ∙ all)
+          (subst (λ it. Reach later to set ↔ Steps groups again it atom ones to set) these_same
+          (subst (λ it. Reach later to set ↔ Steps groups again these_items atom it to set) ones_same (steps to set)))),
     )

@@ -8,7 +8,6 @@ mod covered;
 mod covering;
 mod joining;
 mod kept;
-mod known;
 mod live;
 mod news;
 mod passing;

@@ -7,13 +7,13 @@ ghost use Rattle.esto_world_laws.specs.Laws.{HasMatch};
 ghost use Rattle.esto_world_laws.specs.Matches.{taken};
 ghost use Rattle.esto_world_laws.specs.Steps.{AreJoined};
 ghost use Rattle.esto_world_laws.specs.Worlds.{InWorld, AreOfCount};
-ghost use Rattle.esto_condchase.specs.Products.{AreKnownOf, AreReachedOf, AreTouching, IsNext, IsFirst};
+ghost use Rattle.esto_condchase.specs.Products.{AreGroupsOf, AreReachedOf, AreTouching, IsNext, IsFirst};
 
 use crate::covered::telling;
-use crate::known::{KnownBy, knowns_of};
 use crate::reached::{Reached, next, sets_of_all};
 use crate::touching::touch_all;
 use esto_bits::{Products, RowBits};
+use esto_known::Groups;
 use esto_prov::{taken_terms, terms_of};
 use esto_semantics::Atom;
 use esto_term::{List, OutOfMemory, Replicate, Term, Terms};
@@ -34,20 +34,20 @@ fn copied(alloc: Global, terms: &[Term]) -> Result<Terms, OutOfMemory>
 /// The targets, which the head is to meet, by the minimal sets in whose worlds it does.
 fn first(
     alloc: Global,
-    knowns: &[KnownBy],
+    groups: &Groups,
     head: &[Term],
     targets: &[Term],
     count: usize,
 ) -> Result<List<Reached>, OutOfMemory>
     requires heads { length targets.now ≡ length head.now }
-    requires knowns { AreKnownOf count knowns.now }
+    requires groups { AreGroupsOf count groups.now }
     ensures counted { IfOk result (AreReachedOf count) }
-    ensures first { IfOk result (IsFirst knowns.now head.now targets.now) }
+    ensures first { IfOk result (IsFirst groups.now head.now targets.now) }
 {
     let goals = taken_terms(alloc, head, targets, head)?;
     let none = RowBits::new(alloc, count)?;
     let start = Products::only(alloc, &none)?;
-    let by = touch_all(alloc, knowns, targets, goals.items(), count, &start)?;
+    let by = touch_all(alloc, groups, targets, goals.items(), count, &start)?;
     let mut ones = List::new(alloc);
     ones.push(Reached {
         to: copied(alloc, targets)?,
@@ -59,25 +59,25 @@ fn first(
 /// Goes on by one atom, before the rest: of the terms so far those are kept that stand in the rest.
 fn go_on(
     alloc: Global,
-    knowns: &[KnownBy],
+    groups: &Groups,
     atom: &Atom,
     rest: &[Atom],
     count: usize,
     from: &mut Terms,
     ones: &mut List<Reached>,
 ) -> Result<(), OutOfMemory>
-    requires knowns { AreKnownOf count knowns.now }
+    requires groups { AreGroupsOf count groups.now }
     requires ones { AreReachedOf count ones.old }
     ensures counted { OnOk result (AreReachedOf count ones.new) }
     ensures next { OnOk result
-        (IsNext knowns.now atom.now rest.now from.old ones.old from.new ones.new) }
+        (IsNext groups.now atom.now rest.now from.old ones.old from.new ones.new) }
 {
     from.append(atom.terms.copy(alloc)?)?;
     let live = terms_of(alloc, rest)?;
     let these = telling(alloc, from.items(), live.items())?;
     let later = next(
         alloc,
-        knowns,
+        groups,
         from.items(),
         these.items(),
         atom,
@@ -107,13 +107,13 @@ pub fn products_of_matches(
     ensures tell { IfOk result (λ it. (set : List Bool) → Covers it.sets set
         ↔ HasMatch (InWorld entries.now set) head.now body.now targets.now) }
 {
-    let knowns = knowns_of(alloc, entries, count)?;
-    let mut ones = first(alloc, knowns.items(), head.items(), targets, count)?;
+    let groups = Groups::of(alloc, entries, count)?;
+    let mut ones = first(alloc, &groups, head.items(), targets, count)?;
     let mut from = head.copy(alloc)?;
     'atoms: for (place, atom) in body.iter().enumerate() {
         go_on(
             alloc,
-            knowns.items(),
+            &groups,
             atom,
             &body[place + 1..],
             count,

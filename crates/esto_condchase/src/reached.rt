@@ -3,12 +3,12 @@ ghost use Rattle.std.specs.Prelude.{◌≡◌, ◌↔◌, ◌⊎◌, ◌<◌, �
 ghost use Rattle.esto_term.specs.declared.term.Term.{Term};
 ghost use Rattle.esto_semantics.specs.Sets.{Covers};
 ghost use Rattle.esto_world_laws.specs.Matches.{IsLike};
-ghost use Rattle.esto_condchase.specs.Products.{AreKnownOf, AreReachedOf, IsReachedBy, Reach, StepsBy, StepsWith, StepsFrom, Steps};
+ghost use Rattle.esto_condchase.specs.Products.{AreGroupsOf, AreReachedOf, IsReachedBy, Reach, StepsBy, StepsWith, StepsFrom, Steps};
 ghost use Rattle.esto_condchase.specs.declared.reached.Reached.{Reached};
 
-use crate::known::KnownBy;
 use crate::touching::{both, touch_all};
 use esto_bits::Products;
+use esto_known::{Group, Groups};
 use esto_prov::taken_terms;
 use esto_semantics::Atom;
 use esto_term::{List, OutOfMemory, Replicate, Term, Terms, equal_terms};
@@ -124,7 +124,7 @@ fn add(
 /// Adds what is reached from one by a fact.
 fn step_by(
     alloc: Global,
-    knowns: &[KnownBy],
+    groups: &Groups,
     from: &[Term],
     these: &[Term],
     atom: &Atom,
@@ -134,7 +134,7 @@ fn step_by(
     count: usize,
     later: &mut Vec<Reached>,
 ) -> Result<(), OutOfMemory>
-    requires knowns { AreKnownOf count knowns.now }
+    requires groups { AreGroupsOf count groups.now }
     requires like { length fact.now.terms ≡ length atom.now.terms }
     requires one { one.now.by.count ≡ count }
     requires by { by.now.count ≡ count }
@@ -142,11 +142,11 @@ fn step_by(
     ensures counted { OnOk result (AreReachedOf count later.new.items) }
     ensures reach { OnOk result ((to : List Term) (set : List Bool) → Reach later.new.items to set
         ↔ (Reach later.old.items to set
-        ⊎ StepsBy knowns.now from.now these.now atom.now one.now by.now.sets fact.now to set)) }
+        ⊎ StepsBy groups.now from.now these.now atom.now one.now by.now.sets fact.now to set)) }
 {
     let to = followed(alloc, &one.to, &fact.terms)?;
     let goals = taken_terms(alloc, from, to.items(), atom.terms.items())?;
-    let needs = touch_all(alloc, knowns, fact.terms.items(), goals.items(), count, by)?;
+    let needs = touch_all(alloc, groups, fact.terms.items(), goals.items(), count, by)?;
     if needs.is_empty() {
         return Ok(());
     }
@@ -158,32 +158,32 @@ fn step_by(
 /// Adds what is reached from one by what is known, if it is a fact that is alike to the atom.
 fn step_with(
     alloc: Global,
-    knowns: &[KnownBy],
+    groups: &Groups,
     from: &[Term],
     these: &[Term],
     atom: &Atom,
     one: &Reached,
-    known: &KnownBy,
+    group: &Group,
     count: usize,
     later: &mut Vec<Reached>,
 ) -> Result<(), OutOfMemory>
-    requires knowns { AreKnownOf count knowns.now }
+    requires groups { AreGroupsOf count groups.now }
     requires one { one.now.by.count ≡ count }
-    requires by { known.now.by.count ≡ count }
+    requires by { group.now.by.count ≡ count }
     requires counted { AreReachedOf count later.old.items }
     ensures counted { OnOk result (AreReachedOf count later.new.items) }
     ensures reach { OnOk result ((to : List Term) (set : List Bool) → Reach later.new.items to set
         ↔ (Reach later.old.items to set
-        ⊎ StepsWith knowns.now from.now these.now atom.now one.now known.now to set)) }
+        ⊎ StepsWith groups.now from.now these.now atom.now one.now group.now to set)) }
 {
-    match &known.claim {
+    match &group.claim {
         Claim::Same(_, _) => Ok(()),
         Claim::Fact(fact) => {
             if fact.relation != atom.relation || fact.terms.len() != atom.terms.len() {
                 return Ok(());
             }
             step_by(
-                alloc, knowns, from, these, atom, one, &known.by, fact, count, later,
+                alloc, groups, from, these, atom, one, &group.by, fact, count, later,
             )?;
             Ok(())
         }
@@ -193,7 +193,7 @@ fn step_with(
 /// Adds what is reached from one.
 fn steps_from(
     alloc: Global,
-    knowns: &[KnownBy],
+    groups: &Groups,
     from: &[Term],
     these: &[Term],
     atom: &Atom,
@@ -201,16 +201,16 @@ fn steps_from(
     count: usize,
     later: &mut Vec<Reached>,
 ) -> Result<(), OutOfMemory>
-    requires knowns { AreKnownOf count knowns.now }
+    requires groups { AreGroupsOf count groups.now }
     requires one { one.now.by.count ≡ count }
     requires counted { AreReachedOf count later.old.items }
     ensures counted { OnOk result (AreReachedOf count later.new.items) }
     ensures reach { OnOk result ((to : List Term) (set : List Bool) → Reach later.new.items to set
         ↔ (Reach later.old.items to set
-        ⊎ StepsFrom knowns.now from.now these.now atom.now one.now to set)) }
+        ⊎ StepsFrom groups.now from.now these.now atom.now one.now to set)) }
 {
-    'knowns: for known in knowns {
-        step_with(alloc, knowns, from, these, atom, one, known, count, later)?;
+    'groups: for group in groups.items() {
+        step_with(alloc, groups, from, these, atom, one, group, count, later)?;
     }
     Ok(())
 }
@@ -218,23 +218,23 @@ fn steps_from(
 /// What is reached with one atom more, whose terms are the last of `from`, on these terms.
 pub fn next(
     alloc: Global,
-    knowns: &[KnownBy],
+    groups: &Groups,
     from: &[Term],
     these: &[Term],
     atom: &Atom,
     ones: &[Reached],
     count: usize,
 ) -> Result<List<Reached>, OutOfMemory>
-    requires knowns { AreKnownOf count knowns.now }
+    requires groups { AreGroupsOf count groups.now }
     requires ones { AreReachedOf count ones.now }
     ensures counted { IfOk result (AreReachedOf count) }
     ensures reach { IfOk result (λ later. (to : List Term) (set : List Bool)
         → Reach later to set
-        ↔ Steps knowns.now from.now these.now atom.now ones.now to set) }
+        ↔ Steps groups.now from.now these.now atom.now ones.now to set) }
 {
     let mut later = Vec::new(alloc);
     'ones: for one in ones {
-        steps_from(alloc, knowns, from, these, atom, one, count, &mut later)?;
+        steps_from(alloc, groups, from, these, atom, one, count, &mut later)?;
     }
     Ok(List::from_vec(later))
 }

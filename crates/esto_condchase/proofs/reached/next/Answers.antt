@@ -13,7 +13,7 @@ steps_from-requires-clause-one c =
 pub ones-preserved : goal.ones-preserved
 ones-preserved c = record {
   counted = c.in_ok-steps_from.ensures.counted;
-  gathers = gathers_more (λ (key : List Term × List Bool) (one : Reached). StepsFrom c.args.knowns.now c.args.from.now c.args.these.now c.args.atom.now one key.0
+  gathers = gathers_more (λ (key : List Term × List Bool) (one : Reached). StepsFrom c.args.groups.now c.args.from.now c.args.these.now c.args.atom.now one key.0
       key.1) c.args.ones.now c.ones.one-index c.one-item.result (λ key. Reach c.ones.later.items key.0 key.1)
       (λ key. Reach c.steps_from.new.later.items key.0 key.1) c.ones-test.true c.one-item.is c.ones.invariant.gathers
       (λ key. c.in_ok-steps_from.ensures.reach key.0 key.1);
@@ -24,6 +24,6 @@ returns-clause-counted c = subst (AreReachedOf c.args.count) (sym c.from_vec.ens
 
 pub returns-clause-reach : goal.returns-clause-reach
 returns-clause-reach c to set =
-    subst (λ it. Reach it to set ↔ Steps c.args.knowns.now c.args.from.now c.args.these.now c.args.atom.now c.args.ones.now to set) (sym c.from_vec.ensures)
-    (gathers_all (λ (key : List Term × List Bool) (one : Reached). StepsFrom c.args.knowns.now c.args.from.now c.args.these.now c.args.atom.now one key.0
+    subst (λ it. Reach it to set ↔ Steps c.args.groups.now c.args.from.now c.args.these.now c.args.atom.now c.args.ones.now to set) (sym c.from_vec.ensures)
+    (gathers_all (λ (key : List Term × List Bool) (one : Reached). StepsFrom c.args.groups.now c.args.from.now c.args.these.now c.args.atom.now one key.0
     key.1) c.args.ones.now c.ones.one-index (λ key. Reach c.ones.later.items key.0 key.1) c.ones-test.false c.ones.invariant.gathers (to, set))

@@ -8,6 +8,6 @@ use Rattle.esto_condchase.proofs.reached.next.Given as goal
 abbrev pub invariant-ones : goal.invariant-ones
 invariant-ones l = record {
   counted : AreReachedOf l.count l.later.items;
-  gathers : Gathers (λ (key : List Term × List Bool) (one : Reached). StepsFrom l.knowns l.from l.these l.atom one key.0 key.1) l.ones l.one-index
+  gathers : Gathers (λ (key : List Term × List Bool) (one : Reached). StepsFrom l.groups l.from l.these l.atom one key.0 key.1) l.ones l.one-index
       (λ key. Reach l.later.items key.0 key.1);
 }

@@ -5,5 +5,5 @@ use Rattle.esto_condchase.proofs.touching.touch_all.Given as goal
 abbrev pub invariant-terms : goal.invariant-terms
 invariant-terms l = record {
   count : l.sets.count ≡ l.count;
-  touch : TouchSoFar l.knowns l.terms l.others l.start.sets l.place l.sets.sets;
+  touch : TouchSoFar l.groups l.terms l.others l.start.sets l.place l.sets.sets;
 }
