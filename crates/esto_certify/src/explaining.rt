@@ -1,6 +1,8 @@
 //! The command `explain`.
 ghost use Rattle.std.specs.Prelude.{◌≡◌, ◌≤◌, IfOk, None};
 ghost use Rattle.esto_ports.specs.Faults.{Rises};
+ghost use Rattle.esto_world_laws.specs.Steps.{AreJoined};
+ghost use Rattle.esto_backchase.specs.Evidence.{AreEntriesOf};
 ghost use Rattle.esto_opening.specs.Answers.{Answers};
 ghost use Rattle.esto_opening.specs.Asked.{AsksIn};
 ghost use Rattle.esto_planning.specs.Choice.{IsItemOf};
@@ -8,39 +10,40 @@ ghost use Rattle.esto_planning.specs.Listing.{IsPlanned};
 ghost use Rattle.esto_certify.specs.Explain.{explains_plan, explains_query, explain_course, explains_read};
 ghost use Rattle.esto_certify.specs.Verify.{HasVerdict};
 
-use esto_backchase::entries_of;
 use esto_catalog::Catalogue;
 use esto_derive::write_certificate;
 use esto_list::Listed;
 use esto_opening::{Reply, Status, open_catalogue, open_query};
 use esto_planning::{
-    choose, chosen_items_are_listed, listing_of, plan_of, planned_plans_are_universal,
+    choose, chosen_items_are_listed, list_of, plan_of, planned_plans_are_universal,
     planned_plans_have_their_form,
 };
 use esto_ports::Shelf;
+use esto_prov::Entries;
 use esto_query::Query;
 use esto_term::{Bytes, OutOfMemory, Text};
 use esto_views::Plan;
 use std::alloc::Global;
 
-// A certificate for the item's set.
+// A certificate for the item's set, from the entries that the list comes from.
 fn certificate_of(
     alloc: Global,
     query: &Query,
     catalogue: &Catalogue,
     plan: &Plan,
+    entries: &Entries,
     item: &Listed,
 ) -> Result<Bytes, OutOfMemory>
     requires planned { IsPlanned catalogue.now query.now plan.now }
+    requires entries { AreEntriesOf catalogue.now plan.now entries.now }
+    requires joined { AreJoined entries.now entries.now }
     requires item { IsItemOf catalogue.now query.now plan.now item.now }
     ensures { IfOk result
         (λ bytes. HasVerdict catalogue.now query.now plan.now item.now.set bytes None) }
 {
     planned_plans_are_universal();
     planned_plans_have_their_form();
-    let entries = entries_of(alloc, plan, catalogue)?;
-    let bytes = write_certificate(alloc, &item.set, plan, query, &entries, catalogue)?;
-    Ok(bytes)
+    write_certificate(alloc, &item.set, plan, query, entries, catalogue)
 }
 
 // Makes the list of the plan, and writes a certificate for the set of the number, counted from 1.
@@ -55,9 +58,10 @@ fn explain_plan(
     ensures { Answers (explains_plan catalogue.now query.now number plan.now) ⊥ result }
 {
     chosen_items_are_listed();
-    let listing = listing_of(alloc, plan, query, catalogue)?;
-    let place = choose(&listing, Some(number))?;
-    let text = certificate_of(alloc, query, catalogue, plan, listing.item(place))?;
+    let made = list_of(alloc, plan, query, catalogue)?;
+    let place = choose(&made.listing, Some(number))?;
+    let item = made.listing.item(place);
+    let text = certificate_of(alloc, query, catalogue, plan, &made.entries, item)?;
     Ok(text)
 }
 

@@ -1,5 +1,5 @@
 //! The steps on a query's plan and list that commands share: the printed plan, its list, and the choice of an item.
-//! Start from `plan_of`, `listing_of` and `choose`.
+//! Start from `plan_of`, `listing_of`, `list_of` and `choose`.
 #![tactic(auto)]
 
 mod choice;
@@ -11,4 +11,4 @@ pub use laws::{
     chosen_items_are_listed, items_and_texts_are_one, planned_plans_are_universal,
     planned_plans_have_their_form, plans_and_lists_are_moved, plans_and_lists_are_one,
 };
-pub use planning::{listing_of, plan_of};
+pub use planning::{PlanList, list_of, listing_of, plan_of};

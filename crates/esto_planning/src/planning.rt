@@ -1,5 +1,7 @@
 //! The printed plan of a query, and its list.
 ghost use Rattle.std.specs.Prelude.{IfOk};
+ghost use Rattle.esto_world_laws.specs.Steps.{AreJoined};
+ghost use Rattle.esto_backchase.specs.Evidence.{AreEntriesOf};
 ghost use Rattle.esto_opening.specs.Answers.{Answers};
 ghost use Rattle.esto_planning.specs.Listing.{IsListOf, IsPlanned};
 ghost use Rattle.esto_planning.specs.Planning.{plans_query};
@@ -11,6 +13,7 @@ use esto_catalog::Catalogue;
 use esto_core::{printed_plan, printed_plans_are_over_fragments};
 use esto_list::Listing;
 use esto_opening::Status;
+use esto_prov::Entries;
 use esto_query::Query;
 use esto_term::OutOfMemory;
 use esto_views::Plan;
@@ -27,6 +30,36 @@ pub fn plan_of(alloc: Global, query: &Query, catalogue: &Catalogue) -> Result<Pl
     }
 }
 
+/// The list of a plan, and the entries of the conditional chase that it comes from.
+#[derive(Drop)]
+pub struct PlanList {
+    pub listing: Listing,
+    pub entries: Entries,
+}
+
+/// The list of the plan, with the entries that it comes from. Their links are joined.
+pub fn list_of(
+    alloc: Global,
+    plan: &Plan,
+    query: &Query,
+    catalogue: &Catalogue,
+) -> Result<PlanList, OutOfMemory>
+    requires { IsPlanned catalogue.now query.now plan.now }
+    ensures list { IfOk result (λ it. IsListOf catalogue.now query.now plan.now it.listing) }
+    ensures entries { IfOk result (λ it. AreEntriesOf catalogue.now plan.now it.entries) }
+    ensures joined { IfOk result (λ it. AreJoined it.entries it.entries) }
+{
+    planned_plans_are_universal();
+    planned_plans_have_their_form();
+    printed_plans_are_over_fragments();
+    let chased = minimal_sets(alloc, plan, query, catalogue)?;
+    let listing = Listing::of(alloc, &chased.sets, plan, &catalogue.fragments)?;
+    Ok(PlanList {
+        listing,
+        entries: chased.entries,
+    })
+}
+
 /// The list of the plan.
 pub fn listing_of(
     alloc: Global,
@@ -37,10 +70,6 @@ pub fn listing_of(
     requires { IsPlanned catalogue.now query.now plan.now }
     ensures { IfOk result (IsListOf catalogue.now query.now plan.now) }
 {
-    planned_plans_are_universal();
-    planned_plans_have_their_form();
-    printed_plans_are_over_fragments();
-    let chased = minimal_sets(alloc, plan, query, catalogue)?;
-    let listing = Listing::of(alloc, &chased.sets, plan, &catalogue.fragments)?;
-    Ok(listing)
+    let made = list_of(alloc, plan, query, catalogue)?;
+    Ok(made.listing)
 }

@@ -1,9 +1,5 @@
 use Rattle.esto_certify.proofs.explaining.certificate_of.Goals as goal
 
-pub entries_of-requires : goal.entries_of-requires
-entries_of-requires c =
-    c.planned_plans_have_their_form.ensures.over c.args.catalogue.now c.args.query.now c.args.plan.now c.requires.planned
-
 pub write_certificate-requires-clause-same_length : goal.write_certificate-requires-clause-same_length
 write_certificate-requires-clause-same_length c =
     (c.planned_plans_have_their_form.ensures.form c.args.catalogue.now c.args.query.now c.args.plan.now c.requires.planned).same_length

@@ -1,4 +1,4 @@
-use Rattle.esto_planning.proofs.planning.listing_of.Goals as goal
+use Rattle.esto_planning.proofs.planning.list_of.Goals as goal
 
 pub minimal_sets-requires-clause-over : goal.minimal_sets-requires-clause-over
 minimal_sets-requires-clause-over c =
@@ -16,8 +16,8 @@ pub minimal_sets-requires-clause-same_length : goal.minimal_sets-requires-clause
 minimal_sets-requires-clause-same_length c =
     (c.planned_plans_have_their_form.ensures.form c.args.catalogue.now c.args.query.now c.args.plan.now c.requires).same_length
 
-pub returns : goal.returns
-returns c =
+pub returns-clause-list : goal.returns-clause-list
+returns-clause-list c =
     let members = c.in_ok-listing.ensures.members in
     let listed = c.in_ok-chased.ensures.listed in
     record {
