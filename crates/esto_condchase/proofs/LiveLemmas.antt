@@ -1,6 +1,7 @@
 -- Live entries of a claim: the places of its group.
-use Rattle.std.proofs.Common.{inl, inr, ap, ◌∙◌, ◌≡◌, ◌≤◌, ℕ, List, [], ◌++◌, Some, slice_get, Contains, refl, sym, subst}
+use Rattle.std.proofs.Common.{inl, inr, ap, ◌∙◌, ◌≡◌, ◌≤◌, ◌<◌, arith, ℕ, List, [], ◌++◌, Some, slice_get, Contains, refl, sym, subst}
 use Rattle.std.proofs.lemmas.List.Elements.{Contains-append_left, Contains-append_right}
+use Rattle.std.proofs.lemmas.Option.{same_Some}
 use Rattle.esto_term.specs.declared.term.Term.{Term}
 use Rattle.esto_semantics.specs.declared.fact.Fact.{Fact}
 use Rattle.esto_term.proofs.ListLemmas.{Contains-at, place-from_Contains}
@@ -9,9 +10,10 @@ use Rattle.esto_world_laws.specs.Claims.{AreSameClaim}
 use Rattle.esto_world_laws.specs.declared.entry.Claim.{Claim}
 use Rattle.esto_world_laws.specs.declared.entry.Claim.TheVariants.{Fact as Stated, Same}
 use Rattle.esto_world_laws.specs.declared.entry.Entry.{Entry}
+use Rattle.esto_known.specs.Indexes.{HasSide}
 use Rattle.esto_known.specs.Groups.{AreGroups}
 use Rattle.esto_known.specs.declared.group.Group.{Group}
-use Rattle.esto_condchase.specs.Ways.{AreAllLive, AreAllFacts}
+use Rattle.esto_condchase.specs.Ways.{AreAllLive, AreAllFacts, AreFresh, IsUnlinked}
 
 -- ---- claims that are one
 
@@ -90,3 +92,37 @@ has_all places more later its grown same place inside =
 
 pub read_items : (items groups : List Group) (at : ℕ) (group : Group) → items ≡ groups → slice_get groups at ≡ Some group → slice_get items at ≡ Some group
 read_items items groups at group same is = ap (λ (it : List Group). slice_get it at) same ∙ is
+
+-- ---- equalities with a term
+
+same_side : (claim other : Claim) (own : Term) → AreSameClaim claim other → HasSide claim own → HasSide other own
+same_side (Stated fact) other own same side = absurd side
+same_side (Same left right) (Stated fact) own same side = absurd same
+same_side (Same left right) (Same s t) own (inl same) (inl is) = inl (sym same.0 ∙ is)
+same_side (Same left right) (Same s t) own (inl same) (inr is) = inr (sym same.1 ∙ is)
+same_side (Same left right) (Same s t) own (inr same) (inl is) = inr (sym same.0 ∙ is)
+same_side (Same left right) (Same s t) own (inr same) (inr is) = inl (sym same.1 ∙ is)
+
+pub unlinked : (entries : List Entry) (groups items : List Group) (own : Term) (since : ℕ) (found its_found : List ℕ) → AreGroups entries groups
+    → items ≡ groups → its_found ≡ found
+    → ((place : ℕ) (group : Group) → slice_get groups place ≡ Some group → HasSide group.claim own → Contains found place)
+    → ((at : ℕ) → Contains its_found at → (group : Group) → slice_get items at ≡ Some group → (place : ℕ) → Contains group.places place → place < since)
+    → IsUnlinked entries since own
+unlinked entries groups items own since found its_found are same same_found with_side old place entry at side =
+    let it = are.all entry (Contains-at entries place entry at) in
+    let there = place-from_Contains groups it.0 it.1 in
+    let inside = with_side there.0 it.0 there.1 (same_side entry.claim it.0.claim own it.2 side) in
+    let live = (are.each it.0 it.1).live place entry at it.2 in
+    let below = old there.0 (subst (λ them. Contains them there.0) (sym same_found) inside) it.0 (read_items items groups there.0 it.0 same there.1) live.0 live.1 in
+    let above = live.2 in
+    omega (arith, below, above)
+
+pub since_group : (groups : List Group) (at : ℕ) (its group : Group) (items : List ℕ) (since : ℕ) → items ≡ its.places → slice_get groups at ≡ Some its
+    → ((place : ℕ) → Contains items place → place < since) → slice_get groups at ≡ Some group → (place : ℕ) → Contains group.places place → place < since
+since_group groups at its group items since same at_its low at_group place inside =
+    low place (subst (λ it. Contains it place) (sym (same ∙ ap (λ (it : Group). it.places) (same_Some its group (sym at_its ∙ at_group)))) inside)
+
+pub fresh_items : (entries : List Entry) (since : ℕ) (facts items other fresh its : List ℕ) → items ≡ facts → other ≡ facts → its ≡ fresh
+    → AreFresh entries since items fresh → AreFresh entries since other its
+fresh_items entries since facts items other fresh its same same_other same_fresh are =
+    subst (AreFresh entries since other) (sym same_fresh) (subst (λ it. AreFresh entries since it fresh) (same ∙ sym same_other) are)

@@ -17,7 +17,7 @@ use Rattle.esto_semantics.specs.Sets.{Has, Within, united}
 use Rattle.esto_semantics.specs.declared.fact.Fact.{Fact}
 use Rattle.esto_semantics.proofs.SetLemmas.{has_united, length-united}
 use Rattle.esto_bits.proofs.SetLemmas.{Has-replicate}
-use Rattle.esto_term.proofs.ListLemmas.{Contains-nil, Contains-at, Contains-head, Contains-one, thing_at, place-from_Contains, map_at, HoldsBelow}
+use Rattle.esto_term.proofs.ListLemmas.{Contains-nil, Contains-at, Contains-head, Contains-one, thing_at, place-from_Contains, map_at, at_left, HoldsBelow}
 use Rattle.esto_term.proofs.PlaceLemmas.{Contains-take, item_at}
 use Rattle.esto_term.proofs.ZipLemmas.{zip_both, zip_by_places, zip_weaker}
 use Rattle.esto_world_laws.specs.Worlds.{InWorld, SaysOne, AreOfCount}
@@ -30,7 +30,8 @@ use Rattle.esto_world_laws.proofs.LinkLemmas.{Touching-more}
 use Rattle.esto_world_laws.proofs.TakenLemmas.{taken-Const, taken_cases, Fits-join}
 use Rattle.esto_condchase.proofs.WayLemmas.{IsUnion-more, last_more, fact_more, within_united, taken-apart, IsNamed-held}
 use Rattle.esto_condchase.specs.Ways.{AreCounted, IsWay, Grown, HasLater, AreAllLive, AreAllFacts, IsFirstAt, AgreeAt, TellsOne, HasWay, HasSupport, meets, IsLinkedFrom, TouchesFrom}
-use Rattle.esto_condchase.specs.Ways.{IsFreeLink, floor_of, PassesTo, PassesIn, IsPassedAt, IsLonger, IsSupport, AreLonger, AreSupports, ComesBy, Comes, extended, IsOldWay, GoesOld, GoesOn}
+use Rattle.esto_condchase.specs.Ways.{IsStale, AreFresh, IsFreeLink, floor_of, PassesTo, PassesIn, IsPassedAt, IsLonger, IsSupport, AreLonger, AreSupports, ComesBy, Comes, extended, IsOldWay, GoesOld, GoesOn}
+use Rattle.esto_known.specs.Indexes.{HasSide}
 use Rattle.esto_condchase.specs.declared.passing.Support.{Support}
 use Rattle.esto_condchase.specs.declared.ways.Way.{Way}
 
@@ -671,3 +672,54 @@ pub all_old : (entries : List Entry) (m : Term → Term) (terms owns : List Term
 all_old entries m terms owns floor few rows past each set passes =
     elim (anew_end entries m terms owns floor [] (λ _. ⊥) rows (λ at below. each at (omega (arith, below, past))) set (λ number has. absurd (Has-replicate 0 number has))
     passes) [ inl never ↦ absurd never | inr all ↦ all ]
+
+-- ---- what the earlier terms tell
+
+pub told_all : (places : List ℕ) (ways : List Way) (to items none : List Term) (bound : ℕ) (product : List Bool) → items ≡ to → bound ≡ length to → none ≡ []
+    → ((place : ℕ) → Contains places place → place < bound) → HasWay places ways (items ++ none) product
+    → (owns : List Term) → HasWay places ways (to ++ owns) product
+told_all places ways to items none bound product same long empty below (way, inside, agree, within) owns = (
+  way,
+  inside,
+  (λ place its.
+      let there = thing_at to place (subst (λ n. place < n) long (below place its)) in
+      agree place its ∙ (λ i. slice_get (same i ++ empty i) place) ∙ at_left to [] place there.0 there.1 ∙ sym (at_left to owns place there.0 there.1)),
+  within,
+)
+
+pub goes_told : (entries : List Entry) (since : ℕ) (from : List Term) (atom : Fact Term) (places : List ℕ) (before : Way) (ways : List Way)
+    → ((owns : List Term) → HasWay places ways (before.to ++ owns) before.product) → GoesOn entries since from atom places before ways
+goes_told entries since from atom places before ways told set fact within holds like passes =
+    inl (way_wider places ways (before.to ++ fact.terms) before.product set (told fact.terms) within)
+
+-- ---- facts that make nothing new
+
+says_side : (claim : Claim) (own goal : Term) → SaysOne claim own goal → HasSide claim own
+says_side claim own goal (inl is) = subst (λ it. HasSide it own) (sym is) (inl refl)
+says_side claim own goal (inr is) = subst (λ it. HasSide it own) (sym is) (inr refl)
+
+pub stale_goes : (entries : List Entry) (since : ℕ) (from : List Term) (atom : Fact Term) (places : List ℕ) (before : Way) (ways : List Way) (place : ℕ)
+    → IsOldWay since before → IsStale entries since place → GoesSince entries since from atom places before ways place
+stale_goes entries since from atom places before ways place old (early, stale) entry fact set at states like within its_within passes = inr (
+  old,
+  early,
+  all_old entries (meets from atom.terms before.to fact.terms) atom.terms fact.terms since (length fact.terms) like.1 (omega arith)
+      (λ index below its own term in_set its_passes at_own at_term apart (link, linking, late, at_link, says, link_within).
+      let low = stale entry fact at states own (Contains-at fact.terms index own at_own) link linking at_link
+      (says_side linking.claim own (meets from atom.terms before.to fact.terms term) says) in
+      absurd (omega (arith, low, late)))
+      set passes,
+)
+
+pub tried_goes : (entries : List Entry) (since : ℕ) (from : List Term) (atom : Fact Term) (places : List ℕ) (before : Way) (ways : List Way)
+    (new : Bool) (facts fresh tried : List ℕ) → (new ≡ false → IsOldWay since before) → AreFresh entries since facts fresh
+    → ((new ≡ true) × (tried ≡ facts)) ⊎ ((new ≡ false) × (tried ≡ fresh))
+    → ((place : ℕ) → Contains tried place → GoesSince entries since from atom places before ways place)
+    → (place : ℕ) → Contains facts place → GoesSince entries since from atom places before ways place
+tried_goes entries since from atom places before ways new facts fresh tried old are_fresh which each place inside = elim which [
+  | inl (is, all) ↦ each place (subst (λ it. Contains it place) (sym all) inside)
+  | inr (is, some) ↦ elim (are_fresh place inside) [
+    | inl there ↦ each place (subst (λ it. Contains it place) (sym some) there)
+    | inr stale ↦ stale_goes entries since from atom places before ways place (old is) stale
+  ]
+]

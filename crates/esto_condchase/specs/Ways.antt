@@ -13,6 +13,7 @@ use Rattle.esto_world_laws.specs.Derived.{Claims, IsNamed, IsUnion, IsEquality}
 use Rattle.esto_world_laws.specs.declared.entry.Claim.{Claim}
 use Rattle.esto_world_laws.specs.declared.entry.Claim.TheVariants.{Fact as Stated, Same}
 use Rattle.esto_world_laws.specs.declared.entry.Entry.{Entry}
+use Rattle.esto_known.specs.Indexes.{HasSide}
 use Rattle.esto_condchase.specs.declared.passing.Support.{Support}
 use Rattle.esto_condchase.specs.declared.ways.Way.{Way}
 
@@ -72,6 +73,20 @@ AreAllLive entries places Says = (place : ℕ) (entry : Entry) → slice_get ent
 abbrev pub AreAllFacts : List Entry → ℕ → List ℕ → Type 0
 AreAllFacts entries relation places = (place : ℕ) (entry : Entry) (fact : Fact Term) → slice_get entries place ≡ Some entry → entry.claim ≡ Stated fact
     → fact.relation ≡ relation → HasLater entries places (λ claim. claim ≡ Stated fact) place entry
+
+-- No equality with the term stands from a place on.
+abbrev pub IsUnlinked : List Entry → ℕ → Term → Type 0
+IsUnlinked entries since own = (place : ℕ) (entry : Entry) → slice_get entries place ≡ Some entry → HasSide entry.claim own → place < since
+
+-- The entry at the place is one of the first few, and no equality from there on has a term of its fact.
+abbrev pub IsStale : List Entry → ℕ → ℕ → Type 0
+IsStale entries since place = place < since
+    × ((entry : Entry) (fact : Fact Term) → slice_get entries place ≡ Some entry → entry.claim ≡ Stated fact → (own : Term) → Contains fact.terms own
+    → IsUnlinked entries since own)
+
+-- The fresh ones are among the places of facts all but stale ones.
+abbrev pub AreFresh : List Entry → ℕ → List ℕ → List ℕ → Type 0
+AreFresh entries since facts fresh = (place : ℕ) → Contains facts place → Contains fresh place ⊎ IsStale entries since place
 
 -- The place is the first one of the term.
 abbrev pub IsFirstAt : List Term → Term → ℕ → Type 0

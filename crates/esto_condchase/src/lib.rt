@@ -6,6 +6,7 @@
 mod chase;
 mod covered;
 mod covering;
+mod fresh;
 mod joining;
 mod kept;
 mod live;

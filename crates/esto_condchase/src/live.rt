@@ -19,7 +19,7 @@ fn put_all(more: &[usize], places: &mut Places) -> Result<(), OutOfMemory>
 }
 
 /// The group at the place, if there is one.
-fn group_at(groups: &[Group], at: usize) -> Option<&Group>
+pub fn group_at(groups: &[Group], at: usize) -> Option<&Group>
     ensures { MatchOption result ((group : Group) → ¬ (slice_get groups.now at ≡ Some group))
         (λ group. slice_get groups.now at ≡ Some group.now) }
 {

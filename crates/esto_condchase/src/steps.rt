@@ -1,5 +1,5 @@
 //! Goes on from ways by one atom, with each fact that is alike to it. A way is made only where no kept way tells the same.
-ghost use Rattle.std.specs.Prelude.{◌≡◌, ◌++◌, ◌∷◌, [], ◌⊎◌, ◌<◌, ℕ, List, Bool, false, MatchOption, Some, Contains, length, slice_get, take, IsTrue, IfOk, OnOk};
+ghost use Rattle.std.specs.Prelude.{◌≡◌, ◌++◌, ◌∷◌, [], ◌⊎◌, ◌<◌, ℕ, List, Bool, true, false, MatchOption, Some, Contains, length, slice_get, take, IsTrue, IfOk, OnOk};
 ghost use Rattle.esto_term.specs.declared.term.Term.{Term};
 ghost use Rattle.esto_semantics.specs.Sets.{Within, united};
 ghost use Rattle.esto_semantics.specs.declared.fact.Fact.{Fact};
@@ -9,10 +9,10 @@ ghost use Rattle.esto_world_laws.specs.declared.entry.Claim.TheVariants.{Fact as
 ghost use Rattle.esto_world_laws.specs.declared.entry.Entry.{Entry};
 ghost use Rattle.esto_condchase.specs.declared.passing.Support.{Support};
 ghost use Rattle.esto_condchase.specs.declared.ways.Way.{Way};
-ghost use Rattle.esto_condchase.specs.Ways.{AreCounted, AreAllFacts, Grown, HasWay, extended, meets, PassesTo, PassesIn, IsPassedAt, ComesBy, Comes, IsOldWay, GoesOn};
+ghost use Rattle.esto_condchase.specs.Ways.{AreCounted, AreAllFacts, AreFresh, Grown, HasWay, extended, meets, PassesTo, PassesIn, IsPassedAt, ComesBy, Comes, IsOldWay, GoesOn};
 
 use crate::kept::{Kept, hash_at};
-use crate::news::is_new;
+use crate::news::{has_later, is_new};
 use crate::passing::{Step, Support, is_old, is_settled, met_first, through_row, union_of};
 use crate::ways::Way;
 use esto_bits::RowBits;
@@ -382,17 +382,41 @@ fn floor_for(new: bool, place: usize, since: usize) -> usize
     if new || place >= since { 0 } else { since }
 }
 
+/// Whether a kept way tells all that any way which goes on from this one can tell, with a product within this one's: true comes only
+/// where one does.
+fn tells_all(level: &Level, before: &Way, key: u64, kept: &Kept) -> bool
+    requires lengths { length level.now.from.now ≡ length before.now.to }
+    requires counted { AreCounted (length before.now.product) kept.now }
+    ensures { IsTrue result → (owns : List Term)
+        → HasWay level.now.places.now kept.now (before.now.to ++ owns) before.now.product }
+{
+    if has_later(level.places, level.from.len()) {
+        return false;
+    }
+    kept.covers(key, &before.product, level.places, before.to.items(), &[])
+}
+
+/// The facts to be tried: all with a new way, and with an old one those that may make something new of it.
+fn tried_of<'a>(new: bool, facts: &'a [usize], fresh: &'a [usize]) -> &'a [usize]
+    ensures { ((new ≡ true) × (result.now ≡ facts.now))
+        ⊎ ((new ≡ false) × (result.now ≡ fresh.now)) }
+{
+    if new { facts } else { fresh }
+}
+
 /// Keeps the ways that go on from one with any of the facts, each of which is tried.
 fn match_way(
     alloc: Global,
     level: &Level,
     before: &Way,
     facts: &[usize],
+    fresh: &[usize],
     count: usize,
     kept: &mut Kept,
 ) -> Result<(), OutOfMemory>
     requires facts { AreAllFacts level.now.known.now
         level.now.atom.now.relation facts.now }
+    requires fresh { AreFresh level.now.known.now level.now.since facts.now fresh.now }
     requires lengths { length level.now.from.now ≡ length before.now.to }
     requires count { length before.now.product ≡ count }
     requires counts { AreOfCount count level.now.known.now }
@@ -405,7 +429,10 @@ fn match_way(
 {
     let new = is_new(before, level.since);
     let key = hash_at(level.places, 0, before.to.items());
-    'facts: for place in facts {
+    if tells_all(level, before, key, kept) {
+        return Ok(());
+    }
+    'facts: for place in tried_of(new, facts, fresh) {
         let floor = floor_for(new, *place, level.since);
         match_entry(alloc, level, before, key, *place, floor, count, kept)?;
     }
@@ -418,11 +445,13 @@ pub fn match_all(
     level: &Level,
     given: &[Way],
     facts: &[usize],
+    fresh: &[usize],
     count: usize,
     kept: &mut Kept,
 ) -> Result<(), OutOfMemory>
     requires facts { AreAllFacts level.now.known.now
         level.now.atom.now.relation facts.now }
+    requires fresh { AreFresh level.now.known.now level.now.since facts.now fresh.now }
     requires lengths { (way : Way) → Contains given.now way
         → length level.now.from.now ≡ length way.to }
     requires given { AreCounted count given.now }
@@ -437,7 +466,7 @@ pub fn match_all(
     ensures counted { OnOk result (AreCounted count kept.new) }
 {
     'given: for before in given {
-        match_way(alloc, level, before, facts, count, kept)?;
+        match_way(alloc, level, before, facts, fresh, count, kept)?;
     }
     Ok(())
 }

@@ -5,6 +5,7 @@ ghost use Rattle.esto_world_laws.specs.Worlds.{AreOfCount};
 ghost use Rattle.esto_condchase.specs.Ways.{AreCounted, empty_way, Comes, GoesOn, TellsOne, AreNext, AreFound};
 ghost use Rattle.esto_condchase.specs.declared.ways.Way.{Way};
 
+use crate::fresh::fresh_of;
 use crate::kept::{Kept, telling_places};
 use crate::live::facts_of;
 use crate::steps::{Level, both, match_all};
@@ -68,7 +69,16 @@ fn kept_of(
 {
     let facts = facts_of(alloc, level.known, level.atom.relation)?;
     let mut kept = Kept::new(alloc, given.len().max(64))?;
-    match_all(alloc, level, given, facts.items(), count, &mut kept)?;
+    let fresh = fresh_of(alloc, level.known, facts.items(), level.since)?;
+    match_all(
+        alloc,
+        level,
+        given,
+        facts.items(),
+        fresh.items(),
+        count,
+        &mut kept,
+    )?;
     Ok(kept.into_list())
 }
 
