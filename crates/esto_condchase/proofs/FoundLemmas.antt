@@ -1,5 +1,5 @@
 -- Ways for a body, atom by atom, and those that use something new.
-use Rattle.std.proofs.Common.{◌≡◌, ◌⊎◌, inl, inr, ℕ, Bool, List, [], ◌∷◌, ◌++◌, length, map, take, drop, get_or, ◌+◌, ◌<◌, ◌≤◌, Contains, refl, sym, ap, ◌∙◌, subst, arith}
+use Rattle.std.proofs.Common.{◌≡◌, ◌⊎◌, inl, inr, ℕ, Bool, List, [], ◌∷◌, ◌++◌, length, map, take, drop, get_or, ◌+◌, ◌<◌, Contains, refl, sym, ap, ◌∙◌, subst, arith}
 use Rattle.std.specs.List.{AllZip}
 use Rattle.std.proofs.lemmas.List.{length-append}
 use Rattle.std.proofs.lemmas.List.Elements.{Contains-append_left, Contains-append_right}
@@ -17,7 +17,7 @@ use Rattle.esto_world_laws.specs.declared.entry.Claim.TheVariants.{Fact as State
 use Rattle.esto_world_laws.specs.declared.entry.Entry.{Entry}
 use Rattle.esto_world_laws.proofs.TakenLemmas.{Fits-join, Fits-split}
 use Rattle.esto_condchase.specs.News.{AreFoundAnew, IsOlder}
-use Rattle.esto_condchase.specs.Ways.{AgreeOn, IsWay, IsFound, AreFound, AreNext, Comes, GoesOn, GoesOld, HasWay, TellsOne, AreCounted}
+use Rattle.esto_condchase.specs.Ways.{AgreeOn, IsWay, AreFound, AreNext, Comes, GoesOn, TellsOne}
 use Rattle.esto_condchase.specs.declared.ways.Way.{Way}
 use Rattle.esto_condchase.proofs.NewsLemmas.{old_match}
 use Rattle.esto_condchase.proofs.WayLemmas.{terms_of-push, last_chosen, chosen_length, AgreeOn-more, AgreeOn-same, AgreeOn-from, row_agrees, live_turn}

@@ -1,5 +1,5 @@
 -- What links ask for.
-use Rattle.std.proofs.Common.{◌≡◌, ◌⊎◌, ◌↔◌, ◌<◌, ◌≤◌, ◌+◌, inl, inr, ℕ, Bool, true, false, List, [], ◌∷◌, ◌++◌, length, take, get_or, slice_get, Contains, Some, refl}
+use Rattle.std.proofs.Common.{◌≡◌, ◌⊎◌, ◌↔◌, ◌<◌, ◌≤◌, ◌+◌, inl, inr, ℕ, Bool, List, [], ◌∷◌, ◌++◌, length, take, get_or, slice_get, Contains, Some, refl}
 use Rattle.std.proofs.Common.{sym, ap, ◌∙◌, subst, arith}
 use Rattle.std.proofs.lemmas.Bool.{cases_order}
 use Rattle.std.proofs.lemmas.List.{take_all}
@@ -29,7 +29,7 @@ use Rattle.esto_known.specs.Groups.{IsGroup, AreGroups}
 use Rattle.esto_known.specs.declared.group.Group.{Group}
 use Rattle.esto_condchase.specs.Rounds.{AsksMore, IsFollowing, AreOld, AreOpen, TellOne, MeetBy, MeetAt, IsUnionMet, IsEndMet, IsLeft, IsSideMet, IsMetWithAll}
 use Rattle.esto_condchase.proofs.WayLemmas.{IsUnion-more}
-use Rattle.esto_condchase.proofs.CoverLemmas.{AsksMore-none, AsksMore-then, pushed_asks, pushed_there, touching_back}
+use Rattle.esto_condchase.proofs.CoverLemmas.{AsksMore-then, touching_back}
 
 -- ---- claims
 

@@ -1,5 +1,5 @@
 -- Live entries of a claim: the places of its group.
-use Rattle.std.proofs.Common.{inl, inr, ap, ◌∙◌, ◌≡◌, ◌≤◌, ◌<◌, arith, ℕ, List, [], ◌++◌, Some, slice_get, Contains, refl, sym, subst}
+use Rattle.std.proofs.Common.{inl, inr, ap, ◌∙◌, ◌≡◌, ◌<◌, arith, ℕ, List, ◌++◌, Some, slice_get, Contains, refl, sym, subst}
 use Rattle.std.proofs.lemmas.List.Elements.{Contains-append_left, Contains-append_right}
 use Rattle.std.proofs.lemmas.Option.{same_Some}
 use Rattle.esto_term.specs.declared.term.Term.{Term}

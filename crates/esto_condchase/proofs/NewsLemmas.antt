@@ -14,7 +14,7 @@ use Rattle.esto_world_laws.specs.Worlds.{InWorld}
 use Rattle.esto_world_laws.specs.Steps.{AreAnswered, AreJoined}
 use Rattle.esto_world_laws.specs.declared.entry.Claim.TheVariants.{Fact as Stated, Same}
 use Rattle.esto_world_laws.specs.declared.entry.Entry.{Entry}
-use Rattle.std.proofs.lemmas.List.Elements.{Contains-append_cases, Contains-append_right, Contains-push, Contains-push_cases}
+use Rattle.std.proofs.lemmas.List.Elements.{Contains-append_cases, Contains-append_right, Contains-push_cases}
 use Rattle.std.proofs.Common.{Bool}
 use Rattle.std.specs.List.{AllZip}
 use Rattle.esto_term.proofs.ListLemmas.{Contains-head, Contains-rest}
@@ -24,7 +24,7 @@ use Rattle.esto_world_laws.specs.Derived.{Claims, IsNamed}
 use Rattle.esto_world_laws.specs.Matches.{IsDirectMatch}
 use Rattle.esto_world_laws.specs.declared.entry.Claim.{Claim}
 use Rattle.esto_world_laws.proofs.LinkLemmas.{Touching-more}
-use Rattle.esto_condchase.specs.Ways.{AgreeOn, AreFound, AreCounted, IsFound, IsOldWay}
+use Rattle.esto_condchase.specs.Ways.{IsFound, IsOldWay}
 use Rattle.esto_condchase.specs.declared.ways.Way.{Way}
 use Rattle.esto_condchase.specs.News.{IsApart, IsSettled, AreFoundAnew}
 

@@ -1,28 +1,22 @@
 -- What a round adds, step by step.
-use Rattle.std.proofs.Common.{◌≡◌, ◌⊎◌, ◌&&◌, false, ◌↔◌, ◌<◌, ◌≤◌, ◌+◌, inl, inr, ℕ, Bool, true, cond, List, [], ◌∷◌, ◌++◌, length, map, take, get_or, slice_get, Contains, Some, refl}
+use Rattle.std.proofs.Common.{◌≡◌, ◌&&◌, false, ◌<◌, ◌≤◌, ◌+◌, inl, inr, ℕ, Bool, true, cond, List, [], ◌∷◌, ◌++◌, length, map, take, get_or, slice_get, Contains, Some, refl}
 use Rattle.std.proofs.Common.{sym, ap, ◌∙◌, subst, arith}
-use Rattle.std.proofs.Common.{ltb}
-use Rattle.std.proofs.lemmas.Bool.Decides.{nat_tests}
 use Rattle.std.specs.List.{AllZip}
-use Rattle.std.proofs.lemmas.Bool.{cases_order, cases_lt}
+use Rattle.std.proofs.lemmas.Bool.{cases_order}
 use Rattle.std.proofs.lemmas.List.{take_all}
 use Rattle.std.proofs.lemmas.List.Elements.{Contains-append_cases, Contains-append_left, Contains-append_right, Contains-push_cases}
 use Rattle.std.proofs.lemmas.Option.{slice_get_within}
 use Rattle.esto_term.specs.declared.term.Term.{Term, out-Term}
 use Rattle.esto_semantics.specs.Facts.{image, terms_of}
 use Rattle.esto_semantics.specs.Rules.{Rule, tuple, equality, denial, body_of}
-use Rattle.esto_semantics.specs.Sets.{Has, Within, united}
 use Rattle.esto_semantics.specs.declared.fact.Fact.{Fact}
-use Rattle.esto_term.proofs.ListLemmas.{Contains-nil, Contains-head, Contains-rest, Contains-cases, Contains-at, place-from_Contains}
+use Rattle.esto_term.proofs.ListLemmas.{Contains-nil, Contains-head, Contains-rest}
 use Rattle.esto_term.proofs.ListLemmas.{map_at, map_agree, Contains-flat, Contains-filter_from}
 use Rattle.esto_term.proofs.ZipLemmas.{zip_weaker}
-use Rattle.esto_semantics.proofs.SetLemmas.{has_united, length-united}
 use Rattle.esto_constraint.specs.Constraints.{rule_of, rules_of}
 use Rattle.esto_constraint.specs.declared.rule.Constraint.{Constraint}
 use Rattle.esto_views.specs.declared.expansion.ExpandedFact.{ExpandedFact}
-use Rattle.std.proofs.Common.{zero, suc}
-use Rattle.esto_world_laws.specs.Claims.{AreSameClaim}
-use Rattle.esto_world_laws.specs.Worlds.{InWorld, SaysOne, Linked}
+use Rattle.esto_world_laws.specs.Worlds.{Linked}
 use Rattle.esto_world_laws.specs.Matches.{taken, Touching, AreChosen, match_map}
 use Rattle.esto_chase_laws.specs.Making.{is_variable_level, is_variable_of, frontier, made_for, extended}
 use Rattle.esto_chase_laws.proofs.JoinedLemmas.{joined_from}
@@ -31,22 +25,20 @@ use Rattle.esto_term.specs.Order.{same_term}
 use Rattle.esto_semantics.proofs.TermLemmas.{same_term-Decides}
 use Rattle.std.specs.List.{filter}
 use Rattle.std.specs.Set.{is_member}
-use Rattle.esto_world_laws.specs.Steps.{IsAsked, AreAnswered, AreJoined}
-use Rattle.esto_world_laws.specs.Derived.{Claims, IsNamed, IsUnion, FollowsBy, Follows}
+use Rattle.esto_world_laws.specs.Steps.{IsAsked, AreAnswered}
+use Rattle.esto_world_laws.specs.Derived.{Claims, IsNamed, FollowsBy, Follows}
 use Rattle.esto_world_laws.specs.declared.entry.Claim.{Claim}
 use Rattle.esto_world_laws.specs.declared.entry.Claim.TheVariants.{Fact as Stated, Same}
-use Rattle.esto_world_laws.specs.declared.entry.Reason.TheVariants.{Step, Equal}
+use Rattle.esto_world_laws.specs.declared.entry.Reason.TheVariants.{Step}
 use Rattle.esto_world_laws.specs.declared.entry.Entry.{Entry}
 use Rattle.esto_world_laws.proofs.LinkLemmas.{Linked-touching, Touching-more}
-use Rattle.esto_world_laws.proofs.GrowLemmas.{InWorld-more, IsCovered-more, Follows-append}
-use Rattle.esto_world_laws.specs.Worlds.{AreOfCount}
+use Rattle.esto_world_laws.proofs.GrowLemmas.{InWorld-more, IsCovered-more}
 use Rattle.esto_prov.specs.Taking.{made_of}
 use Rattle.esto_condchase.specs.Ways.{AgreeOn, IsFound}
 use Rattle.esto_condchase.specs.News.{AreFoundAnew}
 use Rattle.esto_condchase.specs.Rounds.{IsNoted, IsThere, AsksMore, IsAnswered, IsRuleAnswered, terms_asked}
 use Rattle.esto_condchase.specs.declared.ways.Way.{Way}
-use Rattle.esto_term.proofs.PlaceLemmas.{take-item, Contains-take, item_at}
-use Rattle.esto_condchase.proofs.WayLemmas.{IsUnion-more}
+use Rattle.esto_term.proofs.PlaceLemmas.{take-item}
 use Rattle.esto_condchase.proofs.CoverLemmas.{IsThere-grows, AsksMore-then, noted_asks, noted_there}
 
 -- ---- what a rule asks for follows

@@ -1,11 +1,11 @@
 -- What goes on from a way: kept ways, places that tell, supports, and a fact's row.
-use Rattle.std.proofs.Common.{◌≡◌, ◌≢◌, ◌⊎◌, ◌↔◌, ◌<◌, ◌≤◌, ◌+◌, inl, inr, zero, suc, ℕ, Bool, true, false, cond, List, [], ◌∷◌, ◌++◌, length, map, take, get_or, slice_get}
+use Rattle.std.proofs.Common.{◌≡◌, ◌≢◌, ◌⊎◌, ◌<◌, ◌≤◌, ◌+◌, inl, inr, zero, suc, ℕ, Bool, true, false, cond, List, [], ◌∷◌, ◌++◌, length, map, take, get_or, slice_get}
 use Rattle.std.proofs.Common.{◌==◌}
 use Rattle.std.proofs.lemmas.Bool.Decides.{nat_tests}
-use Rattle.std.proofs.Common.{Contains, Some, None, refl, sym, ap, ◌∙◌, subst, arith}
+use Rattle.std.proofs.Common.{Contains, Some, refl, sym, ap, ◌∙◌, subst, arith}
 use Rattle.std.specs.List.{AllZip}
-use Rattle.std.proofs.lemmas.List.{get_or_default, append_assoc, length-append, length-map}
-use Rattle.std.proofs.lemmas.List.Elements.{Contains-append_cases, Contains-append_left, Contains-append_right, Contains-push, Contains-push_cases}
+use Rattle.std.proofs.lemmas.List.{get_or_default, length-append, length-map}
+use Rattle.std.proofs.lemmas.List.Elements.{Contains-append_left, Contains-push, Contains-push_cases}
 use Rattle.std.proofs.lemmas.Option.{slice_get_within, none-some, same_Some}
 use Rattle.std.proofs.lemmas.Bool.{cases_lt, cases_order, false≢true}
 use Rattle.esto_term.specs.declared.term.Term.{Term}
@@ -13,24 +13,24 @@ use Rattle.esto_term.specs.Order.{same_term}
 use Rattle.esto_term.specs.Kinds.{IsConstant}
 use Rattle.esto_semantics.proofs.TermLemmas.{same_term-Decides}
 use Rattle.esto_views.specs.Spreads.{substituted}
-use Rattle.esto_semantics.specs.Sets.{Has, Within, united}
+use Rattle.esto_semantics.specs.Sets.{Within, united}
 use Rattle.esto_semantics.specs.declared.fact.Fact.{Fact}
-use Rattle.esto_semantics.proofs.SetLemmas.{has_united, length-united}
+use Rattle.esto_semantics.proofs.SetLemmas.{length-united}
 use Rattle.esto_bits.proofs.SetLemmas.{Has-replicate}
 use Rattle.esto_term.proofs.ListLemmas.{Contains-nil, Contains-at, Contains-head, Contains-one, thing_at, place-from_Contains, map_at, at_left, HoldsBelow}
 use Rattle.esto_term.proofs.PlaceLemmas.{Contains-take, item_at}
 use Rattle.esto_term.proofs.ZipLemmas.{zip_both, zip_by_places, zip_weaker}
-use Rattle.esto_world_laws.specs.Worlds.{InWorld, SaysOne, AreOfCount}
+use Rattle.esto_world_laws.specs.Worlds.{InWorld, SaysOne}
 use Rattle.esto_world_laws.specs.Matches.{IsLike, taken, Touching}
-use Rattle.esto_world_laws.specs.Derived.{Claims, IsNamed, IsUnion, IsEquality}
+use Rattle.esto_world_laws.specs.Derived.{IsNamed, IsUnion, IsEquality}
 use Rattle.esto_world_laws.specs.declared.entry.Claim.{Claim}
-use Rattle.esto_world_laws.specs.declared.entry.Claim.TheVariants.{Fact as Stated, Same}
+use Rattle.esto_world_laws.specs.declared.entry.Claim.TheVariants.{Fact as Stated}
 use Rattle.esto_world_laws.specs.declared.entry.Entry.{Entry}
 use Rattle.esto_world_laws.proofs.LinkLemmas.{Touching-more}
 use Rattle.esto_world_laws.proofs.TakenLemmas.{taken-Const, taken_cases, Fits-join}
 use Rattle.esto_condchase.proofs.WayLemmas.{IsUnion-more, last_more, fact_more, within_united, taken-apart, IsNamed-held}
-use Rattle.esto_condchase.specs.Ways.{AreCounted, IsWay, Grown, HasLater, AreAllLive, AreAllFacts, IsFirstAt, AgreeAt, TellsOne, HasWay, HasSupport, meets, IsLinkedFrom, TouchesFrom}
-use Rattle.esto_condchase.specs.Ways.{IsStale, AreFresh, IsFreeLink, floor_of, PassesTo, PassesIn, IsPassedAt, IsLonger, IsSupport, AreLonger, AreSupports, ComesBy, Comes, extended, IsOldWay, GoesOld, GoesOn}
+use Rattle.esto_condchase.specs.Ways.{AreCounted, Grown, AreAllLive, AreAllFacts, IsFirstAt, TellsOne, HasWay, HasSupport, meets, IsLinkedFrom, TouchesFrom}
+use Rattle.esto_condchase.specs.Ways.{IsStale, AreFresh, IsFreeLink, floor_of, PassesTo, PassesIn, IsPassedAt, IsLonger, IsSupport, AreLonger, AreSupports, ComesBy, Comes, extended, IsOldWay, GoesOn}
 use Rattle.esto_known.specs.Indexes.{HasSide}
 use Rattle.esto_condchase.specs.declared.passing.Support.{Support}
 use Rattle.esto_condchase.specs.declared.ways.Way.{Way}

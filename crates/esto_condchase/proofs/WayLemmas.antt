@@ -2,7 +2,7 @@
 use Rattle.std.proofs.Common.{◌≡◌, ◌≢◌, ◌⊎◌, ◌↔◌, ◌<◌, ◌≤◌, ◌+◌, inl, inr, zero, suc, ℕ, Bool, true, false, cond, List, [], ◌∷◌, ◌++◌, length, map, take, drop, get_or, slice_get, slice_range, ◌-◌}
 use Rattle.std.proofs.Common.{Contains, Some, refl, sym, ap, ◌∙◌, subst, arith}
 use Rattle.std.specs.List.{AllZip}
-use Rattle.std.proofs.lemmas.List.{append-nil, append_assoc, length-append, length-drop, length-map, take_all, drop_all}
+use Rattle.std.proofs.lemmas.List.{append-nil, append_assoc, length-append, length-drop, take_all, drop_all}
 use Rattle.std.proofs.lemmas.List.Elements.{Contains-append_cases, Contains-append_left, Contains-append_right, Contains-push, Contains-push_cases}
 use Rattle.std.proofs.lemmas.Option.{slice_get_within}
 use Rattle.std.proofs.lemmas.Grind.{flat_map-append}
@@ -16,22 +16,19 @@ use Rattle.std.proofs.lemmas.Bool.{false≢true}
 use Rattle.esto_views.specs.Spreads.{substituted}
 use Rattle.esto_semantics.specs.Sets.{Has, Within, united}
 use Rattle.esto_semantics.specs.declared.fact.Fact.{Fact}
-use Rattle.esto_term.proofs.ListLemmas.{Contains-nil, Contains-at, Contains-head, Contains-rest, Contains-one, map_agree}
-use Rattle.esto_term.proofs.ListLemmas.{map_at, place-from_Contains}
-use Rattle.esto_term.proofs.ZipLemmas.{zip_append, zip_both, zip_split, zip_weaker}
-use Rattle.esto_semantics.proofs.SetLemmas.{has_united, length-united}
-use Rattle.esto_world_laws.specs.Worlds.{InWorld, SaysOne, AreOfCount}
+use Rattle.esto_term.proofs.ListLemmas.{Contains-nil, Contains-head, Contains-rest, Contains-one, map_agree}
+use Rattle.esto_semantics.proofs.SetLemmas.{has_united}
+use Rattle.esto_world_laws.specs.Worlds.{InWorld}
 use Rattle.esto_semantics.specs.Facts.{terms_of}
-use Rattle.esto_world_laws.specs.Matches.{IsLike, unless_constant, taken, Touching, Fits, AreChosen, IsDirectMatch}
-use Rattle.esto_world_laws.specs.Derived.{Claims, IsNamed, IsUnion, IsEquality}
+use Rattle.esto_world_laws.specs.Matches.{unless_constant, taken, AreChosen, IsDirectMatch}
+use Rattle.esto_world_laws.specs.Derived.{Claims, IsNamed, IsUnion}
 use Rattle.esto_world_laws.specs.declared.entry.Claim.{Claim}
-use Rattle.esto_world_laws.specs.declared.entry.Claim.TheVariants.{Fact as Stated, Same}
+use Rattle.esto_world_laws.specs.declared.entry.Claim.TheVariants.{Fact as Stated}
 use Rattle.esto_world_laws.specs.declared.entry.Entry.{Entry}
-use Rattle.esto_world_laws.proofs.LinkLemmas.{Touching-more}
-use Rattle.esto_world_laws.proofs.TakenLemmas.{taken-stays, Fits-push, Fits-split}
-use Rattle.esto_condchase.specs.Ways.{AreCounted, IsWay, AgreeOn, Tell, IsPut, AreNext, IsFound, AreFound}
+use Rattle.esto_world_laws.proofs.TakenLemmas.{taken-stays}
+use Rattle.esto_condchase.specs.Ways.{AreCounted, AgreeOn, Tell, IsPut, IsFound, AreFound}
 use Rattle.esto_condchase.specs.declared.ways.Way.{Way}
-use Rattle.esto_term.proofs.PlaceLemmas.{item_at, take-item, drop-item}
+use Rattle.esto_term.proofs.PlaceLemmas.{take-item, drop-item}
 
 one_of : {X : Type 0} (P : X → Type 0) (only other : X) → Contains (only ∷ []) other → P only → P other
 one_of P only other inside it = subst P (Contains-one only other inside) it

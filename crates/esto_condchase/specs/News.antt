@@ -1,5 +1,5 @@
 -- What is new since a round: the entries from a place on.
-use Rattle.std.specs.Prelude.{◌⊎◌, ℕ, ◌<◌, Bool, List, ◌++◌, take, Contains}
+use Rattle.std.specs.Prelude.{◌⊎◌, ℕ, Bool, List, take, Contains}
 use Rattle.esto_acyclic.specs.Relations.{HasRelation}
 use Rattle.esto_term.specs.declared.term.Term.{Term}
 use Rattle.esto_semantics.specs.Facts.{terms_of}

@@ -11,7 +11,7 @@ use Rattle.esto_views.specs.Spreads.{substituted}
 use Rattle.esto_world_laws.specs.Matches.{IsLike, taken, Touching, Fits, IsDirectMatch}
 use Rattle.esto_world_laws.specs.Derived.{Claims, IsNamed, IsUnion, IsEquality}
 use Rattle.esto_world_laws.specs.declared.entry.Claim.{Claim}
-use Rattle.esto_world_laws.specs.declared.entry.Claim.TheVariants.{Fact as Stated, Same}
+use Rattle.esto_world_laws.specs.declared.entry.Claim.TheVariants.{Fact as Stated}
 use Rattle.esto_world_laws.specs.declared.entry.Entry.{Entry}
 use Rattle.esto_known.specs.Indexes.{HasSide}
 use Rattle.esto_condchase.specs.declared.passing.Support.{Support}

@@ -1,5 +1,5 @@
 //! Entries that are added only where they are not covered.
-ghost use Rattle.std.specs.Prelude.{◌≡◌, ◌↔◌, ◌++◌, ◌<◌, ℕ, List, Contains, length, IsTrue, IfOk, OnOk};
+ghost use Rattle.std.specs.Prelude.{◌≡◌, ◌↔◌, ◌<◌, List, Contains, length, IsTrue, IfOk, OnOk};
 ghost use Rattle.esto_semantics.specs.Rules.{Rule};
 ghost use Rattle.esto_world_laws.specs.Steps.{IsCovered};
 ghost use Rattle.esto_world_laws.specs.Worlds.{InWorld, AreOfCount};

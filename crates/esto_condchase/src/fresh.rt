@@ -1,6 +1,5 @@
 //! Facts that may make something new of what is old: new ones, and those with a term that a new equality has.
 ghost use Rattle.std.specs.Prelude.{◌≡◌, ◌<◌, ◌⊎◌, ℕ, Some, false, Contains, slice_get, IfOk, OnOk, MatchOption};
-ghost use Rattle.esto_known.specs.Indexes.{HasSide};
 ghost use Rattle.esto_known.specs.declared.group.Group.{Group};
 ghost use Rattle.esto_semantics.specs.declared.fact.Fact.{Fact};
 ghost use Rattle.esto_term.specs.declared.term.Term.{Term};

@@ -1,5 +1,5 @@
 //! What links ask for: two that meet in one term link the terms at their ends.
-ghost use Rattle.std.specs.Prelude.{◌≡◌, ◌∷◌, ◌++◌, [], ◌<◌, ◌⊎◌, ℕ, Bool, false, List, Some, Contains, length, slice_get, take, IsTrue, IfOk, OnOk};
+ghost use Rattle.std.specs.Prelude.{◌≡◌, ◌++◌, ◌<◌, ◌⊎◌, ℕ, false, List, Some, Contains, length, slice_get, take, IsTrue, IfOk, OnOk};
 ghost use Rattle.esto_semantics.specs.Rules.{Rule};
 ghost use Rattle.esto_semantics.specs.Sets.{Covers, united};
 ghost use Rattle.esto_term.specs.declared.term.Term.{Term};

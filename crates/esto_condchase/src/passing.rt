@@ -1,5 +1,5 @@
 //! How a fact goes on from a way: the equalities by which its terms are one with what they have to meet.
-ghost use Rattle.std.specs.Prelude.{◌≡◌, ◌++◌, ◌∷◌, ◌<◌, ◌≤◌, MatchOption, ◌⊎◌, [], List, Some, Bool, Contains, length, map, slice_get, IsTrue, IfOk, IfSome, OnOk, cond, ◌==◌, false, take};
+ghost use Rattle.std.specs.Prelude.{◌≡◌, ◌++◌, ◌∷◌, ◌<◌, ◌≤◌, MatchOption, ◌⊎◌, [], List, Some, Bool, Contains, length, slice_get, IsTrue, IfOk, IfSome, OnOk, ◌==◌, false, take};
 ghost use Rattle.esto_semantics.specs.Sets.{Within, united};
 ghost use Rattle.esto_world_laws.specs.Matches.{taken};
 ghost use Rattle.esto_world_laws.specs.Worlds.{AreOfCount, SaysOne};

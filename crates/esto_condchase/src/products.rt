@@ -1,13 +1,11 @@
 //! The products of a query's matches: atom by atom, for the worlds of all sets at once.
-ghost use Rattle.std.specs.Prelude.{◌≡◌, ◌↔◌, ◌++◌, ◌∷◌, List, [], Bool, length, map, Contains, IfOk, OnOk};
-ghost use Rattle.std.specs.List.{AllZip};
+ghost use Rattle.std.specs.Prelude.{◌≡◌, ◌↔◌, List, Bool, length, IfOk, OnOk};
 ghost use Rattle.esto_semantics.specs.Facts.{terms_of};
 ghost use Rattle.esto_semantics.specs.Sets.{Covers};
 ghost use Rattle.esto_world_laws.specs.Laws.{HasMatch};
-ghost use Rattle.esto_world_laws.specs.Matches.{taken};
 ghost use Rattle.esto_world_laws.specs.Steps.{AreJoined};
 ghost use Rattle.esto_world_laws.specs.Worlds.{InWorld, AreOfCount};
-ghost use Rattle.esto_condchase.specs.Products.{AreGroupsOf, AreReachedOf, AreTouching, IsNext, IsFirst};
+ghost use Rattle.esto_condchase.specs.Products.{AreGroupsOf, AreReachedOf, IsNext, IsFirst};
 
 use crate::covered::telling;
 use crate::reached::{Reached, next, sets_of_all};

@@ -2,7 +2,6 @@
 ghost use Rattle.std.specs.Prelude.{◌≡◌, ◌↔◌, ◌⊎◌, ◌<◌, ◌++◌, ◌∷◌, List, [], Bool, Some, length, slice_get, Contains, IfOk, IfSome, OnOk};
 ghost use Rattle.esto_term.specs.declared.term.Term.{Term};
 ghost use Rattle.esto_semantics.specs.Sets.{Covers};
-ghost use Rattle.esto_world_laws.specs.Matches.{IsLike};
 ghost use Rattle.esto_condchase.specs.Products.{AreGroupsOf, AreReachedOf, IsReachedBy, Reach, StepsBy, StepsWith, StepsFrom, Steps};
 ghost use Rattle.esto_condchase.specs.declared.reached.Reached.{Reached};
 

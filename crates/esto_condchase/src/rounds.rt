@@ -1,13 +1,11 @@
 //! A round: what the rules and the links ask for among the entries that stood when it began.
-ghost use Rattle.std.specs.Prelude.{◌≡◌, ◌∷◌, ◌++◌, [], List, Some, Contains, length, slice_get, take, IfOk, OnOk, ℕ, ◌⊎◌};
+ghost use Rattle.std.specs.Prelude.{◌≡◌, ◌∷◌, ◌++◌, [], List, Some, length, slice_get, take, IfOk, OnOk};
 ghost use Rattle.esto_semantics.specs.Facts.{terms_of};
-ghost use Rattle.esto_semantics.specs.Rules.{Rule, tuple, equality};
-ghost use Rattle.esto_semantics.specs.Sets.{united};
+ghost use Rattle.esto_semantics.specs.Rules.{tuple, equality};
 ghost use Rattle.esto_constraint.specs.Constraints.{rule_of, rules_of};
 ghost use Rattle.esto_chase_laws.specs.Making.{frontier};
 ghost use Rattle.esto_world_laws.specs.Worlds.{AreOfCount};
 ghost use Rattle.esto_world_laws.specs.Steps.{AreAnswered, AreJoined};
-ghost use Rattle.esto_world_laws.specs.declared.entry.Claim.TheVariants.{Same};
 ghost use Rattle.esto_world_laws.specs.declared.entry.Entry.{Entry};
 ghost use Rattle.esto_world_laws.specs.declared.entry.Reason.TheVariants.{Step};
 ghost use Rattle.esto_condchase.specs.Ways.{IsFound};

@@ -9,7 +9,7 @@ ghost use Rattle.esto_world_laws.specs.declared.entry.Claim.TheVariants.{Fact as
 ghost use Rattle.esto_world_laws.specs.declared.entry.Entry.{Entry};
 ghost use Rattle.esto_condchase.specs.declared.passing.Support.{Support};
 ghost use Rattle.esto_condchase.specs.declared.ways.Way.{Way};
-ghost use Rattle.esto_condchase.specs.Ways.{AreCounted, AreAllFacts, AreFresh, Grown, HasWay, extended, meets, PassesTo, PassesIn, IsPassedAt, ComesBy, Comes, IsOldWay, GoesOn};
+ghost use Rattle.esto_condchase.specs.Ways.{AreCounted, AreAllFacts, AreFresh, Grown, HasWay, extended, meets, PassesTo, PassesIn, IsPassedAt, ComesBy, Comes, GoesOn};
 
 use crate::kept::{Kept, hash_at};
 use crate::news::{has_later, is_new};

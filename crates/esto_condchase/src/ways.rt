@@ -1,5 +1,5 @@
 //! Ways to match a body among entries, modulo equalities.
-ghost use Rattle.std.specs.Prelude.{◌≡◌, ◌++◌, ◌∷◌, [], ◌<◌, ℕ, length, Contains, IsTrue, IfOk, OnOk};
+ghost use Rattle.std.specs.Prelude.{◌≡◌, ◌++◌, ◌∷◌, [], ◌<◌, length, Contains, IfOk, OnOk};
 ghost use Rattle.esto_semantics.specs.Facts.{terms_of};
 ghost use Rattle.esto_world_laws.specs.Worlds.{AreOfCount};
 ghost use Rattle.esto_condchase.specs.Ways.{AreCounted, empty_way, Comes, GoesOn, TellsOne, AreNext, AreFound};

@@ -1,7 +1,7 @@
 -- Indexes of claims: a walk along the chain of a key, and what it finds.
 use Rattle.std.proofs.Common.{◌≡◌, inl, inr, ℕ, zero, suc, ◌+◌, ◌<◌, ◌≤◌, Bool, true, false, cond, List, [], ◌∷◌, ◌++◌, length, map, take, get_or, Some, slice_get}
 use Rattle.std.proofs.Common.{Contains, refl, sym, ap, ◌∙◌, subst, arith, max, min}
-use Rattle.std.proofs.lemmas.Bool.{false≢true, cases_order}
+use Rattle.std.proofs.lemmas.Bool.{cases_order}
 use Rattle.std.proofs.lemmas.List.{map-append, take_all}
 use Rattle.std.proofs.lemmas.List.Elements.{Contains-append_left, Contains-append_right}
 use Rattle.std.proofs.lemmas.Option.{none-some, slice_get_within, get_or_from_slice_get}
@@ -12,7 +12,6 @@ use Rattle.esto_term.proofs.PlaceLemmas.{take-item}
 use Rattle.esto_columns.specs.Indexed.{Index, IsIndexOf, LeadsOn, AreAmongPlaces, bucket_of, mixed}
 use Rattle.esto_columns.specs.Picked.{places_where}
 use Rattle.esto_world_laws.specs.Worlds.{SaysOne}
-use Rattle.esto_world_laws.specs.Claims.{AreSameClaim}
 use Rattle.esto_world_laws.specs.declared.entry.Claim.{Claim}
 use Rattle.esto_world_laws.specs.declared.entry.Claim.TheVariants.{Fact as Stated, Same}
 use Rattle.esto_known.specs.Hashes.{claim_key, first_key, second_key, pair_hash, term_hash, relation_hash}

@@ -1,5 +1,5 @@
 //! Hashes of terms and of claims.
-ghost use Rattle.std.specs.Prelude.{◌≡◌, ◌∷◌, [], map};
+ghost use Rattle.std.specs.Prelude.{◌≡◌};
 ghost use Rattle.esto_columns.specs.Indexed.{mixed, hash_from};
 ghost use Rattle.esto_known.specs.Hashes.{term_hash, relation_hash, fact_hash, pair_hash, claim_key, first_key, second_key};
 

@@ -1,5 +1,5 @@
 //! Indexes of claims.
-ghost use Rattle.std.specs.Prelude.{◌≡◌, ◌++◌, ◌∷◌, [], List, IfOk, OnOk};
+ghost use Rattle.std.specs.Prelude.{◌++◌, ◌∷◌, [], List, IfOk, OnOk};
 ghost use Rattle.esto_world_laws.specs.declared.entry.Claim.{Claim};
 ghost use Rattle.esto_known.specs.Indexes.{AreKeysOf};
 ghost use Rattle.esto_known.specs.Groups.{claims_of};

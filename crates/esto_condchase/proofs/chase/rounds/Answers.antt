@@ -1,6 +1,5 @@
-use Rattle.std.proofs.Common.{length, refl, sym, ◌∙◌, ap, arith, subst, Contains}
+use Rattle.std.proofs.Common.{length, sym, ◌∙◌, ap, arith, subst, Contains}
 use Rattle.std.specs.Prelude.{slice_index}
-use Rattle.std.proofs.lemmas.Bool.{false≢true}
 use Rattle.esto_constraint.specs.Constraints.{rules_of}
 use Rattle.esto_chase.proofs.ChaseLemmas.{rules-AreRules, ranks-RanksRise, depth_of, ranks-small, depth-small}
 use Rattle.esto_world_laws.specs.Derived.{AreDerived}

@@ -1,4 +1,4 @@
-use Rattle.std.proofs.Common.{inl, inr, sym, refl, ◌≡◌, ◌++◌, ◌∷◌, [], ◌∙◌, ap}
+use Rattle.std.proofs.Common.{inl, inr, sym, refl, ◌++◌, ◌∷◌, [], ◌∙◌, ap}
 use Rattle.std.proofs.lemmas.Bool.{false≢true}
 use Rattle.esto_condchase.proofs.covering.add.Goals as goal
 

@@ -1,4 +1,4 @@
-use Rattle.std.proofs.Common.{◌⊎◌, inl, inr, ℕ, Contains}
+use Rattle.std.proofs.Common.{◌⊎◌, inl, inr, Contains}
 use Rattle.std.proofs.lemmas.List.{get_or_default}
 use Rattle.esto_term.proofs.ListLemmas.{Contains-nil, each_more, each_seen}
 use Rattle.esto_condchase.specs.Ways.{IsStale}

@@ -1,4 +1,4 @@
-use Rattle.std.proofs.Common.{◌≡◌, ◌++◌, [], Some, slice_get, inl, inr, sym, subst, ◌∙◌}
+use Rattle.std.proofs.Common.{◌≡◌, ◌++◌, [], Some, slice_get, inl, sym, subst, ◌∙◌}
 use Rattle.esto_condchase.specs.Rounds.{AreOld, IsSideMet}
 use Rattle.esto_condchase.proofs.CoverLemmas.{read_at, AsksMore-then}
 use Rattle.esto_condchase.proofs.JoinLemmas.{side_met, side_none}

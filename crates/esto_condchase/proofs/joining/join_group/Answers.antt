@@ -1,7 +1,7 @@
 use Rattle.std.proofs.Common.{[], inl, inr, subst}
 use Rattle.esto_condchase.specs.Rounds.{AreOld}
 use Rattle.esto_condchase.proofs.CoverLemmas.{AsksMore-then}
-use Rattle.esto_condchase.proofs.JoinLemmas.{group_met, group_none}
+use Rattle.esto_condchase.proofs.JoinLemmas.{group_met}
 use Rattle.esto_condchase.proofs.joining.join_group.Goals as goal
 
 pub returns-then-not-has_new-clause-met : goal.returns-then-not-has_new-clause-met

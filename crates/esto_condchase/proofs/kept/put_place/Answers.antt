@@ -1,6 +1,5 @@
-use Rattle.std.proofs.Common.{Contains, sym, subst}
 use Rattle.std.proofs.lemmas.Result.{on_ok_weaker}
-use Rattle.esto_condchase.proofs.StepLemmas.{tells_constant, tells_apart, tells_inside, tells_pushed, kept_pushed}
+use Rattle.esto_condchase.proofs.StepLemmas.{tells_constant, tells_apart, tells_inside, tells_pushed}
 use Rattle.esto_condchase.proofs.kept.put_place.Goals as goal
 
 pub returns-then-is_constant-clause-told : goal.returns-then-is_constant-clause-told

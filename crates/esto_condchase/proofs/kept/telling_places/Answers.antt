@@ -1,4 +1,3 @@
-use Rattle.std.proofs.Common.{Contains}
 use Rattle.esto_term.proofs.ListLemmas.{each_more, each_seen}
 use Rattle.esto_condchase.specs.Ways.{TellsOne}
 use Rattle.esto_condchase.proofs.StepLemmas.{tells_more}

@@ -1,7 +1,7 @@
-use Rattle.std.proofs.Common.{Contains, ap, sym, ◌∙◌, subst}
+use Rattle.std.proofs.Common.{ap, sym, ◌∙◌}
 use Rattle.std.proofs.lemmas.Option.{same_Some}
 use Rattle.esto_known.specs.declared.group.Group.{Group}
-use Rattle.esto_condchase.proofs.LiveLemmas.{kept_all, has_all}
+use Rattle.esto_condchase.proofs.LiveLemmas.{has_all}
 use Rattle.esto_condchase.proofs.live.put_group.Goals as goal
 
 pub returns-in_ok-put_all-in-Some-clause-there : goal.returns-in_ok-put_all-in-Some-clause-there

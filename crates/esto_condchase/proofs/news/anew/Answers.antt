@@ -1,4 +1,4 @@
-use Rattle.std.proofs.Common.{◌++◌, Contains, ap, sym, subst, ◌∙◌}
+use Rattle.std.proofs.Common.{◌++◌, ap, sym, subst, ◌∙◌}
 use Rattle.esto_condchase.specs.Ways.{AreCounted}
 use Rattle.esto_condchase.proofs.WayLemmas.{found_lengths}
 use Rattle.esto_condchase.proofs.FoundLemmas.{anew_last}

@@ -1,4 +1,4 @@
-use Rattle.std.proofs.Common.{inl, inr, refl, sym, subst, ◌∙◌}
+use Rattle.std.proofs.Common.{inl, inr, refl, sym, subst}
 use Rattle.esto_semantics.specs.Sets.{Within}
 use Rattle.esto_condchase.specs.Ways.{IsLonger}
 use Rattle.esto_condchase.proofs.WayLemmas.{within_united}

@@ -1,4 +1,4 @@
-use Rattle.std.proofs.Common.{[], ◌<◌, ◌≤◌, inl, inr, sym, subst, arith}
+use Rattle.std.proofs.Common.{[], inl, inr, sym, subst, arith}
 use Rattle.std.proofs.lemmas.Bool.{cases_order}
 use Rattle.esto_condchase.specs.Ways.{IsPassedAt, meets}
 use Rattle.esto_condchase.proofs.StepLemmas.{all_old}

@@ -1,4 +1,4 @@
-use Rattle.std.proofs.Common.{[], ◌<◌, ap, refl, sym, subst, ◌∙◌, length}
+use Rattle.std.proofs.Common.{[], ◌<◌, ap, refl, sym, subst, ◌∙◌}
 use Rattle.esto_condchase.specs.Ways.{meets}
 use Rattle.esto_condchase.proofs.StepLemmas.{passed_equal, passed_unlinked}
 use Rattle.esto_condchase.proofs.passing.is_linked_at.Goals as goal

@@ -1,10 +1,8 @@
-use Rattle.std.proofs.Common.{Some, sym, refl, subst, ap, ◌∙◌, ◌≡◌, arith}
+use Rattle.std.proofs.Common.{sym, subst, ◌∙◌}
 use Rattle.std.proofs.lemmas.Result.{on_ok_weaker}
 use Rattle.std.proofs.lemmas.Option.{same_Some}
 use Rattle.esto_semantics.specs.Sets.{Within}
 use Rattle.esto_world_laws.specs.declared.entry.Entry.{Entry}
-use Rattle.esto_condchase.specs.Ways.{IsLonger}
-use Rattle.esto_condchase.proofs.StepLemmas.{grown_same}
 use Rattle.esto_condchase.proofs.passing.longer_at.Goals as goal
 
 pub returns-in-Some-clause-grown : goal.returns-in-Some-clause-grown

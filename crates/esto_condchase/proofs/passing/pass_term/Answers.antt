@@ -1,6 +1,6 @@
-use Rattle.std.proofs.Common.{◌++◌, List, Contains, Some, refl, sym, ap, subst, ◌∙◌, length, ◌≡◌}
+use Rattle.std.proofs.Common.{◌++◌, Contains, refl, sym, subst, ◌∙◌}
 use Rattle.std.proofs.lemmas.Bool.{false≢true}
-use Rattle.esto_condchase.specs.Ways.{AreLonger, HasWay, meets}
+use Rattle.esto_condchase.specs.Ways.{HasWay, meets}
 use Rattle.esto_condchase.proofs.StepLemmas.{longer_same, longer_items, longer_at_term}
 use Rattle.esto_condchase.proofs.passing.pass_term.Goals as goal
 

@@ -1,6 +1,6 @@
-use Rattle.std.proofs.Common.{◌++◌, ◌<◌, ◌+◌, ◌∙◌, sym, subst, arith, length, refl}
+use Rattle.std.proofs.Common.{◌++◌, ◌+◌, ◌∙◌, subst, arith, refl}
 use Rattle.esto_term.proofs.ListLemmas.{thing_at}
-use Rattle.esto_condchase.specs.Ways.{AreLonger, AreSupports, HasWay, meets}
+use Rattle.esto_condchase.specs.Ways.{AreLonger, HasWay, meets}
 use Rattle.esto_condchase.proofs.StepLemmas.{supports_none, supports_turn, supports_end}
 use Rattle.esto_condchase.proofs.passing.through_row.Goals as goal
 

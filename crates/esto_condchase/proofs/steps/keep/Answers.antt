@@ -1,6 +1,6 @@
-use Rattle.std.proofs.Common.{◌++◌, ap, ◌∙◌, sym, refl, subst, length}
+use Rattle.std.proofs.Common.{◌++◌, ap, ◌∙◌, sym, refl, subst}
 use Rattle.std.proofs.lemmas.Result.{on_ok_weaker}
-use Rattle.esto_condchase.specs.Ways.{HasWay, extended}
+use Rattle.esto_condchase.specs.Ways.{HasWay}
 use Rattle.esto_condchase.specs.declared.ways.Way.{Way}
 use Rattle.esto_condchase.proofs.StepLemmas.{grown_same, grown_push, way_pushed}
 use Rattle.esto_condchase.proofs.steps.keep.Goals as goal

@@ -1,6 +1,6 @@
 use Rattle.std.proofs.Common.{◌≡◌, ◌++◌, Contains, refl, sym, ap, subst, length, ◌∙◌}
 use Rattle.esto_term.proofs.ListLemmas.{Contains-nil, Contains-read, each_more, each_seen}
-use Rattle.esto_condchase.specs.Ways.{AreCounted, Grown, HasWay, extended}
+use Rattle.esto_condchase.specs.Ways.{AreCounted, HasWay, extended}
 use Rattle.esto_condchase.specs.declared.passing.Support.{Support}
 use Rattle.esto_condchase.specs.declared.ways.Way.{Way}
 use Rattle.esto_condchase.proofs.StepLemmas.{grown_same, grown_then, grown_weaker, way_kept, counted_grown}

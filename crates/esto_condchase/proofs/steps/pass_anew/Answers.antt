@@ -1,4 +1,4 @@
-use Rattle.std.proofs.Common.{◌++◌, ◌<◌, ◌+◌, ◌≤◌, length, inl, inr, refl, sym, subst, arith}
+use Rattle.std.proofs.Common.{◌++◌, ◌+◌, inl, inr, refl, sym, subst, arith}
 use Rattle.std.proofs.lemmas.Bool.{cases_order}
 use Rattle.esto_condchase.specs.Ways.{ComesBy, HasWay, IsPassedAt, meets}
 use Rattle.esto_condchase.proofs.StepLemmas.{grown_same, grown_then, way_kept, passed_kept}

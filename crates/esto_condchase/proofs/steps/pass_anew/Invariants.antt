@@ -1,6 +1,4 @@
-use Rattle.std.proofs.Common.{◌≡◌, ◌++◌, ◌<◌, ℕ, Some, slice_get}
-use Rattle.esto_semantics.specs.Sets.{united}
-use Rattle.esto_world_laws.specs.declared.entry.Entry.{Entry}
+use Rattle.std.proofs.Common.{◌++◌, ◌<◌, ℕ}
 use Rattle.esto_condchase.specs.Ways.{AreCounted, Grown, HasWay, ComesBy, IsPassedAt, meets}
 use Rattle.esto_condchase.proofs.steps.pass_anew.Given as goal
 

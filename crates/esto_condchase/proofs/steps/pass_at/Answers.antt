@@ -1,4 +1,4 @@
-use Rattle.std.proofs.Common.{◌++◌, ◌<◌, refl, length, sym, ap, ◌∙◌, subst}
+use Rattle.std.proofs.Common.{◌++◌, ◌<◌, refl, sym, ap, ◌∙◌, subst}
 use Rattle.esto_condchase.specs.Ways.{meets, HasWay}
 use Rattle.esto_condchase.proofs.StepLemmas.{grown_same, passed_equal, passed_one}
 use Rattle.esto_condchase.proofs.steps.pass_at.Goals as goal

@@ -1,10 +1,10 @@
-use Rattle.std.proofs.Common.{◌++◌, ◌<◌, inl, inr, length, refl, sym, subst, arith, ◌∙◌}
+use Rattle.std.proofs.Common.{◌++◌, inl, inr, sym, subst, arith, ◌∙◌}
 use Rattle.std.proofs.lemmas.Bool.Decides.{nat_tests}
 use Rattle.esto_semantics.specs.Sets.{Within}
 use Rattle.esto_term.proofs.ListLemmas.{Contains-at}
 use Rattle.esto_condchase.specs.Ways.{AreCounted, HasWay, meets}
 use Rattle.esto_condchase.proofs.WayLemmas.{within_united}
-use Rattle.esto_condchase.proofs.StepLemmas.{grown_same, way_wider, counted_union, union_count, passes_all, anew_end, floor_goes}
+use Rattle.esto_condchase.proofs.StepLemmas.{way_wider, counted_union, union_count, passes_all, anew_end, floor_goes}
 use Rattle.esto_condchase.proofs.steps.pass_from.Goals as goal
 
 pub returns-then-is_old-clause-there : goal.returns-then-is_old-clause-there

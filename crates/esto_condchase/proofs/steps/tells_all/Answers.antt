@@ -1,4 +1,4 @@
-use Rattle.std.proofs.Common.{refl, sym, ◌∙◌}
+use Rattle.std.proofs.Common.{refl}
 use Rattle.esto_condchase.proofs.StepLemmas.{told_all}
 use Rattle.esto_condchase.proofs.steps.tells_all.Goals as goal
 

@@ -1,6 +1,4 @@
-use Rattle.std.proofs.Common.{arith}
 use Rattle.esto_condchase.proofs.TurnLemmas.{turns_none, turns_more, turns_all}
-use Rattle.esto_condchase.specs.declared.turns.Turn.{Turn}
 use Rattle.esto_condchase.proofs.turns.listed.Goals as goal
 
 pub entries-init : goal.entries-init

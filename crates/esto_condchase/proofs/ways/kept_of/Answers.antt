@@ -1,7 +1,6 @@
-use Rattle.std.proofs.Common.{Contains, sym, subst, ◌∙◌}
+use Rattle.std.proofs.Common.{Contains, sym, subst}
 use Rattle.esto_term.proofs.ListLemmas.{Contains-nil}
 use Rattle.esto_condchase.specs.Ways.{AreAllFacts, AreCounted, GoesOn}
-use Rattle.esto_condchase.specs.declared.ways.Way.{Way}
 use Rattle.esto_condchase.proofs.LiveLemmas.{fresh_items}
 use Rattle.esto_condchase.proofs.StepLemmas.{grown_all}
 use Rattle.esto_condchase.proofs.ways.kept_of.Goals as goal

@@ -1,4 +1,4 @@
-use Rattle.std.proofs.Common.{◌≡◌, List, Contains, length, sym, subst}
+use Rattle.std.proofs.Common.{◌≡◌, List, length, sym, subst}
 use Rattle.esto_term.specs.declared.term.Term.{Term}
 use Rattle.esto_condchase.proofs.FoundLemmas.{next_level}
 use Rattle.esto_condchase.proofs.ways.match_next.Goals as goal

@@ -1,4 +1,4 @@
-use Rattle.std.proofs.Common.{◌++◌, List, false, refl, ap, ◌∙◌, subst, length}
+use Rattle.std.proofs.Common.{◌++◌, List, false, refl, ap, ◌∙◌}
 use Rattle.std.proofs.lemmas.List.{length-replicate}
 use Rattle.esto_semantics.specs.Facts.{terms_of}
 use Rattle.esto_semantics.specs.declared.fact.Fact.{Fact}

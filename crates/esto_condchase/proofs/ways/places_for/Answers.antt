@@ -1,4 +1,4 @@
-use Rattle.std.proofs.Common.{◌++◌, sym, ◌∙◌}
+use Rattle.std.proofs.Common.{◌++◌, ◌∙◌}
 use Rattle.esto_condchase.proofs.FoundLemmas.{tells_terms}
 use Rattle.esto_condchase.proofs.ways.places_for.Goals as goal
 

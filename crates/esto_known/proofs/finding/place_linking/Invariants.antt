@@ -1,7 +1,7 @@
 use Rattle.std.proofs.Common.{map}
-use Rattle.esto_world_laws.specs.declared.entry.Claim.TheVariants.{Fact as Stated, Same}
+use Rattle.esto_world_laws.specs.declared.entry.Claim.TheVariants.{Same}
 use Rattle.esto_known.specs.Hashes.{claim_key}
-use Rattle.esto_known.specs.Groups.{claims_of, StatesAt, LinksAt}
+use Rattle.esto_known.specs.Groups.{claims_of, LinksAt}
 use Rattle.esto_known.proofs.IndexLemmas.{Sought}
 use Rattle.esto_known.proofs.finding.place_linking.Given as goal
 
