@@ -45,6 +45,9 @@ minimal_sets-requires-clause-same_length c =
     (query_of c.args.query.now) c.args.plan.now rules is_query planned) in
     form.same_length
 
+pub of-requires : goal.of-requires
+of-requires c = λ set inside. ((c.in_ok-found.ensures.listed set).0 inside).0.executable
+
 pub returns : goal.returns
 returns c =
     let catalogue = c.args.catalogue.now in
