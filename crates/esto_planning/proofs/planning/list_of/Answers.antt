@@ -16,6 +16,9 @@ pub minimal_sets-requires-clause-same_length : goal.minimal_sets-requires-clause
 minimal_sets-requires-clause-same_length c =
     (c.planned_plans_have_their_form.ensures.form c.args.catalogue.now c.args.query.now c.args.plan.now c.requires).same_length
 
+pub of-requires : goal.of-requires
+of-requires c = λ set inside. ((c.in_ok-chased.ensures.listed set).0 inside).0.executable
+
 pub returns-clause-list : goal.returns-clause-list
 returns-clause-list c =
     let members = c.in_ok-listing.ensures.members in
