@@ -40,6 +40,7 @@ numbered letter number = letter ++ decimal (number + 1)
 abbrev pub made_relation : ℕ → Relation
 made_relation relation = record { name = numbered (codes "R") relation; arity = 2 }
 
+-- The relations of the case of a size.
 abbrev pub made_schema : ℕ → List Relation
 made_schema size = map made_relation (below size)
 
@@ -58,6 +59,7 @@ made_view relation = record {
   body = record { relation = relation; terms = Plain 0 ∷ Plain 1 ∷ [] } ∷ [];
 }
 
+-- The views of all fragments.
 abbrev pub made_views : ℕ → List ConjunctiveQuery
 made_views size = of_both made_view made_view size
 
@@ -65,6 +67,7 @@ made_views size = of_both made_view made_view size
 abbrev pub without_inputs : ℕ → List (List Bool)
 without_inputs relation = (false ∷ false ∷ []) ∷ []
 
+-- The binding patterns of all fragments.
 abbrev pub made_patterns : ℕ → Patterns
 made_patterns size = of_both without_inputs without_inputs size
 
@@ -74,16 +77,19 @@ made_weights size = of_both (λ _. 1) (λ _. 2) size
 
 -- ---- the query
 
--- The query chains the relations: (x0, xN) :- R1(x0, x1), R2(x1, x2) and so on to RN(x(N-1), xN), where a variable has the number in its name.
+-- The atom of the relation Ri is Ri(x(i-1), xi).
 abbrev pub made_atom : ℕ → Fact Term
 made_atom relation = record { relation = relation; terms = Plain relation ∷ Plain (relation + 1) ∷ [] }
 
+-- The query chains the relations: (x0, xN) :- R1(x0, x1), R2(x1, x2) and so on to RN(x(N-1), xN).
 abbrev pub made_query : ℕ → ConjunctiveQuery
 made_query size = record { head = Plain 0 ∷ Plain size ∷ []; body = map made_atom (below size) }
 
+-- A variable has its number in its name.
 abbrev pub made_name : ℕ → Name
 made_name variable = Given (codes "x" ++ decimal variable)
 
+-- The names of all variables of the query.
 abbrev pub made_names : ℕ → List Name
 made_names size = map made_name (below (size + 1))
 
@@ -101,6 +107,7 @@ made_rows relation = map (made_row relation) (below ROWS)
 abbrev pub made_fact : ℕ → List (List ℕ) → Fact Value
 made_fact relation row = record { relation = relation; terms = map Text row }
 
+-- The facts of all relations.
 abbrev pub made_database : ℕ → Database
 made_database size = flat_map (λ relation. map (made_fact relation) (made_rows relation)) (below size)
 
@@ -115,6 +122,7 @@ abbrev pub made_dataset : ℕ → Dataset
 made_dataset relation =
     record { name = numbered (codes "R") relation; model = model.Table; base = relation; columns = made_columns; layout = Lines; file = None }
 
+-- The datasets of all relations.
 abbrev pub made_datasets : ℕ → List Dataset
 made_datasets size = map made_dataset (below size)
 
@@ -122,6 +130,7 @@ made_datasets size = map made_dataset (below size)
 abbrev pub made_store : List ℕ → ℕ → Store
 made_store letter relation = record { shape = Table made_columns; file = numbered letter relation }
 
+-- The stores of all fragments.
 abbrev pub made_stores : ℕ → List Store
 made_stores size = of_both (made_store (codes "A")) (made_store (codes "B")) size
 

@@ -25,11 +25,13 @@ pub data StoredAs : Type 0 where
   as_documents : Layout → Entries → List ℕ → StoredAs
   as_keys : List ℕ → StoredAs
 
+-- How rows of a shape are stored in a file, where a pattern counts by its entries.
 abbrev pub shape_as : Shape → List ℕ → StoredAs
 shape_as (Table columns) file = as_table columns file
 shape_as (Documents layout pattern) file = as_documents layout (entries_of pattern.entries) file
 shape_as Keys file = as_keys file
 
+-- How rows are stored in a store.
 abbrev pub stored_as : Store → StoredAs
 stored_as store = shape_as store.shape store.file
 

@@ -30,6 +30,7 @@ use Rattle.esto_certify.specs.declared.verifying.TheConstants.{CERTIFICATE_LIMIT
 
 -- ---- one outcome
 
+-- The course of `verify` over the same files has one reply or one refusal, where no fetch is at a fault.
 abbrev pub VerifyIsOne : Type 0
 VerifyIsOne =
     (files : Files) (catalogue_name query_name numbers file : List ℕ) → IsOne (verify_course (Some files) catalogue_name query_name numbers file)
@@ -42,6 +43,7 @@ AreDone reply other = ((text : List ℕ) × (reply ≡ Done text)) × ((text : L
 abbrev pub HasOneStatus : Course Status Reply → Type 0
 HasOneStatus course = AgreeCalmly AreDone course course
 
+-- The course of `explain` over the same files has one status.
 abbrev pub ExplainHasOneStatus : Type 0
 ExplainHasOneStatus =
     (files : Files) (catalogue_name query_name : List ℕ) (number : ℕ) → HasOneStatus (explain_course (Some files) catalogue_name query_name number)

@@ -13,19 +13,23 @@ use Rattle.esto_constraint.specs.declared.rule.Constraint.TheVariants.{Tuple, Eq
 abbrev pub atom : ℕ → List ℕ → Fact Term
 atom relation variables = record { relation = relation; terms = map Plain variables }
 
--- The five relations of documents stand one after another from the base on: root(n), field(n,k,m), item(n,m), value(n,v) and below(n,m).
+-- The five relations of documents stand one after another from the base on. The first is root(n): node n is a document.
 abbrev pub root : ℕ → List ℕ → Fact Term
 root base = atom (base + 0)
 
+-- The second is field(n,k,m): node m is the field of node n by the name k.
 abbrev pub field : ℕ → List ℕ → Fact Term
 field base = atom (base + 1)
 
+-- The third is item(n,m): node m is an item of node n.
 abbrev pub item : ℕ → List ℕ → Fact Term
 item base = atom (base + 2)
 
+-- The fourth is value(n,v): node n holds the text v.
 abbrev pub value : ℕ → List ℕ → Fact Term
 value base = atom (base + 3)
 
+-- The fifth is below(n,m): node m stands below node n.
 abbrev pub below : ℕ → List ℕ → Fact Term
 below base = atom (base + 4)
 

@@ -27,34 +27,41 @@ use Rattle.esto_data.specs.Fill.{fill_course}
 
 -- ---- one outcome
 
+-- The course of `fill` over the same files has one reply or one refusal, where no fetch is at a fault.
 abbrev pub FillsAreOne : Type 0
 FillsAreOne = (files : Files) (catalogue_name name : List ℕ) → IsOne (fill_course (Some files) catalogue_name name)
 
+-- So has the course of `answer`.
 abbrev pub AnswersAreOne : Type 0
 AnswersAreOne = (files : Files) (catalogue_name query_name : List ℕ) → IsOne (answer_course (Some files) catalogue_name query_name)
 
+-- So has the course of `audit`.
 abbrev pub AuditsAreOne : Type 0
 AuditsAreOne = (files : Files) (name : List ℕ) → IsOne (audit_course (Some files) name)
 
 -- ---- which outcome
 
+-- What `fill` says is exact, where the files say a catalogue.
 abbrev pub FillsAreExact : Type 0
 FillsAreExact =
     (files : Files) (catalogue_name name : List ℕ) (catalogue : Catalogue) → FilesSayCatalogue files catalogue_name catalogue
     → SaysAlways (fill_course (Some files) catalogue_name name) (IsExactFill files catalogue name)
 
+-- What `answer` says is exact, where the files say a catalogue and a query over it.
 abbrev pub AnswersAreExact : Type 0
 AnswersAreExact =
     (files : Files) (catalogue_name query_name : List ℕ) (catalogue : Catalogue) (query : Query) → FilesSayCatalogue files catalogue_name catalogue
     → FilesSayQuery files query_name catalogue query
     → SaysAlways (answer_course (Some files) catalogue_name query_name) (IsExactAnswer files catalogue query)
 
+-- So it is where they say a catalogue and a union of queries over it.
 abbrev pub UnionAnswersAreExact : Type 0
 UnionAnswersAreExact =
     (files : Files) (catalogue_name query_name : List ℕ) (catalogue : Catalogue) (queries : List Query) → FilesSayCatalogue files catalogue_name catalogue
     → FilesSayUnion files query_name catalogue queries
     → SaysAlways (answer_course (Some files) catalogue_name query_name) (IsExactUnionAnswer files catalogue queries)
 
+-- What `audit` says is exact, where the files say a catalogue.
 abbrev pub AuditsAreExact : Type 0
 AuditsAreExact =
     (files : Files) (name : List ℕ) (catalogue : Catalogue) → FilesSayCatalogue files name catalogue

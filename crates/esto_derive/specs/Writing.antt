@@ -141,10 +141,11 @@ abbrev pub claimed_terms : Claim → List Term
 claimed_terms (Stated fact) = fact.terms
 claimed_terms (Same left right) = []
 
--- The terms of the facts that the entries at the places state, in order.
+-- The terms of the fact that an entry states; none of an equality, and none where there is no entry.
 abbrev pub entry_terms : Option Entry → List Term
 entry_terms None = []
 entry_terms (Some entry) = claimed_terms entry.claim
 
+-- The terms of the facts that the entries at the places state, in order.
 abbrev pub terms_at : List Entry → List ℕ → List Term
 terms_at entries places = flat_map (λ place. entry_terms (slice_get entries place)) places

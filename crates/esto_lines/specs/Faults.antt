@@ -6,6 +6,7 @@ use Rattle.esto_ports.specs.declared.file_fault.FileError.{FileError}
 use Rattle.esto_ports.specs.declared.file_fault.FileError.TheVariants.{Fault, OutOfMemory}
 use Rattle.esto_lines.specs.Lines.{lines_of, feeds_in, with_feed}
 
+-- The fault of a kind at a place.
 abbrev pub fault_at : FileKind → ℕ → FileFault
 fault_at kind place = record { kind = kind; place = place }
 

@@ -2,6 +2,7 @@
 use Rattle.std.specs.Prelude.{◌≡◌, ◌==◌, ℕ, false, if◌then◌else◌, List, [], ◌∷◌, ◌++◌, length, count_by}
 use Rattle.std.specs.List.{list_any, onto_first}
 
+-- The byte at which a line ends.
 abbrev pub line_feed : ℕ
 line_feed = 10
 

@@ -35,11 +35,12 @@ pub record IsNew (bound : List Term) (term : Term) : Type 0 where
 abbrev pub IsKnown : List Term → Term → Type 0
 IsKnown bound term = IsConstant term ⊎ Contains bound term
 
--- The places of a pattern's inputs, in rising order.
+-- The columns of a pattern's inputs, in rising order, where the first of its truth values is that of this column.
 abbrev pub inputs_from : ℕ → List Bool → List ℕ
 inputs_from column [] = []
 inputs_from column (input ∷ rest) = cond input (column ∷ inputs_from (column + 1) rest) (inputs_from (column + 1) rest)
 
+-- The columns of a pattern's inputs, in rising order.
 abbrev pub inputs_of : List Bool → List ℕ
 inputs_of pattern = inputs_from 0 pattern
 

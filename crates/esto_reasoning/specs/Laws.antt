@@ -29,9 +29,11 @@ MinimisedAlike =
 
 -- ---- one outcome
 
+-- The course of `contains` over the same files has one reply or one refusal, where no fetch is at a fault.
 abbrev pub ContainsIsOne : Type 0
 ContainsIsOne = (files : Files) (catalogue_name left_name right_name : List ℕ) → IsOne (contains_course (Some files) catalogue_name left_name right_name)
 
+-- So has the course of `minimise`.
 abbrev pub MinimiseIsOne : Type 0
 MinimiseIsOne = (files : Files) (catalogue_name query_name : List ℕ) → IsOne (minimise_course (Some files) catalogue_name query_name)
 

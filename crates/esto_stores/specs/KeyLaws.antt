@@ -21,9 +21,10 @@ with_returns (b ∷ rest) = if b == line_feed then carriage_return ∷ b ∷ wit
 abbrev pub HasNoReturn : List ℕ → Type 0
 HasNoReturn bytes = Contains bytes carriage_return → ⊥
 
--- Where there is no carriage return, writing one before each line feed leaves the rows and the first fault as they are.
+-- Where there is no carriage return, writing one before each line feed leaves the rows as they are.
 abbrev pub KeyRowsTakeReturns : Type 0
 KeyRowsTakeReturns = (bytes : List ℕ) → HasNoReturn bytes → key_rows (with_returns bytes) ≡ key_rows bytes
 
+-- And it leaves the first fault as it is.
 abbrev pub KeyFaultsTakeReturns : Type 0
 KeyFaultsTakeReturns = (width : ℕ) (bytes : List ℕ) → HasNoReturn bytes → key_fault width (with_returns bytes) ≡ key_fault width bytes

@@ -6,9 +6,11 @@ use Rattle.esto_ports.specs.declared.file_fault.FileKind.TheVariants.{Cells}
 use Rattle.esto_lines.specs.Lines.{lines_of}
 use Rattle.esto_stores.specs.Rows.{Row, first_fault}
 
+-- The byte that parts the cells of a line.
 abbrev pub tab : ℕ
 tab = 9
 
+-- The byte that may stand at a line's end, before its line feed.
 abbrev pub carriage_return : ℕ
 carriage_return = 13
 
