@@ -73,8 +73,8 @@ pub fn mediate<S: Shelf, O: Sink>(
         (Rises S.faults shelf.old shelf.new) (Rises O.faults out.old out.new) (O.written out.old)
         (O.written out.new) result }
 
-    // Where the files say a catalogue and a query over it, the status is Unsatisfiable, with the clash of the query's run,
-    // exactly where no database that meets the catalogue's rules gives the query an answer.
+    // Where the files say a catalogue and a query over it, the status of `list` is Unsatisfiable, with the clash of the query's
+    // run, exactly where no database that meets the catalogue's rules gives the query an answer; then the text is its line.
     ensures refusal { RefusesWhereTold words.now (S.files shelf.old)
         (Rises S.faults shelf.old shelf.new) (Rises O.faults out.old out.new) (O.written out.old)
         (O.written out.new) result }
@@ -94,10 +94,10 @@ pub fn mediate<S: Shelf, O: Sink>(
     // or has the number that is asked for, and the files of the fragments that it uses are readable, the status is Done;
     // then the text is that of exactly the answers of the set's candidate over the rows of the files, each once, in
     // order. For each database that meets the rules, and whose view rows are the rows of these files, they are exactly
-    // the query's answers. The status is Unsatisfiable, and the text the names of the query's head, exactly where no
-    // database that meets the rules gives the query an answer; else it is NoRewriting exactly where the query has no
-    // executable rewriting, and NoSuchNumber, with the number and the length of the query's list, exactly where the
-    // number is above that.
+    // the query's answers. The status is Unsatisfiable, with the clash of the query's run, and the text the names of the
+    // query's head, exactly where no database that meets the rules gives the query an answer; else it is NoRewriting
+    // exactly where the query has no executable rewriting, and NoSuchNumber, with the number and the length of the
+    // query's list, exactly where the list is not empty and the number is above that.
     ensures run { RunsWhereTold words.now (S.files shelf.old)
         (Rises S.faults shelf.old shelf.new) (Rises O.faults out.old out.new) (O.written out.old)
         (O.written out.new) result }
