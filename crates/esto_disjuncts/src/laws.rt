@@ -108,7 +108,7 @@ pub fn union_runs_are_one()
 /// A law: over files that are told, `run` prints the run of the chosen sets of a union exactly where it can be run, and this
 /// is exactly the union's answers, for each database of which the files hold the view rows; it replies with the clash of the
 /// first query's run exactly where no query is satisfiable; and it refuses with `NoRewriting` exactly where the union has no
-/// executable rewriting, and with `NoSuchNumber` exactly where the number is above the least length of the lists.
+/// executable rewriting, and with `NoSuchNumber` exactly where no list is empty and the number is above their least length.
 pub fn union_runs_are_exact()
     ensures { UnionRunsAreExact }
 {

@@ -108,7 +108,7 @@ pub record IsAboveList (catalogue : Catalogue) (query : Query) (number : Option 
   pub counts : length items ≡ count
   pub above : count < asked
 
--- The status is NoSuchNumber exactly where the number is above the length of the query's list, with both.
+-- The status is NoSuchNumber, with the number and the length of the query's list, exactly where the list is not empty and the number is above that.
 abbrev pub NeedsNumber : Files → Option ℕ → Catalogue → Query → Status → List ℕ → Type 0
 NeedsNumber files number catalogue query said text =
     (asked count : ℕ) → (said ≡ status.NoSuchNumber asked count) ↔ IsAboveList catalogue query number asked count
