@@ -14,7 +14,7 @@ use Rattle.esto_text.specs.declared.tree.StepSyntax.TheVariants.{Field, Item, Be
 use Rattle.esto_text.specs.Trees.{EntryTree, Value, Nested, EntryTrees, NoEntry, AndEntry, ItemTree, Atom, Part, Pattern, QueryTree, HeadTree, Items, Equality}
 use Rattle.esto_text.specs.Trees.{Never, ConstraintTree}
 use Rattle.esto_text.specs.Grammar.{class_of, step_at, is_term, IsName, IsTerm, IsNext, IsRowEnd, IsLater, IsPathEnd, IsPath, IsEntry, IsGroupEnd, IsGroup}
-use Rattle.esto_text.specs.Grammar.{IsLayout, IsItem, IsBodyEnd, IsQuery, IsHead, NoFalse, IsConstraint}
+use Rattle.esto_text.specs.Grammar.{IsLayout, IsItem, IsBodyEnd, IsQuery, IsRuleBody, IsHead, NoFalse, IsConstraint}
 use Rattle.esto_text.specs.Faults.{Leaves, StopsAt}
 use Rattle.esto_text.specs.Machine.{Symbol, AName, ATerm, ANext, AParen, ABracket, ATurnstile, MoreNames, MoreTerms, AnItem, ItemRest, MoreItems, MoreBody}
 use Rattle.esto_text.specs.Machine.{AHead, HeadRest, AGroup, AnEntry, PathRest, MoreEntries, start, constraint_start, layout_start, step, is_done, advance}
@@ -494,3 +494,47 @@ layout_of ts h = one AGroup ts h
 pub layout_fault_is : (ts rest : List Token) → first_fault layout_start ts ≡ Some rest → StopsAt IsLayout ts rest
 layout_fault_is ts rest e =
     stops_at IsLayout layout_start layout_of (λ fs ts rest h f. absurd (layout_fits fs ts rest h f)) ts rest (λ fs h. layout_fits fs ts rest h e) e
+
+-- ---- what the machine goes through to its end is a text
+
+ended_back : (xs : List Symbol) → is_done xs ≡ true → Langs xs []
+ended_back [] e = refl
+ended_back (MoreItems ∷ []) e = ([], [], refl, ([], refl), refl)
+ended_back _ e = absurd cc
+
+through : (ts : List Token) (xs : List Symbol) → first_fault xs ts ≡ None → Langs xs ts
+through [] xs e = go (is_done xs) refl e
+  where
+    go : (b : Bool) → is_done xs ≡ b → (let r : Option (List Token) = cond b None (Some []) in r) ≡ None → Langs xs []
+    go true f g = ended_back xs f
+    go false f g = absurd cc
+through (t ∷ ts) xs e = go (advance xs (class_of t)) refl e (through ts)
+  where
+    go : (o : Option (List Symbol)) → advance xs (class_of t) ≡ o → after o t ts ≡ None → ((new : List Symbol) → first_fault new ts ≡ None → Langs new ts)
+        → Langs xs (t ∷ ts)
+    go None f g later = absurd cc
+    go (Some new) f g later = advance_back xs t new ts f (later new g)
+
+pub query_there : (ts : List Token) → first_fault start ts ≡ None → (q : QueryTree) × IsQuery q ts
+query_there ts e = query_of ts (through ts start e)
+
+pub constraint_there : (IsFalse : Token → Type 0) (ts : List Token) → first_fault constraint_start ts ≡ None
+    → (c : ConstraintTree) × IsConstraint IsFalse c ts
+constraint_there IsFalse ts e = constraint_of IsFalse ts (through ts constraint_start e)
+
+pub layout_there : (ts : List Token) → first_fault layout_start ts ≡ None → (fs : EntryTrees) × IsLayout fs ts
+layout_there ts e = layout_of ts (through ts layout_start e)
+
+pub rule_body_there : (ts : List Token) → first_fault (AnItem ∷ MoreBody ∷ []) ts ≡ None → (is : List ItemTree) × IsRuleBody is ts
+rule_body_there ts e =
+    let k = two AnItem MoreBody ts (through ts (AnItem ∷ MoreBody ∷ []) e) in
+    let (is, front, arrow, f, g, c) = k.4 in (
+      k.3.0 ∷ is,
+      (
+        k.0 ++ front,
+        arrow,
+        k.2 ∙ ap (λ (w : List Token). k.0 ++ w) f ∙ sym (append_assoc k.0 front (arrow ∷ [])),
+        (k.0, front, refl, k.3.1, g),
+        c,
+      ),
+    )

@@ -61,7 +61,7 @@ abbrev pub StateQ : Bool → List ℕ → Type 0
 StateQ false t = IsClosed t
 StateQ true t = (t ≡ []) ⊎ ((u : List ℕ) × (t ≡ 39 ∷ u) × IsClosed u)
 
-not_closed_nil : IsClosed [] → ⊥
+pub not_closed_nil : IsClosed [] → ⊥
 not_closed_nil ([], ok, e) = absurd cc
 not_closed_nil (x ∷ xs, ok, e) =
     elim (written_cases x) [
@@ -69,7 +69,7 @@ not_closed_nil (x ∷ xs, ok, e) =
       | inr w ↦ let e2 : [] ≡ x ∷ closed xs = e ∙ ap (λ (l : List ℕ). (l ++ flat_map written xs) ++ 39 ∷ []) w.1 in absurd cc
     ]
 
-closed_cons : (b : ℕ) (t : List ℕ) → IsClosed (b ∷ t) → ((b ≡ 39) × StateQ true t) ⊎ ((b ≢ 39) × (32 ≤ b) × IsClosed t)
+pub closed_cons : (b : ℕ) (t : List ℕ) → IsClosed (b ∷ t) → ((b ≡ 39) × StateQ true t) ⊎ ((b ≢ 39) × (32 ≤ b) × IsClosed t)
 closed_cons b t ([], ok, e) = let p : b ≡ 39 = cc in let q : t ≡ [] = cc in inl (p, inl q)
 closed_cons b t (x ∷ xs, ok, e) =
     elim (written_cases x) [
@@ -80,11 +80,11 @@ closed_cons b t (x ∷ xs, ok, e) =
           inr (r, omega (arith, ok.0), (xs, ok.1, q))
     ]
 
-quote_cons : (b : ℕ) (t : List ℕ) → b ≡ 39 → StateQ true t → IsClosed (b ∷ t)
+pub quote_cons : (b : ℕ) (t : List ℕ) → b ≡ 39 → StateQ true t → IsClosed (b ∷ t)
 quote_cons b t p (inl e) = ([], tt, cc)
 quote_cons b t p (inr (u, e, (content, ok, e'))) = (39 ∷ content, (omega arith, ok), cc)
 
-inside_cons : (b : ℕ) (t : List ℕ) → (b ≢ 39) → 32 ≤ b → IsClosed t → IsClosed (b ∷ t)
+pub inside_cons : (b : ℕ) (t : List ℕ) → (b ≢ 39) → 32 ≤ b → IsClosed t → IsClosed (b ∷ t)
 inside_cons b t ne le (content, ok, e) =
     elim (written_cases b) [
       | inl w ↦ absurd (ne w.0)

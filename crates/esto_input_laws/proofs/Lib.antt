@@ -1,0 +1,9 @@
+pub mod FileLemmas
+pub mod DatasetLemmas
+pub mod CourseLemmas
+pub mod GraphLemmas
+pub mod LayoutLemmas
+pub mod RowLemmas
+pub mod PartLemmas
+pub mod EncodingLemmas
+pub mod CatalogueLemmas

@@ -1,0 +1,10 @@
+pub mod DecisionLemmas
+pub mod TokenLemmas
+pub mod TreeLemmas
+pub mod PartLemmas
+pub mod ItemLemmas
+pub mod HeadLemmas
+pub mod QueryLemmas
+pub mod RuleLemmas
+pub mod LayoutLemmas
+pub mod FunctionLemmas

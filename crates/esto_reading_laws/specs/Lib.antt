@@ -1,0 +1,3 @@
+pub mod Totality
+pub mod GrammarLaws
+pub mod ReadingLaws
