@@ -21,6 +21,8 @@ pub mod AgreeLemmas
 pub mod BenchLemmas
 pub mod ExplainWords
 pub mod DeterminedLemmas
+pub mod ExistLemmas
+pub mod ToldLemmas
 pub mod ReasoningLemmas
 pub mod CertificateLemmas
 pub mod MarkLemmas

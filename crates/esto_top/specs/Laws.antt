@@ -1,10 +1,14 @@
--- The laws of what is opened, and of plans and lists, on which outcomes rest.
+-- The laws of what is opened, of plans and lists, and of steps, on which outcomes rest.
 use Rattle.esto_backchase.specs.Listing.{ListedCoverRewritings}
 use Rattle.esto_semantics.specs.ListedLaws.{NoRewritingExists, PickWeighsLeastOfAll}
 use Rattle.esto_opening.specs.Alike.{CataloguesOpenAlike, FragmentOpensAlike, FragmentsOpenAlike, StoresHaveOneContent, UnionsOpenAlike}
-use Rattle.esto_opening.specs.Unions.{UnionsOfOneAreQueries}
+use Rattle.esto_opening.specs.Unions.{OpenedFormUnions, UnionsOfOneAreQueries}
+use Rattle.esto_outcome_laws.specs.Steps.{AnswersEnd, AuditsEnd, CasesHaveSummaries, CataloguesOpen, ContainmentsEnd, ItemsAreChosen, MinimisationsEnd}
+use Rattle.esto_outcome_laws.specs.Steps.{PlansHaveLists, PlansHaveTexts, QueriesArePlanned, QueriesHaveEnds, SetsHaveRows, SetsOpen, SetsUseFragments}
+use Rattle.esto_outcome_laws.specs.Steps.{UnionsAreListed, UnionsAreRun, UnionsOpen, VerificationsEnd}
 use Rattle.esto_planning.specs.Alike.{ChoiceIsOne, ClashIsMoved, EndIsOne, ListIsMoved, ListIsOne, ListingIsMoved, ListingIsOne, PlanIsMoved, PlanIsOne}
-use Rattle.esto_planning.specs.Laws.{ClashExcludesAnswers, CoreHasNoRetract, CoreIsOnly, ItemIsListed, PlanHasForm, PlanIsUniversal, PlanTellsAnswers}
+use Rattle.esto_planning.specs.Laws.{ClashExcludesAnswers, CoreHasNoRetract, CoreIsOnly, ItemIsListed, PlaceIsWithin, PlanHasForm, PlanIsUniversal}
+use Rattle.esto_planning.specs.Laws.{PlanTellsAnswers}
 
 -- What is opened is one.
 pub record OpeningLaws : Type 0 where
@@ -40,3 +44,27 @@ pub record ListingLaws : Type 0 where
   pub covers : ListedCoverRewritings
   pub none : NoRewritingExists
   pub lightest : PickWeighsLeastOfAll
+
+-- The steps of commands come to an end, or ask for a file that is not there.
+pub record StepLaws : Type 0 where
+  pub catalogue : CataloguesOpen
+  pub union : UnionsOpen
+  pub formed : OpenedFormUnions
+  pub plans : QueriesArePlanned
+  pub ends : QueriesHaveEnds
+  pub lists : PlansHaveLists
+  pub texts : PlansHaveTexts
+  pub chosen : ItemsAreChosen
+  pub place : PlaceIsWithin
+  pub item : ItemIsListed
+  pub fragments : SetsUseFragments
+  pub opened : SetsOpen
+  pub rows : SetsHaveRows
+  pub union_list : UnionsAreListed
+  pub union_run : UnionsAreRun
+  pub answer : AnswersEnd
+  pub audit : AuditsEnd
+  pub contains : ContainmentsEnd
+  pub minimise : MinimisationsEnd
+  pub verify : VerificationsEnd
+  pub summary : CasesHaveSummaries

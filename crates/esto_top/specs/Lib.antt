@@ -8,6 +8,7 @@ pub mod Headline
 pub mod Runs
 pub mod Benches
 pub mod Determined
+pub mod Existing
 pub mod Laws
 pub mod DataOutcomes
 pub mod ReasoningOutcomes

@@ -6,8 +6,10 @@ ghost use Rattle.esto_top.specs.DataOutcomes.{OutcomesAreAudits, OutcomesAreFill
 ghost use Rattle.esto_top.specs.DataOutcomes.{OutcomesAreUnionAnswers};
 ghost use Rattle.esto_top.specs.Determined.{AskedBeginsFetches, CoursesAreOne};
 ghost use Rattle.esto_top.specs.Determined.{FetchesAreDetermined, OutcomesAreDetermined};
+ghost use Rattle.esto_top.specs.Existing.{OutcomesAreWhereFilesAre, OutcomesExist};
+ghost use Rattle.esto_top.specs.Existing.{OutcomesHaveFiles, OutcomesLackNone};
 ghost use Rattle.esto_top.specs.Headline.{OutcomesAreLists, OutcomesAreRefusals};
-ghost use Rattle.esto_top.specs.Laws.{ListingLaws, OpeningLaws, PlanningLaws};
+ghost use Rattle.esto_top.specs.Laws.{ListingLaws, OpeningLaws, PlanningLaws, StepLaws};
 ghost use Rattle.esto_top.specs.ReasoningOutcomes.{OutcomesAreContainments, OutcomesAreMinimised};
 ghost use Rattle.esto_top.specs.Runs.{OutcomesAreRuns};
 ghost use Rattle.esto_top.specs.Unions.{OutcomesAreUnionLists, OutcomesAreUnionRuns};
@@ -25,6 +27,10 @@ use esto_disjuncts::{
     union_runs_are_moved, union_runs_are_one,
 };
 use esto_opening::{opened_unions_are_queries, openings_are_one, readable_fragments_are_opened};
+use esto_outcome_laws::{
+    cases_have_summaries, commands_come_to_an_end, files_are_opened, plans_have_lists,
+    queries_have_plans_or_clashes, sets_are_run, unions_are_listed_and_run,
+};
 use esto_planning::{
     chosen_items_are_listed, planned_plans_are_universal, planned_plans_have_their_form,
     plans_and_lists_are_moved, plans_and_lists_are_one,
@@ -136,6 +142,40 @@ pub fn outcomes_are_determined()
     ensures asked { AskedBeginsFetches }
 {
     courses_are_one();
+}
+
+// The laws of the steps of commands, together.
+fn steps_hold()
+    ensures { StepLaws }
+{
+    files_are_opened();
+    opened_unions_are_queries();
+    queries_have_plans_or_clashes();
+    plans_have_lists();
+    chosen_items_are_listed();
+    sets_are_run();
+    unions_are_listed_and_run();
+    commands_come_to_an_end();
+    cases_have_summaries();
+}
+
+/// A law: whatever the words are, also those outside the grammar, but for `fill` and `explain`, they have an outcome over
+/// whatever files, or they ask for a file that is not there.
+pub fn outcomes_exist()
+    ensures { OutcomesExist }
+{
+    steps_hold();
+}
+
+/// A law: whatever the words are, each file that they fetch is there where they have an outcome, so that they have none where
+/// they ask for a file that is not there. But for `fill` and `explain`, they have one exactly where each is there.
+pub fn outcomes_are_where_files_are()
+    ensures files { OutcomesHaveFiles }
+    ensures lacks { OutcomesLackNone }
+    ensures exactly { OutcomesAreWhereFilesAre }
+{
+    outcomes_exist();
+    outcomes_are_determined();
 }
 
 /// A law: where the files say what a command on data needs, each outcome of `fill` is the file of the fragment's view rows,

@@ -1,5 +1,5 @@
 //! The top call: from the words of a command line, over a shelf and a sink, to a status and one
-//! text. Start from `mediate` and `outcomes_are_determined`.
+//! text. Start from `mediate`, `outcomes_are_determined` and `outcomes_exist`.
 #![tactic(auto)]
 
 mod bench;
@@ -11,5 +11,8 @@ mod list;
 mod run;
 mod top;
 
-pub use laws::{answers_agree_with_runs, explained_sets_are_accepted, outcomes_are_determined};
+pub use laws::{
+    answers_agree_with_runs, explained_sets_are_accepted, outcomes_are_determined,
+    outcomes_are_where_files_are, outcomes_exist,
+};
 pub use top::mediate;

@@ -7,6 +7,7 @@ ghost use Rattle.esto_top.specs.Benches.{BenchesAlways};
 ghost use Rattle.esto_top.specs.CertificateOutcomes.{ExplainsWhereTold, VerifiesWhereTold};
 ghost use Rattle.esto_top.specs.DataOutcomes.{AnswersWhereTold, AuditsWhereTold, FillsWhereTold, UnionAnswersWhereTold};
 ghost use Rattle.esto_top.specs.Determined.{ExactWhereTold};
+ghost use Rattle.esto_top.specs.Existing.{AnsweredWhereTold};
 ghost use Rattle.esto_top.specs.Grammar.{course_of};
 ghost use Rattle.esto_top.specs.Headline.{ListsWhereTold, RefusesWhereTold};
 ghost use Rattle.esto_top.specs.ReasoningOutcomes.{ContainsWhereTold, MinimisesWhereTold};
@@ -18,7 +19,8 @@ use crate::command::{command_of, obey};
 use crate::ending::finish;
 use crate::laws::{
     certificate_outcomes_hold, data_outcomes_hold, lists_are_exact, outcomes_are_determined,
-    reasoning_outcomes_hold, runs_are_exact, union_lists_hold, union_runs_hold,
+    outcomes_are_where_files_are, reasoning_outcomes_hold, runs_are_exact, union_lists_hold,
+    union_runs_hold,
 };
 use esto_opening::{Reply, Status};
 use esto_ports::{Shelf, Sink};
@@ -60,6 +62,12 @@ pub fn mediate<S: Shelf, O: Sink>(
     // Then any outcome of the words and the files is this one, or memory was refused; but where the words are `explain C Q N`
     // and the status is Done, the text may be another.
     ensures exact { ExactWhereTold words.now (S.files shelf.old)
+        (Rises S.faults shelf.old shelf.new) (Rises O.faults out.old out.new) (O.written out.old)
+        (O.written out.new) result }
+
+    // And there is one, wherever each file that the words fetch is there: want of memory is the only way out of it. Of `fill`
+    // and `explain` this is not said.
+    ensures answered { AnsweredWhereTold words.now (S.files shelf.old)
         (Rises S.faults shelf.old shelf.new) (Rises O.faults out.old out.new) (O.written out.old)
         (O.written out.new) result }
 
@@ -199,6 +207,7 @@ pub fn mediate<S: Shelf, O: Sink>(
     union_lists_hold();
     union_runs_hold();
     outcomes_are_determined();
+    outcomes_are_where_files_are();
     data_outcomes_hold();
     reasoning_outcomes_hold();
     certificate_outcomes_hold();

@@ -10,6 +10,7 @@ use Rattle.esto_top.proofs.RunsLemmas.{runs_where_told}
 use Rattle.esto_top.proofs.Mediation.{mediates, complete, read_fault, write_fault}
 use Rattle.esto_top.proofs.UnionLemmas.{union_lists_where_told}
 use Rattle.esto_top.proofs.UnionRunLemmas.{union_runs_where_told}
+use Rattle.esto_top.proofs.ToldLemmas.{answered}
 use Rattle.esto_top.proofs.top.mediate.Goals as goal
 
 pub returns-clause-outcome : goal.returns-clause-outcome
@@ -48,6 +49,12 @@ pub returns-clause-exact : goal.returns-clause-exact
 returns-clause-exact g c =
     exact c.outcomes_are_determined.ensures.outcomes c.args.words.now _ _ _ _ _ _
     (complete c.args.words.now _ _ _ _ _ _ (mediates _ _ _ _ _ _ _ c.answer-answer.ensures.answer c.finish.ensures.put))
+
+pub returns-clause-answered : goal.returns-clause-answered
+returns-clause-answered g c =
+    answered c.outcomes_are_where_files_are.ensures.exactly c.args.words.now _ _ _ _ _ _
+    (exact c.outcomes_are_determined.ensures.outcomes c.args.words.now _ _ _ _ _ _
+    (complete c.args.words.now _ _ _ _ _ _ (mediates _ _ _ _ _ _ _ c.answer-answer.ensures.answer c.finish.ensures.put)))
 
 pub returns-clause-run : goal.returns-clause-run
 returns-clause-run g c =

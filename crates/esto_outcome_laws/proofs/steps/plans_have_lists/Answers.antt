@@ -1,0 +1,11 @@
+use Rattle.esto_outcome_laws.proofs.RunLemmas.{chooses_ends, items_exist, listing_exists}
+use Rattle.esto_outcome_laws.proofs.steps.plans_have_lists.Goals as goal
+
+pub returns-clause-list : goal.returns-clause-list
+returns-clause-list c = λ catalogue query plan planned. items_exist c.laws_below_hold.ensures catalogue query plan planned
+
+pub returns-clause-text : goal.returns-clause-text
+returns-clause-text c = λ catalogue query plan planned. listing_exists c.laws_below_hold.ensures catalogue query plan planned
+
+pub returns-clause-chosen : goal.returns-clause-chosen
+returns-clause-chosen c = λ items number. chooses_ends c.laws_below_hold.ensures.lists.picks items number

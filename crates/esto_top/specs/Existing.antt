@@ -1,0 +1,76 @@
+-- Which command lines have an outcome.
+use Rattle.std.specs.Prelude.{◌≡◌, ◌↔◌, ◌⊎◌, ℕ, List, Option, Some, None, Contains}
+use Rattle.std.specs.FinMap.{get}
+use Rattle.std.specs.Io.KnownBytes.{Appends, Keeps}
+use Rattle.esto_course.specs.Course.{Names}
+use Rattle.esto_course.specs.Course.Point.{missing}
+use Rattle.esto_ports.specs.Files.{Files}
+use Rattle.esto_opening.specs.Asked.{Fetches}
+use Rattle.esto_opening.specs.declared.status.Status.{Status}
+use Rattle.esto_opening.specs.declared.status.Status.TheVariants as status
+use Rattle.esto_top.specs.Determined.{FixesText}
+use Rattle.esto_top.specs.Grammar.{Request, course_of, request_of}
+use Rattle.esto_top.specs.Grammar.Request.{ExplainFor, FillFor}
+use Rattle.esto_top.specs.Outcome.{Outcome}
+
+-- The words over the files have an outcome.
+abbrev pub HasOutcome : List (List ℕ) → Files → Type 0
+HasOutcome words files = (said : Status) × (text : List ℕ) × Outcome words files said text
+
+-- The words ask for a file that is not among the files.
+abbrev pub LacksFile : List (List ℕ) → Files → Type 0
+LacksFile words files = (names : Names) × (course_of words (Some files)).asks names missing
+
+-- Each of the names is of one of the files.
+abbrev pub AreAmong : Files → Names → Type 0
+AreAmong files names = (name : List ℕ) → Contains names name → (file : List ℕ) × (get files name ≡ Some file)
+
+-- Each file that the words fetch is there.
+abbrev pub HaveFetched : List (List ℕ) → Files → Type 0
+HaveFetched words files = (names : Names) → Fetches (course_of words (Some files)) names → AreAmong files names
+
+-- What is asked for is a filled file, or a certificate.
+abbrev pub IsLeftOut : Option Request → Type 0
+IsLeftOut (Some (FillFor catalogue fragment)) = Unit {0}
+IsLeftOut (Some (ExplainFor catalogue query number)) = Unit {0}
+IsLeftOut _ = ⊥
+
+-- The words ask neither for a filled file nor for a certificate.
+abbrev pub AreCovered : List (List ℕ) → Type 0
+AreCovered words = ¬ (IsLeftOut (request_of words))
+
+-- ---- laws
+
+-- Whatever the words are, but for a filled file and a certificate, they have an outcome over whatever files, or they ask for a file that is not there.
+abbrev pub OutcomesExist : Type 0
+OutcomesExist = (words : List (List ℕ)) (files : Files) → AreCovered words → HasOutcome words files ⊎ LacksFile words files
+
+-- Whatever the words are, where they have an outcome over the files, they fetch a sequence of names, each of which is of one of the files.
+abbrev pub OutcomesHaveFiles : Type 0
+OutcomesHaveFiles =
+    (words : List (List ℕ)) (files : Files) → HasOutcome words files
+    → (names : Names) × Fetches (course_of words (Some files)) names × AreAmong files names
+
+-- So they have none where they ask for a file that is not there.
+abbrev pub OutcomesLackNone : Type 0
+OutcomesLackNone = (words : List (List ℕ)) (files : Files) → HasOutcome words files → LacksFile words files → ⊥
+
+-- Whatever the words are, but for a filled file and a certificate, they have an outcome exactly where each file that they fetch is there.
+abbrev pub OutcomesAreWhereFilesAre : Type 0
+OutcomesAreWhereFilesAre = (words : List (List ℕ)) (files : Files) → AreCovered words → HasOutcome words files ↔ HaveFetched words files
+
+-- ---- what the top call says
+
+-- There is an outcome of the words and the files, and the answer has its status, and its text was put where the words and the status fix it; or memory was
+-- refused, and nothing was put.
+abbrev pub IsTheOutcome : List (List ℕ) → Files → Option (List ℕ) → Option (List ℕ) → Status → Type 0
+IsTheOutcome words files old new result =
+    (said : Status) × (text : List ℕ) × Outcome words files said text
+    × (((result ≡ said) × (FixesText words said → Appends old new text)) ⊎ ((result ≡ status.OutOfMemory) × Keeps old new))
+
+-- Where the shelf tells its files, each that the words fetch is there, and neither count rose, there is an outcome, and it is what was answered, or memory was
+-- refused. Of a filled file and of a certificate this is not said.
+abbrev pub AnsweredWhereTold : List (List ℕ) → Option Files → Type 0 → Type 0 → Option (List ℕ) → Option (List ℕ) → Status → Type 0
+AnsweredWhereTold words None rose sink_rose old new result = Unit {0}
+AnsweredWhereTold words (Some files) rose sink_rose old new result =
+    ¬ rose → ¬ sink_rose → AreCovered words → HaveFetched words files → IsTheOutcome words files old new result
