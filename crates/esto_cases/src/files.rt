@@ -1,8 +1,9 @@
 //! Files in memory, and the program run over them or over the machine's.
 
-use crate::printing::{put, put_bytes, put_counted, put_digits};
-use crate::reading::{Refused, each, let_go, number, parts, text};
 use esto_ports::{FolderShelf, MemoryShelf, MemorySink, OutSink, Shelf, Sink};
+use esto_script::{
+    Refused, each, let_go, number, parts, put, put_bytes, put_counted, put_digits, text,
+};
 use esto_term::{Bytes, List, OutOfMemory, Replicate, Text};
 use esto_top::mediate;
 use std::alloc::Global;
@@ -42,11 +43,10 @@ pub struct Ran {
     pub code: u8,
 }
 
-/// The files in memory, the content of the next one, and what is to go wrong in the next run.
+/// The files in memory, and what is to go wrong in the next run.
 #[derive(Drop)]
 pub struct FileSet {
     files: List<File>,
-    pub content: Bytes,
     trouble: Trouble,
 }
 
@@ -96,23 +96,17 @@ fn spoil(
 
 impl FileSet {
     /// No file, and nothing is to go wrong.
-    pub fn new(alloc: Global) -> FileSet {
+    pub fn empty(alloc: Global) -> FileSet {
         FileSet {
             files: List::new(alloc),
-            content: Bytes::new(alloc),
             trouble: NONE,
         }
     }
 
-    /// Hands out the content, and begins a new one.
-    pub fn take_content(&mut self, alloc: Global) -> Bytes {
-        mem::replace(&mut self.content, Bytes::new(alloc))
-    }
-
     /// Keeps the content as a file, and begins a new one.
-    pub fn keep(&mut self, alloc: Global, name: &str) -> Result<(), Refused> {
+    pub fn keep(&mut self, alloc: Global, content: &mut Bytes, name: &str) -> Result<(), Refused> {
         let name = text(alloc, name)?;
-        let bytes = self.take_content(alloc);
+        let bytes = mem::replace(content, Bytes::new(alloc));
         self.files.push(File { name, bytes })?;
         Ok(())
     }

@@ -1,8 +1,7 @@
 //! A command line over the files in memory, of which each fetch and the put fails in turn, and is refused in turn.
 
 use crate::files::{FileSet, NONE, Ran, Trouble, words_of};
-use crate::printing::{put, put_bytes, put_counted, put_digits};
-use crate::reading::{Refused, let_go};
+use esto_script::{Refused, let_go, put, put_bytes, put_counted, put_digits};
 use esto_term::Text;
 use std::alloc::Global;
 

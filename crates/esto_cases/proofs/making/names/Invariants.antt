@@ -1,5 +1,0 @@
-use Rattle.std.proofs.Common.{◌≡◌, length}
-use Rattle.esto_cases.proofs.making.names.Given as goal
-
-abbrev pub invariant-variables : goal.invariant-variables
-invariant-variables l = length l.names ≡ l._variable

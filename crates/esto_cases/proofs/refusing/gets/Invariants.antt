@@ -1,5 +1,0 @@
-use Rattle.esto_cases.specs.Refusing.{AskAll}
-use Rattle.esto_cases.proofs.refusing.gets.Given as goal
-
-abbrev pub invariant-fragments : goal.invariant-fragments
-invariant-fragments l = AskAll l.fragment l.gets
