@@ -1,5 +1,5 @@
 -- Whether a match is active, and whether some match is.
-use Rattle.std.proofs.Common.{◌≡◌, ◌≢◌, ℕ, ◌+◌, ◌*◌, ◌<◌, ◌≤◌, ◌⊎◌, ◌↔◌, Bool, true, false, not, IsTrue, List, [], ◌∷◌, length, get_or, take, map, Contains, IsSome, Option, Some, None, Result, Ok, Err}
+use Rattle.std.proofs.Common.{◌≡◌, ℕ, ◌+◌, ◌*◌, ◌<◌, ◌≤◌, ◌⊎◌, ◌↔◌, Bool, true, false, not, IsTrue, List, [], ◌∷◌, length, get_or, take, map, Contains, IsSome, Some, Result, Ok, Err}
 use Rattle.std.specs.Result.{IfOk, OnOk}
 use Rattle.std.proofs.Common.{Bor, refl, sym, ap, subst, ◌∙◌, inl, inr, arith}
 use Rattle.std.specs.List.{slice_get}
@@ -21,7 +21,6 @@ use Rattle.esto_query.specs.Trails.{Narrows, Excludes}
 use Rattle.esto_query.specs.Valuations.{Assignment, Extends, map_of}
 use Rattle.esto_query.specs.declared.active.Conclusion.{Conclusion}
 use Rattle.esto_query.specs.declared.active.Conclusion.TheVariants.{Extends as ExtendsTo, Equals, Never}
-use Rattle.esto_query.proofs.LeastLemmas.{flat_first}
 use Rattle.esto_query.proofs.MatchLemmas.{found_variables}
 use Rattle.esto_query.proofs.OrderLemmas.{same_mentions, same_known, same_sends}
 use Rattle.esto_query.proofs.RowLemmas.{IsRow-nil, AreKnown-next, some_value}

@@ -1,10 +1,11 @@
--- An index of a list of facts: what stands in its buckets, and the candidates of an atom.
-use Rattle.std.proofs.Common.{◌≡◌, ℕ, ◌+◌, ◌-◌, ◌<◌, ◌≤◌, ◌⊎◌, ◌%◌, Bool, true, false, List, [], ◌∷◌, length, get_or, take, drop, map, Contains, Some}
-use Rattle.std.proofs.Common.{ltb, refl, sym, ap, subst, ◌∙◌, inl, inr, arith}
+-- An index of a list of facts: what stands in it, and the candidates of an atom.
+use Rattle.std.proofs.Common.{◌≡◌, ℕ, ◌+◌, ◌-◌, ◌<◌, ◌≤◌, ◌⊎◌, ◌%◌, true, false, List, [], ◌∷◌, ◌++◌, length, get_or, take, drop, Contains, Some}
+use Rattle.std.proofs.Common.{ltb, sym, ap, subst, ◌∙◌, inl, inr, arith}
 use Rattle.std.specs.List.{slice_get}
 use Rattle.std.specs.List.Sorted.{IsPartitionPoint}
 use Rattle.std.proofs.lemmas.Bool.{false≢true, ltb-true, ltb-false}
 use Rattle.std.proofs.lemmas.List.{get_or_default, length-take-le, length-drop, get_or-take, get_or-drop}
+use Rattle.std.proofs.lemmas.List.Elements.{Contains-append_left, Contains-push}
 use Rattle.std.proofs.lemmas.List.Sorted.{IsNonDecreasingBy-take, IsNonDecreasingBy-drop}
 use Rattle.std.proofs.lemmas.Option.{same_Some, slice_get_within}
 use Rattle.esto_term.specs.declared.term.Term.{Term}
@@ -14,11 +15,14 @@ use Rattle.esto_semantics.specs.Facts.{image}
 use Rattle.esto_semantics.specs.Maps.{Keeps}
 use Rattle.esto_semantics.specs.declared.fact.Fact.{Fact}
 use Rattle.esto_query.specs.Buckets.{places_at, with_place, IsRising, AreRising}
-use Rattle.esto_query.specs.Hashes.{key_hash}
+use Rattle.esto_query.specs.Numbers.{IsNumber, key_of}
+use Rattle.esto_query.specs.Tables.{entry_of, IsTable, AreUnder}
 use Rattle.esto_query.specs.Valuations.{Assignment, Extends}
-use Rattle.esto_query.specs.Indexes.{is_among, StandsIn, AddsTerms, AreListed, IsIndex, AreCandidates, AreFrom}
+use Rattle.esto_query.specs.Indexes.{is_among, AddsTerms, AreInBuckets, AreListed, IsIndex, AreCandidates, AreFrom}
 use Rattle.esto_query.specs.declared.columns.Columns.{Columns}
 use Rattle.esto_query.specs.declared.index.Index.{Index}
+use Rattle.esto_query.specs.declared.table.Entry.{Entry}
+use Rattle.esto_query.proofs.NumberLemmas.{number_is}
 use Rattle.esto_query.proofs.BucketLemmas.{AreRising-more, put_keeps, put_adds, put_rises}
 
 cases_next : (k n : ℕ) → k < n + 1 → (k < n) ⊎ (k ≡ n)
@@ -29,81 +33,84 @@ cases_lt a b = grind arith
 
 -- ---- the terms of one fact
 
-pub AddsTerms-none : (fact : Fact Term) (columns : Columns) (place : ℕ) (old : List (List ℕ)) → AddsTerms fact columns place 0 old old
-AddsTerms-none fact columns place old =
-    record { kept = λ hash other inside. inside; added = λ column term l. absurd (omega arith); rising = λ up. up }
+pub AddsTerms-none : (fact : Fact Term) (columns : Columns) (names : List Term) (place : ℕ) (old : List Entry)
+    → AddsTerms fact columns names place 0 old old
+AddsTerms-none fact columns names place old = record { kept = λ entry inside. inside; added = λ column term l. absurd (omega arith) }
 
-module _ (fact : Fact Term) (columns : Columns) (place n : ℕ) (old now : List (List ℕ)) (adds : AddsTerms fact columns place n old now) where
+module _ (fact : Fact Term) (columns : Columns) (names : List Term) (place n : ℕ) (old now : List Entry)
+    (adds : AddsTerms fact columns names place n old now) where
   -- a column that is not one of the columns
-  pub AddsTerms-skip : false ≡ is_among columns fact.relation n → AddsTerms fact columns place (n + 1) old now
+  pub AddsTerms-skip : false ≡ is_among columns fact.relation n → AddsTerms fact columns names place (n + 1) old now
   AddsTerms-skip apart = record {
     kept = adds.kept;
     added = λ column term l there among. elim (cases_next column n l) [
       | inl before ↦ adds.added column term before there among
       | inr here ↦ absurd (false≢true (apart ∙ ap (is_among columns fact.relation) (sym here) ∙ among))
     ];
-    rising = adds.rising;
   }
 
-  pub AddsTerms-put : (term : Term) (new : List (List ℕ)) → slice_get fact.terms n ≡ Some term → 0 < length now
-      → new ≡ with_place now (key_hash fact.relation n term) place → AddsTerms fact columns place (n + 1) old new
-  AddsTerms-put term new at some grown = record {
-    kept = λ hash other inside. put_keeps now new (key_hash fact.relation n term) place some grown hash other (adds.kept hash other inside);
+  pub AddsTerms-put : (term : Term) (number : ℕ) (new : List Entry) → slice_get fact.terms n ≡ Some term → IsNumber names term number
+      → new ≡ now ++ entry_of (key_of fact.relation n number) place ∷ [] → AddsTerms fact columns names place (n + 1) old new
+  AddsTerms-put term number new at is grown = record {
+    kept = λ entry inside. stays entry (adds.kept entry inside);
     added = λ column other l there among. elim (cases_next column n l) [
-      | inl before ↦ put_keeps now new (key_hash fact.relation n term) place some grown (key_hash fact.relation column other) place
-          (adds.added column other before there among)
-      | inr here ↦
+      | inl before ↦ λ its is_its. stays (entry_of (key_of fact.relation column its) place) (adds.added column other before there among its is_its)
+      | inr here ↦ λ its is_its.
           let same : term ≡ other = same_Some term other (sym at ∙ ap (slice_get fact.terms) (sym here) ∙ there) in
-          let key : key_hash fact.relation n term ≡ key_hash fact.relation column other =
-          ap (λ c. key_hash fact.relation c term) (sym here) ∙ ap (key_hash fact.relation column) same in
-          subst (λ hash. Contains (places_at new hash) place) key (put_adds now new (key_hash fact.relation n term) place some grown)
+          let equal : number ≡ its = number_is names other number its (subst (λ t. IsNumber names t number) same is) is_its in
+          let key : key_of fact.relation n number ≡ key_of fact.relation column its =
+          ap (λ c. key_of fact.relation c number) (sym here) ∙ ap (key_of fact.relation column) equal in
+          subst (λ k. Contains new (entry_of k place)) key
+          (subst (λ all. Contains all (entry_of (key_of fact.relation n number) place)) (sym grown)
+          (Contains-push now (entry_of (key_of fact.relation n number) place)))
     ];
-    rising = λ up. put_rises now new (key_hash fact.relation n term) place some grown (adds.rising up);
   }
+    where
+      stays : (entry : Entry) → Contains now entry → Contains new entry
+      stays entry inside = subst (λ all. Contains all entry) (sym grown)
+          (Contains-append_left now (entry_of (key_of fact.relation n number) place ∷ []) entry inside)
 
 -- ---- the facts
 
-pub AreListed-none : (facts : List (Fact Term)) (columns : Columns) (relations terms : List (List ℕ)) → AreRising relations 0 → AreRising terms 0
-    → AreListed facts columns 0 relations terms
-AreListed-none facts columns relations terms rising_relations rising_terms = record {
-  by_relation = λ place fact l. absurd (omega arith);
-  by_term = λ place column fact term l. absurd (omega arith);
-  relations_rise = rising_relations;
-  terms_rise = rising_terms;
+-- the fact at a place is the one that stands there
+fact_is : (facts : List (Fact Term)) (fact other : Fact Term) (place n : ℕ) → place ≡ n → slice_get facts n ≡ Some fact → slice_get facts place ≡ Some other
+    → fact ≡ other
+fact_is facts fact other place n here at there = same_Some fact other (sym at ∙ ap (slice_get facts) (sym here) ∙ there)
+
+pub AreInBuckets-none : (facts : List (Fact Term)) (relations : List (List ℕ)) → AreRising relations 0 → AreInBuckets facts 0 relations
+AreInBuckets-none facts relations rising = record { has = λ place fact l. absurd (omega arith); rising = rising }
+
+pub AreInBuckets-next : (facts : List (Fact Term)) (fact : Fact Term) (n : ℕ) (relations new : List (List ℕ)) → slice_get facts n ≡ Some fact
+    → 0 < length relations → new ≡ with_place relations fact.relation n → AreInBuckets facts n relations → AreInBuckets facts (n + 1) new
+AreInBuckets-next facts fact n relations new at some grown so_far = record {
+  has = λ place other l there. elim (cases_next place n l) [
+    | inl before ↦ put_keeps relations new fact.relation n some grown other.relation place (so_far.has place other before there)
+    | inr here ↦
+        subst (λ (f : Fact Term). Contains (places_at new f.relation) place) (fact_is facts fact other place n here at there)
+        (subst (λ p. Contains (places_at new fact.relation) p) (sym here) (put_adds relations new fact.relation n some grown))
+  ];
+  rising = put_rises relations new fact.relation n some grown (AreRising-more relations n so_far.rising);
 }
 
-pub AreListed-next : (facts : List (Fact Term)) (columns : Columns) (fact : Fact Term) (n : ℕ) (relations new_relations terms new_terms : List (List ℕ))
-    → slice_get facts n ≡ Some fact → 0 < length relations → new_relations ≡ with_place relations fact.relation n
-    → AddsTerms fact columns n (length fact.terms) terms new_terms
-    → AreListed facts columns n relations terms → AreListed facts columns (n + 1) new_relations new_terms
-AreListed-next facts columns fact n relations new_relations terms new_terms at some grown adds listed = record {
-  by_relation = λ place other l there. elim (cases_next place n l) [
-    | inl before ↦ put_keeps relations new_relations fact.relation n some grown other.relation place (listed.by_relation place other before there)
-    | inr here ↦
-        let same = it place other here there in
-        subst (λ (f : Fact Term). Contains (places_at new_relations f.relation) place) same
-        (subst (λ p. Contains (places_at new_relations fact.relation) p) (sym here) (put_adds relations new_relations fact.relation n some grown))
-  ];
-  by_term = λ place column other term l stands. elim (cases_next place n l) [
-    | inl before ↦ adds.kept (key_hash other.relation column term) place (listed.by_term place column other term before stands)
-    | inr here ↦
-        let same = it place other here stands.there in
-        subst (λ p. Contains (places_at new_terms (key_hash other.relation column term)) p) (sym here)
-        (own other same column term stands.own stands.among)
-  ];
-  relations_rise = put_rises relations new_relations fact.relation n some grown (AreRising-more relations n listed.relations_rise);
-  terms_rise = adds.rising (AreRising-more terms n listed.terms_rise);
-}
+pub AreListed-none : (facts : List (Fact Term)) (columns : Columns) (names : List Term) (terms : List Entry) → AreListed facts columns names 0 terms
+AreListed-none facts columns names terms place column fact term l = absurd (omega arith)
+
+pub AreListed-next : (facts : List (Fact Term)) (columns : Columns) (names : List Term) (fact : Fact Term) (n : ℕ) (terms new : List Entry)
+    → slice_get facts n ≡ Some fact → AddsTerms fact columns names n (length fact.terms) terms new → AreListed facts columns names n terms
+    → AreListed facts columns names (n + 1) new
+AreListed-next facts columns names fact n terms new at adds listed place column other term l stands number is = elim (cases_next place n l) [
+  | inl before ↦ adds.kept (entry_of (key_of other.relation column number) place) (listed place column other term before stands number is)
+  | inr here ↦
+      subst (λ p. Contains new (entry_of (key_of other.relation column number) p)) (sym here)
+      (own other (fact_is facts fact other place n here at stands.there) stands.own stands.among)
+]
   where
-    it : (place : ℕ) (other : Fact Term) → place ≡ n → slice_get facts place ≡ Some other → fact ≡ other
-    it place other here there = same_Some fact other (sym at ∙ ap (slice_get facts) (sym here) ∙ there)
-
-    own : (other : Fact Term) → fact ≡ other → (column : ℕ) (term : Term) → slice_get other.terms column ≡ Some term → is_among columns other.relation column ≡ true
-        → Contains (places_at new_terms (key_hash other.relation column term)) n
-    own other same column term there among =
+    own : (other : Fact Term) → fact ≡ other → slice_get other.terms column ≡ Some term → is_among columns other.relation column ≡ true
+        → Contains new (entry_of (key_of other.relation column number) n)
+    own other same there among =
         subst (λ (f : Fact Term). slice_get f.terms column ≡ Some term → is_among columns f.relation column ≡ true
-        → Contains (places_at new_terms (key_hash f.relation column term)) n) same
-        (λ is in_it. adds.added column term (slice_get_within fact.terms column term is) is in_it) there among
+        → Contains new (entry_of (key_of f.relation column number) n)) same
+        (λ own in_it. adds.added column term (slice_get_within fact.terms column term own) own in_it number is) there among
 
 -- ---- candidates
 
@@ -111,21 +118,25 @@ module _ (facts : List (Fact Term)) (index : Index) (atom : Fact Term) (known : 
   pub candidates-relation : AreCandidates facts atom known (places_at index.relations atom.relation)
   candidates-relation = record {
     complete = λ m place keeps extends there.
-        is.by_relation place (image m atom) (slice_get_within facts place (image m atom) there) there;
-    rising = is.relations_rise.rising (atom.relation % length index.relations);
+        is.relations.has place (image m atom) (slice_get_within facts place (image m atom) there) there;
+    rising = is.relations.rising.rising (atom.relation % length index.relations);
   }
 
   -- a term that each map gives the atom in one of the columns
-  pub candidates-term : (column : ℕ) (term bound : Term) → slice_get atom.terms column ≡ Some term → is_among index.columns atom.relation column ≡ true
-      → ((m : Term → Term) → Keeps Const m → Extends m known → m term ≡ bound)
-      → AreCandidates facts atom known (places_at index.terms (key_hash atom.relation column bound))
-  candidates-term column term bound there among same = record {
-    complete = λ m place keeps extends at.
-        subst (λ t. Contains (places_at index.terms (key_hash atom.relation column t)) place) (same m keeps extends)
-        (is.by_term place column (image m atom) (m term) (slice_get_within facts place (image m atom) at)
-        (record { there = at; own = map_at m atom.terms column term there; among = among }));
-    rising = is.terms_rise.rising (key_hash atom.relation column bound % length index.terms);
-  }
+  pub candidates-term : (column number : ℕ) (term bound : Term) (places : List ℕ) → slice_get atom.terms column ≡ Some term
+      → is_among index.columns atom.relation column ≡ true → ((m : Term → Term) → Keeps Const m → Extends m known → m term ≡ bound)
+      → IsNumber index.names.items bound number
+      → ((terms : List Entry) → IsTable terms index.terms → AreUnder terms (key_of atom.relation column number) places)
+      → AreCandidates facts atom known places
+  candidates-term column number term bound places there among same is_number read =
+      let under = read is.terms.0 is.terms.1 in
+      record {
+        complete = λ m place keeps extends at. under.complete place
+            (is.terms.2 place column (image m atom) (m term) (slice_get_within facts place (image m atom) at)
+            (record { there = at; own = map_at m atom.terms column term there; among = among }) number
+            (subst (λ t. IsNumber index.names.items t number) (sym (same m keeps extends)) is_number));
+        rising = under.rising;
+      }
 
 -- ---- reading places
 

@@ -1,5 +1,5 @@
 -- The least active match, atom by atom.
-use Rattle.std.proofs.Common.{◌≡◌, ℕ, ◌+◌, ◌<◌, ◌≤◌, ◌⊎◌, ◌++◌, ◌↔◌, Bool, true, false, List, [], ◌∷◌, length, get_or, take, Contains, Option, Some}
+use Rattle.std.proofs.Common.{◌≡◌, ℕ, ◌<◌, ◌≤◌, ◌⊎◌, ◌++◌, Bool, true, false, List, [], ◌∷◌, length, get_or, take, Contains, Some}
 use Rattle.std.proofs.Common.{refl, sym, ap, subst, ◌∙◌, inl, inr, arith}
 use Rattle.std.specs.List.{slice_get}
 use Rattle.std.proofs.lemmas.List.{append-nil, append_assoc, length-take-le, get_or-take, get_or_default}
@@ -10,7 +10,7 @@ use Rattle.esto_semantics.specs.Maps.{Keeps}
 use Rattle.esto_semantics.specs.Matches.{IsMatch, IsAtMost}
 use Rattle.esto_semantics.specs.Rules.{Rule}
 use Rattle.esto_semantics.specs.declared.fact.Fact.{Fact}
-use Rattle.esto_query.specs.Active.{Holds, Tells, NoneIsActive, IsLeastActiveFrom, FindsLeast}
+use Rattle.esto_query.specs.Active.{Holds, Tells, IsLeastActiveFrom, FindsLeast}
 use Rattle.esto_query.specs.Indexes.{AreCandidates}
 use Rattle.esto_query.specs.Trails.{with_trail, Narrows}
 use Rattle.esto_query.specs.Valuations.{Assignment, Extends}

@@ -9,6 +9,8 @@ pub mod LeastLemmas
 pub mod RowLemmas
 pub mod RowOrderLemmas
 pub mod BucketLemmas
+pub mod NumberLemmas
+pub mod TableLemmas
 pub mod HashLemmas
 pub mod IndexLemmas
 pub mod MisfitLemmas

@@ -1,5 +1,5 @@
 -- Bodies with the same atoms have the same matches, since a match is by membership; atoms that are taken from a list and put back.
-use Rattle.std.proofs.Common.{◌≡◌, ℕ, zero, suc, ◌+◌, ◌-◌, ◌<◌, ◌≤◌, ◌⊎◌, ◌↔◌, ◌++◌, List, [], ◌∷◌, length, get_or, take, drop, map, Contains, Some, refl, sym, ap, subst, ◌∙◌, inl, inr, arith}
+use Rattle.std.proofs.Common.{◌≡◌, ℕ, suc, ◌+◌, ◌<◌, ◌↔◌, ◌++◌, List, ◌∷◌, length, get_or, take, drop, map, Contains, Some, sym, ap, ◌∙◌, inl, inr, arith}
 use Rattle.std.specs.List.{slice_get, insert, remove}
 use Rattle.std.specs.List.Sorted.{IsPermutation}
 use Rattle.std.proofs.lemmas.List.{take_at, drop_at, take-append-drop, drop_more, length-take-le, map-append, take-map, drop-map}

@@ -26,7 +26,3 @@ term_hash = fold-Term ℕ level_hash
 -- The hash of a row of terms.
 abbrev pub row_hash : List Term → ℕ
 row_hash row = hash_from 4 (map term_hash row)
-
--- The hash of a term in a column of a relation.
-abbrev pub key_hash : ℕ → ℕ → Term → ℕ
-key_hash relation column term = mixed (mixed (term_hash term) relation) column

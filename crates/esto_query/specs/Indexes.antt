@@ -1,15 +1,18 @@
--- An index of a list of facts: buckets of places, by relations and by terms in columns.
-use Rattle.std.specs.Prelude.{◌≡◌, ℕ, ◌+◌, ◌<◌, ◌≤◌, Bool, true, false, ◌||◌, List, [], Some, length, slice_get, slice_index_or, Contains}
+-- An index of a list of facts: buckets of places by relations, and a table of places by terms in columns.
+use Rattle.std.specs.Prelude.{◌≡◌, ℕ, ◌<◌, ◌≤◌, Bool, true, false, ◌||◌, List, [], Some, length, slice_get, slice_index_or, Contains}
 use Rattle.esto_term.specs.declared.term.Term.{Term}
 use Rattle.esto_term.specs.declared.term.Term.TheVariants.{Const}
 use Rattle.esto_semantics.specs.Facts.{image}
 use Rattle.esto_semantics.specs.Maps.{Keeps}
 use Rattle.esto_semantics.specs.declared.fact.Fact.{Fact}
 use Rattle.esto_query.specs.Buckets.{places_at, AreRising, IsRising}
-use Rattle.esto_query.specs.Hashes.{key_hash}
+use Rattle.esto_query.specs.Numbers.{AreInOrder, IsNumber, key_of}
+use Rattle.esto_query.specs.Tables.{entry_of, IsTable}
 use Rattle.esto_query.specs.Valuations.{Assignment, Extends}
 use Rattle.esto_query.specs.declared.columns.Columns.{Columns}
 use Rattle.esto_query.specs.declared.index.Index.{Index}
+use Rattle.esto_query.specs.declared.table.Entry.{Entry}
+use Rattle.esto_query.specs.declared.table.Table.{Table}
 
 -- Whether the column of the relation is marked.
 abbrev pub is_marked : List (List Bool) → ℕ → ℕ → Bool
@@ -25,24 +28,37 @@ pub record StandsIn (facts : List (Fact Term)) (columns : Columns) (place column
   pub own : slice_get fact.terms column ≡ Some term
   pub among : is_among columns fact.relation column ≡ true
 
--- The new buckets have the places of the old, and the place by each of the first terms of the fact that stand in one of the columns.
-pub record AddsTerms (fact : Fact Term) (columns : Columns) (place bound : ℕ) (old new : List (List ℕ)) : Type 0 where
-  pub kept : (hash other : ℕ) → Contains (places_at old hash) other → Contains (places_at new hash) other
-  pub added : (column : ℕ) (term : Term) → column < bound → slice_get fact.terms column ≡ Some term → is_among columns fact.relation column ≡ true
-      → Contains (places_at new (key_hash fact.relation column term)) place
-  pub rising : AreRising old (place + 1) → AreRising new (place + 1)
+-- The entries have the place under the key of the term in the column of the relation.
+abbrev pub HasPlace : List Entry → List Term → ℕ → ℕ → Term → ℕ → Type 0
+HasPlace entries names relation column term place =
+    (number : ℕ) → IsNumber names term number → Contains entries (entry_of (key_of relation column number) place)
 
--- The buckets have the place of each of the first facts by its relation, and the others by its term in each of the columns.
-pub record AreListed (facts : List (Fact Term)) (columns : Columns) (bound : ℕ) (relations terms : List (List ℕ)) : Type 0 where
-  pub by_relation : (place : ℕ) (fact : Fact Term) → place < bound → slice_get facts place ≡ Some fact → Contains (places_at relations fact.relation) place
-  pub by_term : (place column : ℕ) (fact : Fact Term) (term : Term) → place < bound → StandsIn facts columns place column fact term
-      → Contains (places_at terms (key_hash fact.relation column term)) place
-  pub relations_rise : AreRising relations bound
-  pub terms_rise : AreRising terms bound
+-- The new entries are the old ones, and those of the place by each of the first terms of the fact that stand in one of the columns.
+pub record AddsTerms (fact : Fact Term) (columns : Columns) (names : List Term) (place bound : ℕ) (old new : List Entry) : Type 0 where
+  pub kept : (entry : Entry) → Contains old entry → Contains new entry
+  pub added : (column : ℕ) (term : Term) → column < bound → slice_get fact.terms column ≡ Some term → is_among columns fact.relation column ≡ true
+      → HasPlace new names fact.relation column term place
+
+-- The buckets have the place of each of the first facts by its relation.
+pub record AreInBuckets (facts : List (Fact Term)) (bound : ℕ) (relations : List (List ℕ)) : Type 0 where
+  pub has : (place : ℕ) (fact : Fact Term) → place < bound → slice_get facts place ≡ Some fact → Contains (places_at relations fact.relation) place
+  pub rising : AreRising relations bound
+
+-- The entries have the place of each of the first facts by its term in each of the columns.
+abbrev pub AreListed : List (Fact Term) → Columns → List Term → ℕ → List Entry → Type 0
+AreListed facts columns names bound terms =
+    (place column : ℕ) (fact : Fact Term) (term : Term) → place < bound → StandsIn facts columns place column fact term
+    → HasPlace terms names fact.relation column term place
+
+-- The table has the place of each fact by its term in each of the columns.
+abbrev pub IsTableOf : List (Fact Term) → Columns → List Term → Table → Type 0
+IsTableOf facts columns names table = (terms : List Entry) × IsTable terms table × AreListed facts columns names (length facts) terms
 
 -- The index has the places of all facts.
-abbrev pub IsIndex : List (Fact Term) → Index → Type 0
-IsIndex facts index = AreListed facts index.columns (length facts) index.relations index.terms
+pub record IsIndex (facts : List (Fact Term)) (index : Index) : Type 0 where
+  pub relations : AreInBuckets facts (length facts) index.relations
+  pub names : AreInOrder index.names.items
+  pub terms : IsTableOf facts index.columns index.names.items index.terms
 
 -- Each place to which a map that extends the known valuation can send the atom is there, and the places rise.
 pub record AreCandidates (facts : List (Fact Term)) (atom : Fact Term) (known : Assignment) (places : List ℕ) : Type 0 where

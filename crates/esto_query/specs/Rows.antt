@@ -1,5 +1,5 @@
 -- Rows of terms, and what a list of rows has.
-use Rattle.std.specs.Prelude.{◌≡◌, ◌≢◌, ◌⊎◌, ◌↔◌, ℕ, Bool, true, false, ◌<◌, ◌≤◌, List, IsSome, length, map, slice_index_or, Contains, AllPairs}
+use Rattle.std.specs.Prelude.{◌≡◌, ◌⊎◌, ◌↔◌, ℕ, Bool, true, false, ◌<◌, ◌≤◌, List, IsSome, length, map, slice_index_or, Contains, AllPairs}
 use Rattle.std.specs.FinMap.{get}
 use Rattle.std.specs.Cmp.Lexicographic.{slice_cmp}
 use Rattle.std.specs.declared.cmp.Ordering.{Ordering}
@@ -10,9 +10,7 @@ use Rattle.esto_term.specs.declared.term.Term.TheVariants.{Const, Plain}
 use Rattle.esto_semantics.specs.Facts.{Mentions}
 use Rattle.esto_semantics.specs.Maps.{IsConstant, Keeps, Sends}
 use Rattle.esto_semantics.specs.declared.fact.Fact.{Fact}
-use Rattle.esto_query.specs.Trails.{with_trail}
 use Rattle.esto_query.specs.Valuations.{Assignment, Extends}
-use Rattle.esto_query.specs.declared.trail.Binding.{Binding}
 
 -- The order of rows, term by term.
 abbrev pub row_cmp : List Term → List Term → Ordering

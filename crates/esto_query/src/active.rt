@@ -63,7 +63,7 @@ pub fn is_active<'a>(
 {
     match rule.conclusion {
         Conclusion::Extends(head) => {
-            let mut left = AtomsLeft::of(alloc, head)?;
+            let mut left = AtomsLeft::of(alloc, start, facts, trail, head)?;
             let any = LentRule {
                 body: &[],
                 conclusion: Conclusion::Never,
@@ -139,9 +139,10 @@ fn seek<'a, 'b>(
     let Some(choice) = next_atom(start, facts, trail, &[], left) else {
         return is_active(alloc, start, rule, facts, trail);
     };
-    let atom = left.take(choice.place);
+    let waiting = left.take(choice.place);
+    let atom = waiting.atom;
     let is_found = seek_each(alloc, start, rule, atom, choice.found, left, facts, trail)?;
-    left.put(choice.place, atom)?;
+    left.put(choice.place, waiting)?;
     Ok(is_found)
 }
 
@@ -181,6 +182,6 @@ pub fn has_active<'a>(
     ensures decides { IfOk result (DecidesActive facts.now (rule_of rule.now)
         (with_trail start.now trail.old.items) atoms.now) }
 {
-    let mut left = AtomsLeft::of(alloc, atoms)?;
+    let mut left = AtomsLeft::of(alloc, start, facts, trail, atoms)?;
     seek(alloc, start, rule, &mut left, facts, trail)
 }

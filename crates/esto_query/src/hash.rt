@@ -1,6 +1,6 @@
 //! Hashes of terms, by which facts are found.
 ghost use Rattle.std.specs.Prelude.{◌≡◌};
-ghost use Rattle.esto_query.specs.Hashes.{mixed, hash_from, term_hash, row_hash, key_hash};
+ghost use Rattle.esto_query.specs.Hashes.{mixed, hash_from, term_hash, row_hash};
 
 use esto_term::Term;
 
@@ -8,7 +8,7 @@ use esto_term::Term;
 const FACTOR: u64 = 0x9E37_79B9_7F4A_7C15;
 
 /// The hash with more taken into it.
-fn mixed(hash: u64, more: u64) -> u64
+pub fn mixed(hash: u64, more: u64) -> u64
     ensures { result ≡ mixed hash more }
 {
     hash.wrapping_mul(FACTOR).wrapping_add(more)
@@ -26,7 +26,7 @@ fn text_hash(text: &[u8]) -> u64
 }
 
 /// The hash of a term.
-fn term_hash(term: &Term) -> u64
+pub fn term_hash(term: &Term) -> u64
     ensures { result ≡ term_hash term.now }
 {
     match term {
@@ -51,11 +51,4 @@ pub fn row_hash(row: &[Term]) -> u64
         hash = mixed(hash, term_hash(term));
     }
     hash
-}
-
-/// The hash of a term in a column of a relation.
-pub fn key_hash(relation: usize, column: usize, term: &Term) -> u64
-    ensures { result ≡ key_hash relation column term.now }
-{
-    mixed(mixed(term_hash(term), relation as u64), column as u64)
 }

@@ -1,17 +1,20 @@
 //! The index of a list of facts.
-ghost use Rattle.std.specs.Prelude.{◌≡◌, ◌<◌, ◌+◌, ℕ, List, length, slice_get, Some, IfOk, OnOk, IfSome};
+ghost use Rattle.std.specs.Prelude.{◌≡◌, ◌<◌, ◌+◌, List, length, slice_get, Some, IfOk, OnOk, IfSome};
 ghost use Rattle.esto_term.specs.declared.term.Term.{Term};
 ghost use Rattle.esto_term.specs.declared.term.Term.TheVariants.{Const};
 ghost use Rattle.esto_semantics.specs.Maps.{Keeps};
 ghost use Rattle.esto_semantics.specs.declared.fact.Fact.{Fact};
 ghost use Rattle.esto_query.specs.Buckets.{AreRising, IsRising};
-ghost use Rattle.esto_query.specs.Valuations.{Extends};
+ghost use Rattle.esto_query.specs.Valuations.{Assignment, Extends};
 ghost use Rattle.esto_query.specs.Trails.{with_trail};
-ghost use Rattle.esto_query.specs.Indexes.{AddsTerms, AreListed, IsIndex, AreCandidates, AreFrom};
+ghost use Rattle.esto_query.specs.Numbers.{AreInOrder};
+ghost use Rattle.esto_query.specs.declared.table.Entry.{Entry};
+ghost use Rattle.esto_query.specs.Indexes.{AddsTerms, AreListed, AreInBuckets, IsTableOf, IsIndex, AreCandidates, AreFrom};
 
 use crate::buckets::Buckets;
 use crate::columns::{Columns, is_among};
-use crate::hash::key_hash;
+use crate::number::{clashes, key_of, names_of, number_of};
+use crate::table::{Entry, Table, table_of};
 use crate::trail::{Binding, value};
 use crate::valuation::Valuation;
 use esto_semantics::Atom;
@@ -21,82 +24,88 @@ use std::alloc::Global;
 /// The most buckets by relations. More relations share them.
 const MOST_RELATIONS: usize = 2048;
 
-/// The places of a list of facts, in buckets: each place by the fact's relation, and by its term in each of the columns.
+/// How many places are so few that no column is asked for fewer.
+const FEW: usize = 3;
+
+/// The places of a list of facts: each by the fact's relation, in buckets, and by its term in each of the columns, in a
+/// table.
 #[derive(Drop)]
 pub struct Index {
     pub columns: Columns,
+    /// The names among which terms have their ranks, where hashes clash.
+    pub names: Vec<Term>,
     pub relations: Buckets,
-    pub terms: Buckets,
+    pub terms: Table,
 }
 
-/// Puts the place of a fact into the bucket of its term in the column, if that is one of the columns.
+/// Puts the places of the facts into the buckets of their relations, which are empty.
+fn add_relations(facts: &[Atom], relations: &mut Buckets) -> Result<(), OutOfMemory>
+    requires { AreRising relations.old 0 }
+    ensures { OnOk result (AreInBuckets facts.now (length facts.now) relations.new) }
+{
+    'facts: for place in 0..facts.len() {
+        relations.put(facts[place].relation as u64, place)?;
+    }
+    Ok(())
+}
+
+/// Adds the entry of a fact's place by its term in the column, if that is one of the columns.
 fn add_term(
     columns: &Columns,
+    names: &[Term],
     fact: &Atom,
     place: usize,
     column: usize,
-    terms: &mut Buckets,
+    terms: &mut Vec<Entry>,
 ) -> Result<(), OutOfMemory>
-    requires { column < length fact.now.terms }
-    ensures { OnOk result ((old : List (List ℕ))
-        → AddsTerms fact.now columns.now place column old terms.old
-        → AddsTerms fact.now columns.now place (column + 1) old terms.new) }
+    requires within { column < length fact.now.terms }
+    requires names { AreInOrder names.now }
+    ensures { OnOk result ((old : List Entry)
+        → AddsTerms fact.now columns.now names.now place column old terms.old.items
+        → AddsTerms fact.now columns.now names.now place (column + 1) old terms.new.items) }
 {
     if !is_among(columns, fact.relation, column) {
         return Ok(());
     }
-    let hash = key_hash(fact.relation, column, fact.terms.item(column));
-    terms.put(hash, place)
+    let number = number_of(names, fact.terms.item(column));
+    let key = key_of(fact.relation, column, number);
+    let Ok(()) = terms.push(Entry { key, place }) else {
+        return Err(OutOfMemory);
+    };
+    Ok(())
 }
 
-/// Puts the place of a fact into the buckets of its terms in the columns.
+/// Adds the entries of a fact's place by its terms in the columns.
 fn add_terms(
     columns: &Columns,
+    names: &[Term],
     fact: &Atom,
     place: usize,
-    terms: &mut Buckets,
+    terms: &mut Vec<Entry>,
 ) -> Result<(), OutOfMemory>
-    ensures { OnOk result (AddsTerms fact.now columns.now place (length fact.now.terms)
-        terms.old terms.new) }
+    requires { AreInOrder names.now }
+    ensures { OnOk result (AddsTerms fact.now columns.now names.now place (length fact.now.terms)
+        terms.old.items terms.new.items) }
 {
     'columns: for column in 0..fact.terms.len() {
-        add_term(columns, fact, place, column, terms)?;
+        add_term(columns, names, fact, place, column, terms)?;
     }
     Ok(())
 }
 
-/// Puts the place of a fact into its buckets.
-fn add_fact(
-    columns: &Columns,
-    fact: &Atom,
-    place: usize,
-    relations: &mut Buckets,
-    terms: &mut Buckets,
-) -> Result<(), OutOfMemory>
-    ensures { OnOk result ((facts : List (Fact Term))
-        → slice_get facts place ≡ Some fact.now
-        → AreListed facts columns.now place relations.old terms.old
-        → AreListed facts columns.now (place + 1) relations.new terms.new) }
-{
-    relations.put(fact.relation as u64, place)?;
-    add_terms(columns, fact, place, terms)?;
-    Ok(())
-}
-
-/// Puts the places of the facts into buckets, which are empty.
+/// Adds the entries of the facts' places to none.
 fn add_facts(
     columns: &Columns,
+    names: &[Term],
     facts: &[Atom],
-    relations: &mut Buckets,
-    terms: &mut Buckets,
+    terms: &mut Vec<Entry>,
 ) -> Result<(), OutOfMemory>
-    requires no_relation { AreRising relations.old 0 }
-    requires no_term { AreRising terms.old 0 }
-    ensures { OnOk result (AreListed facts.now columns.now (length facts.now)
-        relations.new terms.new) }
+    requires { AreInOrder names.now }
+    ensures { OnOk result (AreListed facts.now columns.now names.now (length facts.now)
+        terms.new.items) }
 {
     'facts: for place in 0..facts.len() {
-        add_fact(columns, &facts[place], place, relations, terms)?;
+        add_terms(columns, names, &facts[place], place, terms)?;
     }
     Ok(())
 }
@@ -121,15 +130,63 @@ fn count_terms(columns: &Columns, facts: &[Atom]) -> usize {
     count
 }
 
-/// The index of the facts by the columns.
+/// The table of the facts' places by their terms in the columns.
+fn table_by(
+    alloc: Global,
+    columns: &Columns,
+    names: &[Term],
+    facts: &[Atom],
+) -> Result<Table, OutOfMemory>
+    requires { AreInOrder names.now }
+    ensures { IfOk result (IsTableOf facts.now columns.now names.now) }
+{
+    let mut terms = Vec::with_capacity(alloc, count_terms(columns, facts))?;
+    add_facts(columns, names, facts, &mut terms)?;
+    table_of(alloc, &mut terms)
+}
+
+/// The buckets of the facts' places by their relations.
+fn buckets_of(alloc: Global, facts: &[Atom]) -> Result<Buckets, OutOfMemory>
+    ensures { IfOk result (AreInBuckets facts.now (length facts.now)) }
+{
+    let mut relations = Buckets::new(alloc, facts.len().min(MOST_RELATIONS))?;
+    add_relations(facts, &mut relations)?;
+    Ok(relations)
+}
+
+/// The index of the facts by the columns, where terms have their ranks for numbers.
+fn named_index(
+    alloc: Global,
+    columns: Columns,
+    relations: Buckets,
+    facts: &[Atom],
+) -> Result<Index, OutOfMemory>
+    requires { AreInBuckets facts.now (length facts.now) relations }
+    ensures { IfOk result (IsIndex facts.now) }
+{
+    let names = names_of(alloc, &columns, facts)?;
+    let terms = table_by(alloc, &columns, &names, facts)?;
+    Ok(Index {
+        columns,
+        names,
+        relations,
+        terms,
+    })
+}
+
+/// The index of the facts by the columns. Terms have their hashes for numbers, but where these clash, as texts can be made
+/// to do, their ranks.
 pub fn index_of(alloc: Global, columns: Columns, facts: &[Atom]) -> Result<Index, OutOfMemory>
     ensures { IfOk result (IsIndex facts.now) }
 {
-    let mut relations = Buckets::new(alloc, facts.len().min(MOST_RELATIONS))?;
-    let mut terms = Buckets::new(alloc, count_terms(&columns, facts))?;
-    add_facts(&columns, facts, &mut relations, &mut terms)?;
+    let relations = buckets_of(alloc, facts)?;
+    let terms = table_by(alloc, &columns, &[], facts)?;
+    if clashes(facts, &terms) {
+        return named_index(alloc, columns, relations, facts);
+    }
     Ok(Index {
         columns,
+        names: Vec::new(alloc),
         relations,
         terms,
     })
@@ -151,8 +208,7 @@ fn bound_to<'b, 'a: 'b>(
     }
 }
 
-/// The places of the bucket of the term's value in the column, if there are fewer than the given ones, which are
-/// candidates too.
+/// The places of the term's value in the column, if there are fewer than the given ones, which are candidates too.
 fn fewer_by<'b, 'c, 'a: 'c>(
     start: &'c Valuation,
     facts: &[Atom],
@@ -167,17 +223,26 @@ fn fewer_by<'b, 'c, 'a: 'c>(
     requires best { AreCandidates facts.now atom.now (with_trail start.now trail.now) best.now }
     ensures { AreCandidates facts.now atom.now (with_trail start.now trail.now) result.now }
 {
-    if best.len() < 2 || !is_among(&index.columns, atom.relation, column) {
+    if best.len() <= FEW || !is_among(&index.columns, atom.relation, column) {
         return best;
     }
     let Some(bound) = bound_to(start, trail, atom.terms.item(column)) else {
         return best;
     };
-    let found = index.terms.at(key_hash(atom.relation, column, bound));
+    let number = number_of(&index.names, bound);
+    let found = index.terms.at(key_of(atom.relation, column, number));
     if best.len() <= found.len() {
         return best;
     }
     found
+}
+
+/// The places of the atom's relation.
+pub fn places_of<'b>(index: &'b Index, atom: &Atom) -> &'b [usize]
+    ensures { (facts : List (Fact Term)) (known : Assignment) → IsIndex facts index.now
+        → AreCandidates facts atom.now known result.now }
+{
+    index.relations.at(atom.relation as u64)
 }
 
 /// The places to which the atom can go: those of its relation, or fewer where the index finds it by a column that is
@@ -199,7 +264,15 @@ pub fn places_for<'b, 'c, 'a: 'c>(
     best
 }
 
-/// How many places the term's bucket in the column has, if it is fewer, where the first atom goes to the fact.
+/// How many places the value has in the column.
+fn ways_of(index: &Index, relation: usize, column: usize, value: &Term) -> usize
+    requires { AreInOrder index.now.names.items }
+{
+    let number = number_of(&index.names, value);
+    index.terms.at(key_of(relation, column, number)).len()
+}
+
+/// How many places the term's value has in the column, where the first atom goes to the fact.
 fn ways_by(
     index: &Index,
     first: &Atom,
@@ -207,11 +280,13 @@ fn ways_by(
     relation: usize,
     column: usize,
     term: &Term,
-) -> usize {
+) -> usize
+    requires { AreInOrder index.now.names.items }
+{
     'columns: for (place, shared) in first.terms.items().iter().enumerate() {
         if shared.equal(term) {
             return match fact.terms.items().get(place) {
-                Some(value) => index.terms.at(key_hash(relation, column, value)).len(),
+                Some(value) => ways_of(index, relation, column, value),
                 None => usize::MAX,
             };
         }
@@ -220,7 +295,9 @@ fn ways_by(
 }
 
 /// How many places are left to the other atom of so many, where the first one goes to the fact.
-pub fn least_after(index: &Index, first: &Atom, fact: &Atom, other: &Atom, ways: usize) -> usize {
+pub fn least_after(index: &Index, first: &Atom, fact: &Atom, other: &Atom, ways: usize) -> usize
+    requires { AreInOrder index.now.names.items }
+{
     let mut least = ways;
     'columns: for (column, term) in other.terms.items().iter().enumerate() {
         if is_among(&index.columns, other.relation, column) {

@@ -4,10 +4,11 @@ ghost use Rattle.esto_term.specs.declared.term.Term.{Term};
 ghost use Rattle.esto_semantics.specs.Facts.{image};
 ghost use Rattle.esto_semantics.specs.Maps.{IsFlat};
 ghost use Rattle.esto_query.specs.Trails.{with_trail, Tries};
+ghost use Rattle.esto_query.specs.Valuations.{Assignment};
 ghost use Rattle.esto_query.specs.Indexes.{AreCandidates};
 
 use crate::columns::Columns;
-use crate::index::{Index, index_of, least_after, places_for};
+use crate::index::{Index, index_of, least_after, places_for, places_of};
 use crate::trail::{Binding, bind_atom};
 use crate::valuation::Valuation;
 use esto_semantics::{Atom, Facts};
@@ -79,6 +80,13 @@ pub fn candidates<'b>(
     ensures { AreCandidates facts.now atom.now (with_trail start.now trail.now) result.now }
 {
     places_for(start, facts.facts, &facts.index, trail, atom)
+}
+
+/// All places of the atom's relation, to which it can go whatever is known.
+pub fn all_places<'b>(facts: &'b IndexedFacts, atom: &Atom) -> &'b [usize]
+    ensures { (known : Assignment) → AreCandidates facts.now atom.now known result.now }
+{
+    places_of(&facts.index, atom)
 }
 
 /// How many places are left to the other atom of so many, where the first one goes to the fact.

@@ -1,9 +1,10 @@
 //! The atoms of a body that a search has left, and which of them it takes next.
 ghost use Rattle.std.specs.Prelude.{◌≡◌, ◌⊎◌, ◌≤◌, ◌<◌, [], Some, length, slice_get, remove, insert, IfOk, OnOk, MatchOption};
 ghost use Rattle.esto_query.specs.Trails.{with_trail};
+ghost use Rattle.esto_query.specs.Valuations.{Assignment};
 ghost use Rattle.esto_query.specs.Orders.{IsChoice};
 
-use crate::indexed::{IndexedFacts, candidates, ways_after};
+use crate::indexed::{IndexedFacts, all_places, candidates, ways_after};
 use crate::trail::{Binding, value};
 use crate::valuation::Valuation;
 use esto_semantics::Atom;
@@ -11,10 +12,17 @@ use esto_term::{OutOfMemory, Term, has_term};
 use std::alloc::Global;
 use std::marker::Model;
 
+/// An atom that is left, and how many places it can go to by what was known when the search began, if that was counted.
+#[derive(Clone, Copy)]
+pub struct Waiting<'b> {
+    pub atom: &'b Atom,
+    pub ways: usize,
+}
+
 /// The atoms that a search has left. Contracts see their list.
 #[derive(Drop)]
 pub struct AtomsLeft<'b> {
-    atoms: Vec<&'b Atom>,
+    atoms: Vec<Waiting<'b>>,
 }
 
 impl<'b> Model for AtomsLeft<'b> {
@@ -28,17 +36,38 @@ impl<'b> Model for AtomsLeft<'b> {
 
     ghost coded = { Prim.hlevel (codes, term.the_row.coded) };
 
-    ghost view = { λ it. map (λ atom. atom.now) it.atoms.items };
+    ghost view = { λ it. map (λ waiting. waiting.atom.now) it.atoms.items };
+}
+
+/// How many places the atom can go to. An atom that is alone isn't counted, since nothing is chosen there.
+fn count_ways(
+    start: &Valuation,
+    facts: &IndexedFacts,
+    trail: &[Binding],
+    atom: &Atom,
+    atoms: usize,
+) -> usize {
+    if atoms < 2 {
+        return usize::MAX;
+    }
+    candidates(start, facts, trail, atom).len()
 }
 
 impl<'b> AtomsLeft<'b> {
     /// All atoms of the body.
-    pub fn of(alloc: Global, body: &'b [Atom]) -> Result<AtomsLeft<'b>, OutOfMemory>
+    pub fn of(
+        alloc: Global,
+        start: &Valuation,
+        facts: &IndexedFacts,
+        trail: &[Binding],
+        body: &'b [Atom],
+    ) -> Result<AtomsLeft<'b>, OutOfMemory>
         ensures { IfOk result (λ it. it ≡ body.now) }
     {
-        let mut atoms = Vec::new(alloc);
+        let mut atoms = Vec::with_capacity(alloc, body.len())?;
         'atoms: for atom in body {
-            let Ok(()) = atoms.push(atom) else {
+            let ways = count_ways(start, facts, trail, atom, body.len());
+            let Ok(()) = atoms.push(Waiting { atom, ways }) else {
                 return Err(OutOfMemory);
             };
         }
@@ -53,28 +82,28 @@ impl<'b> AtomsLeft<'b> {
     }
 
     /// The atom at that place.
-    pub fn item(&self, place: usize) -> &'b Atom
+    pub fn item(&self, place: usize) -> Waiting<'b>
         requires { place < length self.now }
-        ensures { slice_get self.now place ≡ Some result.now }
+        ensures { slice_get self.now place ≡ Some result.atom.now }
     {
         self.atoms[place]
     }
 
     /// Takes the atom at that place away.
-    pub fn take(&mut self, place: usize) -> &'b Atom
+    pub fn take(&mut self, place: usize) -> Waiting<'b>
         requires { place < length self.old }
-        ensures atom { slice_get self.old place ≡ Some result.now }
+        ensures atom { slice_get self.old place ≡ Some result.atom.now }
         ensures left { self.new ≡ remove self.old place }
     {
         self.atoms.remove(place)
     }
 
     /// Puts an atom at that place.
-    pub fn put(&mut self, place: usize, atom: &'b Atom) -> Result<(), OutOfMemory>
+    pub fn put(&mut self, place: usize, waiting: Waiting<'b>) -> Result<(), OutOfMemory>
         requires { place ≤ length self.old }
-        ensures { OnOk result (self.new ≡ insert self.old place atom.now) }
+        ensures { OnOk result (self.new ≡ insert self.old place waiting.entry.atom.now) }
     {
-        let Ok(()) = self.atoms.insert(place, atom) else {
+        let Ok(()) = self.atoms.insert(place, waiting) else {
             return Err(OutOfMemory);
         };
         Ok(())
@@ -99,7 +128,16 @@ fn choice_of<'f>(
     requires { place < length left.now }
     ensures { IsChoice facts.now left.now (with_trail start.now trail.now) result }
 {
-    let found = candidates(start, facts, trail, left.item(place));
+    let found = candidates(start, facts, trail, left.item(place).atom);
+    Choice { place, found }
+}
+
+/// The choice of the atom at that place, with all places of its relation.
+fn wide_choice_of<'f>(facts: &'f IndexedFacts, left: &AtomsLeft, place: usize) -> Choice<'f>
+    requires { place < length left.now }
+    ensures { (known : Assignment) → IsChoice facts.now left.now known result }
+{
+    let found = all_places(facts, left.item(place).atom);
     Choice { place, found }
 }
 
@@ -107,6 +145,8 @@ fn choice_of<'f>(
 #[derive(Clone, Copy)]
 struct Ranked<'f> {
     choice: Choice<'f>,
+    /// How many ways it leaves to go on.
+    ways: usize,
     /// Whether a variable of the atom has a value.
     joins: bool,
     /// Whether a variable of the atom that has no value is wanted.
@@ -142,7 +182,8 @@ fn wants(start: &Valuation, trail: &[Binding], wanted: &[Term], terms: &[Term]) 
     false
 }
 
-/// The choice of the atom at that place, with how it stands.
+/// The choice of the atom at that place, with how it stands. The places of an atom that joins are looked up; those of
+/// another one were counted when the search began.
 fn ranked_of<'f>(
     start: &Valuation,
     facts: &'f IndexedFacts,
@@ -154,11 +195,23 @@ fn ranked_of<'f>(
     requires { place < length left.now }
     ensures { IsChoice facts.now left.now (with_trail start.now trail.now) result.choice }
 {
-    let terms = left.item(place).terms.items();
+    let waiting = left.item(place);
+    let terms = waiting.atom.terms.items();
+    let wants = wants(start, trail, wanted, terms);
+    if joins(start, trail, terms) {
+        let choice = choice_of(start, facts, trail, left, place);
+        return Ranked {
+            choice,
+            ways: choice.found.len(),
+            joins: true,
+            wants,
+        };
+    }
     Ranked {
-        choice: choice_of(start, facts, trail, left, place),
-        joins: joins(start, trail, terms),
-        wants: wants(start, trail, wanted, terms),
+        choice: wide_choice_of(facts, left, place),
+        ways: waiting.ways,
+        joins: false,
+        wants,
     }
 }
 
@@ -170,7 +223,7 @@ fn is_before(one: &Ranked, other: &Ranked) -> bool {
     if one.wants != other.wants {
         return one.wants;
     }
-    one.choice.found.len() < other.choice.found.len()
+    one.ways < other.ways
 }
 
 /// The one that is taken first of two.
@@ -180,54 +233,64 @@ fn better<'f>(one: Ranked<'f>, other: Ranked<'f>) -> Ranked<'f>
     if is_before(&other, &one) { other } else { one }
 }
 
-/// The choice of an atom that joins, if one does, and of those of one that wants, if one does; else that leaves the
-/// fewest ways.
-fn preferred<'f>(
+/// The one that leaves fewer ways to go on.
+fn fewer<'f>(one: Ranked<'f>, other: Ranked<'f>) -> Ranked<'f>
+    ensures { (result ≡ one.entry) ⊎ (result ≡ other.entry) }
+{
+    if other.ways < one.ways { other } else { one }
+}
+
+/// The two between which a search chooses.
+#[derive(Clone, Copy)]
+struct Foremost<'f> {
+    /// One that leaves the fewest ways.
+    least: Ranked<'f>,
+    /// One that joins, if one does, and of those one that wants, if one does; else one that leaves the fewest ways.
+    best: Ranked<'f>,
+}
+
+/// The foremost of the atoms. Where one leaves one way at most, no later atom is looked at.
+fn foremost_of<'f>(
     start: &Valuation,
     facts: &'f IndexedFacts,
     trail: &[Binding],
     wanted: &[Term],
     left: &AtomsLeft,
-) -> Choice<'f>
+) -> Foremost<'f>
     requires { 0 < length left.now }
-    ensures { IsChoice facts.now left.now (with_trail start.now trail.now) result }
+    ensures least { IsChoice facts.now left.now (with_trail start.now trail.now)
+        result.least.choice }
+    ensures best { IsChoice facts.now left.now (with_trail start.now trail.now)
+        result.best.choice }
 {
-    let mut best = ranked_of(start, facts, trail, wanted, left, 0);
+    let mut least = ranked_of(start, facts, trail, wanted, left, 0);
+    let mut best = least;
     'places: for place in 1..left.len() {
-        best = better(best, ranked_of(start, facts, trail, wanted, left, place));
+        if least.ways < 2 {
+            return Foremost { least, best };
+        }
+        let next = ranked_of(start, facts, trail, wanted, left, place);
+        least = fewer(least, next);
+        best = better(best, next);
     }
-    best.choice
+    Foremost { least, best }
 }
 
-/// The choice that leaves fewer ways to go on.
-fn fewer<'f>(one: Choice<'f>, other: Choice<'f>) -> Choice<'f>
-    ensures { (result ≡ one.entry) ⊎ (result ≡ other.entry) }
-{
-    if other.found.len() < one.found.len() {
-        other
-    } else {
-        one
-    }
-}
-
-/// The choice of an atom that leaves the fewest ways to go on. Where it leaves one at most, no later atom is looked at.
-fn fewest<'f>(
+/// The choice with the places that were looked up for it, or that are looked up now.
+fn settled<'f>(
     start: &Valuation,
     facts: &'f IndexedFacts,
     trail: &[Binding],
     left: &AtomsLeft,
+    ranked: Ranked<'f>,
 ) -> Choice<'f>
-    requires { 0 < length left.now }
+    requires { IsChoice facts.now left.now (with_trail start.now trail.now) ranked.choice }
     ensures { IsChoice facts.now left.now (with_trail start.now trail.now) result }
 {
-    let mut best = choice_of(start, facts, trail, left, 0);
-    'places: for place in 1..left.len() {
-        if best.found.len() < 2 {
-            return best;
-        }
-        best = fewer(best, choice_of(start, facts, trail, left, place));
+    if ranked.joins {
+        return ranked.choice;
     }
-    best
+    choice_of(start, facts, trail, left, ranked.choice.place)
 }
 
 /// Whether it pays to take the first atom, which has fewer ways, before the other: by its first place, it leaves the other
@@ -241,6 +304,39 @@ fn pays(facts: &IndexedFacts, first: &Atom, found: &[usize], other: &Atom, ways:
     };
     let after = ways_after(facts, first, fact, other, ways);
     found.len().saturating_mul(after) <= ways
+}
+
+/// Which of the foremost is taken: the one with fewer ways, where it leaves one at most or where it pays.
+fn taken<'f>(
+    start: &Valuation,
+    facts: &'f IndexedFacts,
+    trail: &[Binding],
+    left: &AtomsLeft,
+    least: Ranked<'f>,
+    best: Ranked<'f>,
+) -> Choice<'f>
+    requires least { IsChoice facts.now left.now (with_trail start.now trail.now) least.choice }
+    requires best { IsChoice facts.now left.now (with_trail start.now trail.now) best.choice }
+    ensures { IsChoice facts.now left.now (with_trail start.now trail.now) result }
+{
+    if least.ways >= 2 && best.ways <= least.ways {
+        return settled(start, facts, trail, left, best);
+    }
+    let first = settled(start, facts, trail, left, least);
+    if least.ways < 2 || best.choice.place == least.choice.place {
+        return first;
+    }
+    let other = left.item(best.choice.place).atom;
+    if pays(
+        facts,
+        left.item(first.place).atom,
+        first.found,
+        other,
+        best.ways,
+    ) {
+        return first;
+    }
+    settled(start, facts, trail, left, best)
 }
 
 /// Which atom is taken next. Where one can go to one place at most, it is taken; else one that shares a variable with
@@ -259,23 +355,9 @@ pub fn next_atom<'f>(
     if left.len() == 0 {
         return None;
     }
-    let least = fewest(start, facts, trail, left);
-    if least.found.len() < 2 || left.len() == 1 {
-        return Some(least);
+    if left.len() == 1 {
+        return Some(choice_of(start, facts, trail, left, 0));
     }
-    let best = preferred(start, facts, trail, wanted, left);
-    let ways = best.found.len();
-    if best.place == least.place || ways <= least.found.len() {
-        return Some(best);
-    }
-    if pays(
-        facts,
-        left.item(least.place),
-        least.found,
-        left.item(best.place),
-        ways,
-    ) {
-        return Some(least);
-    }
-    Some(best)
+    let foremost = foremost_of(start, facts, trail, wanted, left);
+    Some(taken(start, facts, trail, left, foremost.least, foremost.best))
 }

@@ -14,9 +14,11 @@ mod least;
 mod left;
 mod make;
 mod matches;
+mod number;
 mod query;
 mod schema;
 mod search;
+mod table;
 mod trail;
 mod valuation;
 

@@ -1,10 +1,9 @@
-use Rattle.std.proofs.Common.{◌≡◌, ◌∷◌, [], ◌<◌, refl, sym, ap, subst, ◌∙◌, length, List, arith}
+use Rattle.std.proofs.Common.{◌≡◌, ◌∷◌, ap, ◌∙◌, length, arith}
 use Rattle.std.proofs.lemmas.Result.{IfOk-weaker}
 use Rattle.std.specs.List.{insert, remove}
-use Rattle.esto_semantics.specs.Maps.{AreFlat}
-use Rattle.esto_query.specs.Active.{rule_of, IsAimed, IsConcluded, DecidesActive}
+use Rattle.esto_query.specs.Active.{rule_of}
 use Rattle.esto_query.specs.Trails.{with_trail}
-use Rattle.esto_query.proofs.ActiveLemmas.{work, head_less, equality_told, tuple_told, over_at_end, end_decides, denial_decides, same_decides, same_concluded, concluded_next}
+use Rattle.esto_query.proofs.ActiveLemmas.{head_less, equality_told, tuple_told, over_at_end, end_decides, denial_decides, same_decides, same_concluded, concluded_next}
 use Rattle.esto_query.proofs.ActiveLemmas.{holds_without, holds_with, active_with, holds_more, holds_all}
 use Rattle.esto_query.proofs.IndexLemmas.{place_at, place_read}
 use Rattle.esto_query.proofs.LeastLemmas.{flat_first, flat_rest}
@@ -37,7 +36,7 @@ pub is_active-returns-in-Equals-clause-tells : goal.is_active-returns-in-Equals-
 is_active-returns-in-Equals-clause-tells t c =
     let known = with_trail c.args.start.now c.args.trail.now.items in
     let aimed = rw c.in-Equals.is at c.requires.aimed in
-    let told = rw (c.value_of.ensures, c.value_of-in-Equals.ensures, c.deref.ensures.value, c.deref-in-Equals.ensures.value) at c.equal-is_same.ensures in
+    let told = rw (c.value_of.ensures, c.value_of-in-Equals.ensures, c.deref-in-Equals.ensures.value, c.deref-in-Equals-2.ensures.value) at c.equal-is_same.ensures in
     rw c.in-Equals.is (equality_told c.args.rule.now.body.now c.args.facts.now c.in-Equals.one.now c.in-Equals.other.now known aimed
     c.equal-is_same.result told)
 
@@ -51,16 +50,16 @@ seek-seek_each-requires t c =
     let known = with_trail c.args.start.now c.args.trail.now.items in
     let left = c.args.left.now in
     let place = c.in-Some.choice.place in
-    let atom = c.take-atom.result.now in
-    let same = taken_same left place atom c.take-atom.ensures.atom in
+    let atom = c.take-waiting.result.atom.now in
+    let same = taken_same left place atom c.take-waiting.ensures.atom in
     let choice = rw c.deref.ensures.value at c.in-Some.ensures in
-    let taken : c.take-atom.new.self ≡ remove left place = c.take-atom.ensures.left in (
-      omega (arith, taken_shorter left place atom c.take-atom.ensures.atom, ap length taken),
+    let taken : c.take-waiting.new.self ≡ remove left place = c.take-waiting.ensures.left in (
+      omega (arith, taken_shorter left place atom c.take-waiting.ensures.atom, ap length taken),
       (
         rw taken (same_flat left (atom ∷ remove left place) same c.requires.flat),
         (
           rw taken (same_concluded left (atom ∷ remove left place) same c.args.rule.now.body.now c.args.rule.now.conclusion known c.requires.aimed),
-          choice.serves atom c.take-atom.ensures.atom,
+          choice.serves atom c.take-waiting.ensures.atom,
         ),
       ),
     )
@@ -68,17 +67,17 @@ seek-seek_each-requires t c =
 pub seek-returns-clause-left : goal.seek-returns-clause-left
 seek-returns-clause-left t c =
     let place = c.in-Some.choice.place in
-    let atom = c.take-atom.result.now in
-    c.in_ok-put.ensures ∙ ap (λ left. insert left place atom) (c.in_ok-is_found.ensures.left ∙ c.take-atom.ensures.left)
-    ∙ put_back c.args.left.now place atom c.take-atom.ensures.atom
+    let atom = c.take-waiting.result.atom.now in
+    c.in_ok-put.ensures ∙ ap (λ left. insert left place atom) (c.in_ok-is_found.ensures.left ∙ c.take-waiting.ensures.left)
+    ∙ put_back c.args.left.now place atom c.take-waiting.ensures.atom
 
 pub seek-returns-clause-decides : goal.seek-returns-clause-decides
 seek-returns-clause-decides t c =
     let left = c.args.left.now in
     let place = c.in-Some.choice.place in
-    let atom = c.take-atom.result.now in
-    let decides = rw c.take-atom.ensures.left at c.in_ok-is_found.ensures.decides in
-    same_decides left (atom ∷ remove left place) (taken_same left place atom c.take-atom.ensures.atom) c.args.facts.now
+    let atom = c.take-waiting.result.atom.now in
+    let decides = rw c.take-waiting.ensures.left at c.in_ok-is_found.ensures.decides in
+    same_decides left (atom ∷ remove left place) (taken_same left place atom c.take-waiting.ensures.atom) c.args.facts.now
     (rule_of c.args.rule.now) (with_trail c.args.start.now c.args.trail.now.items) c.in_ok-is_found.is_found decides
 
 pub seek_each-bind_place-requires : goal.seek_each-bind_place-requires

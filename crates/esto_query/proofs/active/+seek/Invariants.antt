@@ -1,4 +1,4 @@
-use Rattle.std.proofs.Common.{◌≡◌, ◌∷◌, ℕ, ◌+◌, ◌*◌, length, take, Contains}
+use Rattle.std.proofs.Common.{◌≡◌, ℕ, ◌+◌, ◌*◌, length, take, Contains}
 use Rattle.esto_query.specs.Active.{rule_of}
 use Rattle.esto_query.specs.Trails.{with_trail}
 use Rattle.esto_query.proofs.ActiveLemmas.{work, HoldsAt}

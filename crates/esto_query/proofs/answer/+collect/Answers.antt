@@ -1,4 +1,4 @@
-use Rattle.std.proofs.Common.{length, ◌≡◌, ◌∷◌, [], refl, ap, subst, ◌∙◌, arith}
+use Rattle.std.proofs.Common.{length, ◌≡◌, ◌∷◌, [], refl, ap, ◌∙◌, arith}
 use Rattle.std.proofs.lemmas.Result.{on_ok_weaker}
 use Rattle.std.specs.List.{insert, remove}
 use Rattle.esto_query.proofs.IndexLemmas.{place_at, place_read}
@@ -33,16 +33,16 @@ collect-collect_each-requires t c =
     let known = with_trail c.args.start.now c.args.trail.now.items in
     let left = c.args.left.now in
     let place = c.in-Some.choice.place in
-    let atom = c.take-atom.result.now in
-    let same = taken_same left place atom c.take-atom.ensures.atom in
+    let atom = c.take-waiting.result.atom.now in
+    let same = taken_same left place atom c.take-waiting.ensures.atom in
     let choice = rw c.deref-2.ensures.value at c.in-Some.ensures in
-    let taken : c.take-atom.new.self ≡ remove left place = c.take-atom.ensures.left in (
-      omega (arith, taken_shorter left place atom c.take-atom.ensures.atom, ap length taken),
+    let taken : c.take-waiting.new.self ≡ remove left place = c.take-waiting.ensures.left in (
+      omega (arith, taken_shorter left place atom c.take-waiting.ensures.atom, ap length taken),
       (
         rw taken (same_flat left (atom ∷ remove left place) same c.requires.flat),
         (
           rw taken (same_known left (atom ∷ remove left place) same c.args.head.now known c.requires.known),
-          choice.serves atom c.take-atom.ensures.atom,
+          choice.serves atom c.take-waiting.ensures.atom,
         ),
       ),
     )
@@ -50,9 +50,9 @@ collect-collect_each-requires t c =
 pub collect-returns-clause-left : goal.collect-returns-clause-left
 collect-returns-clause-left t c =
     let place = c.in-Some.choice.place in
-    let atom = c.take-atom.result.now in
-    on_ok_weaker c.put.result (λ back. back ∙ ap (λ left. insert left place atom) (c.in_ok-collect_each.ensures.left ∙ c.take-atom.ensures.left)
-    ∙ put_back c.args.left.now place atom c.take-atom.ensures.atom) c.put.ensures
+    let atom = c.take-waiting.result.atom.now in
+    on_ok_weaker c.put.result (λ back. back ∙ ap (λ left. insert left place atom) (c.in_ok-collect_each.ensures.left ∙ c.take-waiting.ensures.left)
+    ∙ put_back c.args.left.now place atom c.take-waiting.ensures.atom) c.put.ensures
 
 pub collect-returns-clause-trail : goal.collect-returns-clause-trail
 collect-returns-clause-trail t c = on_ok_weaker c.put.result (λ _. c.in_ok-collect_each.ensures.trail) c.put.ensures
@@ -61,9 +61,9 @@ pub collect-returns-clause-adds : goal.collect-returns-clause-adds
 collect-returns-clause-adds t c =
     let left = c.args.left.now in
     let place = c.in-Some.choice.place in
-    let atom = c.take-atom.result.now in
-    let adds = rw c.take-atom.ensures.left at c.in_ok-collect_each.ensures.adds in
-    on_ok_weaker c.put.result (λ _. same_rows left (atom ∷ remove left place) (taken_same left place atom c.take-atom.ensures.atom)
+    let atom = c.take-waiting.result.atom.now in
+    let adds = rw c.take-waiting.ensures.left at c.in_ok-collect_each.ensures.adds in
+    on_ok_weaker c.put.result (λ _. same_rows left (atom ∷ remove left place) (taken_same left place atom c.take-waiting.ensures.atom)
     c.args.head.now c.args.facts.now (with_trail c.args.start.now c.args.trail.now.items) _ _ adds) c.put.ensures
 
 pub collect_each-places-init : goal.collect_each-places-init

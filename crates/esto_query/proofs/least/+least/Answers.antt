@@ -1,7 +1,7 @@
-use Rattle.std.proofs.Common.{◌≡◌, ◌∷◌, [], refl, sym, ap, subst, ◌∙◌, length, arith}
+use Rattle.std.proofs.Common.{◌≡◌, ◌∷◌, [], ap, subst, length, arith}
 use Rattle.std.proofs.lemmas.List.{nil_from_length}
 use Rattle.esto_semantics.specs.Maps.{AreFlat}
-use Rattle.esto_query.specs.Active.{rule_of, Holds, IsConcluded, Tells}
+use Rattle.esto_query.specs.Active.{rule_of, IsConcluded}
 use Rattle.esto_query.specs.Trails.{with_trail}
 use Rattle.esto_query.proofs.ActiveLemmas.{both_told, concluded_next, holds_without, holds_with, holds_more, holds_all}
 use Rattle.esto_query.proofs.IndexLemmas.{place_at, place_read}
