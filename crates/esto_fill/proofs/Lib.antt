@@ -8,7 +8,7 @@ pub mod LawfulLemmas
 pub mod SameLemmas
 pub mod FileLemmas
 pub mod FilledLemmas
-pub mod ConstantLemmas
+pub mod NodeLemmas
 pub mod DifferenceLemmas
 pub mod LawLemmas
 pub mod AuditLemmas

@@ -7,5 +7,6 @@ pub mod Filled
 pub mod Records
 pub mod Differences
 pub mod Placing
+pub mod Nodes
 pub mod Judging
 pub mod Laws

@@ -8,7 +8,6 @@ use Rattle.esto_query.specs.Rows.{Adds, row_cmp}
 use Rattle.esto_query.specs.declared.query.Name.{Name}
 use Rattle.esto_query.specs.declared.query.Query.{Query}
 use Rattle.esto_relmodel.specs.Once.{AreEachOnce}
-use Rattle.esto_semantics.specs.Facts.{Mentions}
 use Rattle.esto_semantics.specs.Queries.{IsAnswerInto}
 use Rattle.esto_semantics.specs.declared.fact.Fact.{Fact}
 use Rattle.esto_semantics.specs.declared.fact.Value.{Value}
@@ -56,10 +55,6 @@ IsImageOf rows values = (row : List Term) × Contains rows row × (values ≡ ma
 -- Each term of each of the rows is a constant.
 abbrev pub AreConstant : List (List Term) → Type 0
 AreConstant rows = (row : List Term) (term : Term) → Contains rows row → Contains row term → IsConstant term
-
--- Each term of each of the facts is a constant.
-abbrev pub AreOfConstants : List (Fact Term) → Type 0
-AreOfConstants facts = (term : Term) → Mentions facts term → IsConstant term
 
 -- The row has in that place, counted from 0, another term than a constant.
 abbrev pub IsOpenAt : List Term → ℕ → Type 0

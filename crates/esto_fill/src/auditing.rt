@@ -2,6 +2,7 @@
 ghost use Rattle.std.specs.Prelude.{◌≡◌, length, map, IfOk};
 ghost use Rattle.esto_constraint.specs.Constraints.{rules_of};
 ghost use Rattle.esto_constraint.specs.EncodingRules.{written};
+ghost use Rattle.esto_constraint.specs.Matches.{AreMet};
 ghost use Rattle.esto_plan.specs.Rows.{IsRowOf, held_by};
 ghost use Rattle.esto_query.specs.Making.{query_of};
 ghost use Rattle.esto_semantics.specs.Maps.{AreFlat};
@@ -10,19 +11,19 @@ ghost use Rattle.esto_views.specs.Fragments.{views_of};
 ghost use Rattle.esto_fill.specs.Databases.{database_of};
 ghost use Rattle.esto_fill.specs.Differences.{Audits};
 ghost use Rattle.esto_fill.specs.Judging.{JudgesRules, JudgesFragment, JudgesFragments};
-ghost use Rattle.esto_fill.specs.Lawful.{AreLawful};
 ghost use Rattle.esto_fill.specs.Texts.{AreTextViews, HaveTextsOnly};
 
 use crate::apart::{Apart, first_apart, ordered_rows};
+use crate::lawful::laws_of;
 use crate::laws::{facts_stand_as_databases, loaded_documents_are_lawful, loaded_facts_are_flat};
 use crate::loaded::Loaded;
 use crate::record::record_of;
 use crate::rows::{counted, text_row};
-use crate::tried::meets_by_law;
-use crate::views::columns_of_views;
+use crate::tried::{add_rules, first_broken};
+use crate::views::add_views;
 use esto_catalog::Catalogue;
-use esto_constraint::{Broken, Rules, least_active_matches_are_least, rules_are_sound};
-use esto_query::{Facts, IndexedFacts, queries_are_sound};
+use esto_constraint::{Broken, Constraint, Rules, least_active_matches_are_least, rules_are_sound};
+use esto_query::{Columns, IndexedFacts, queries_are_sound};
 use esto_semantics::databases_stand_for_facts;
 use esto_term::{List, OutOfMemory, Replicate, Text, TextRow, TextRows};
 use esto_views::{FragmentDef, FragmentDefs};
@@ -58,23 +59,23 @@ impl Replicate for Difference {
     }
 }
 
-// The first rule that the facts do not meet, with the record of its least active match. None comes exactly where they meet
-// each rule.
+// The first rule that the facts, which meet the laws, do not meet, with the record of its least active match. None comes
+// exactly where they meet each rule.
 fn broken_rule(
     alloc: Global,
     rules: &Rules,
-    bases: &[usize],
-    facts: &Facts,
+    laws: &[Constraint],
+    facts: &IndexedFacts,
 ) -> Result<Option<Difference>, OutOfMemory>
     requires flat { AreFlat facts.now }
-    requires lawful { AreLawful bases.now facts.now }
+    requires laws { AreMet facts.now (rules_of laws.now) }
     ensures { IfOk result (JudgesRules (rules_of rules.now) (map written rules.now) facts.now) }
 {
     databases_stand_for_facts();
     facts_stand_as_databases();
     rules_are_sound();
     least_active_matches_are_least();
-    let Some(broken) = meets_by_law(alloc, rules, bases, facts)? else {
+    let Some(broken) = first_broken(alloc, rules, laws, facts)? else {
         return Ok(None);
     };
     let rule = rules.item(broken.rule);
@@ -119,7 +120,7 @@ fn apart_of(
 fn apart_fragment(
     alloc: Global,
     fragments: &FragmentDefs,
-    facts: &Facts,
+    facts: &IndexedFacts,
     rows: &TextRowsList,
 ) -> Result<Option<Difference>, OutOfMemory>
     requires many { length rows.now ≡ length fragments.now }
@@ -128,16 +129,51 @@ fn apart_fragment(
     ensures { IfOk result (JudgesFragments (map (λ fragment. fragment.name) fragments.now)
         (views_of fragments.now) (database_of facts.now) rows.now) }
 {
-    let columns = columns_of_views(alloc, fragments)?;
-    let indexed = IndexedFacts::by(alloc, columns, facts)?;
     'fragments: for number in 0..fragments.len() {
         let fragment = fragments.item(number);
-        let outcome = apart_of(alloc, fragment, &indexed, rows.item(number))?;
+        let outcome = apart_of(alloc, fragment, facts, rows.item(number))?;
         if outcome.is_some() {
             return Ok(outcome);
         }
     }
     Ok(None)
+}
+
+// The first difference between the facts, which meet the laws, and the rules, or else the rows of the fragments.
+fn first_difference(
+    alloc: Global,
+    catalogue: &Catalogue,
+    laws: &[Constraint],
+    facts: &IndexedFacts,
+    rows: &TextRowsList,
+) -> Result<Option<Difference>, OutOfMemory>
+    requires many { length rows.now ≡ length catalogue.now.fragments }
+    requires flat { AreFlat facts.now }
+    requires laws { AreMet facts.now (rules_of laws.now) }
+    requires texts { AreTextViews (views_of catalogue.now.fragments) (database_of facts.now) }
+    ensures { IfOk result (λ outcome. Audits (rules_of catalogue.now.rules)
+        (map written catalogue.now.rules)
+        (map (λ fragment. fragment.name) catalogue.now.fragments)
+        (views_of catalogue.now.fragments) facts.now (IsRowOf (held_by rows.now)) outcome) }
+{
+    let broken = broken_rule(alloc, &catalogue.rules, laws, facts)?;
+    if broken.is_some() {
+        return Ok(broken);
+    }
+    let apart = apart_fragment(alloc, &catalogue.fragments, facts, rows)?;
+    Ok(apart)
+}
+
+// The columns by which matches of the rules that are none of the laws, and the rows of the fragments' views, are found.
+fn columns_of(
+    alloc: Global,
+    catalogue: &Catalogue,
+    laws: &[Constraint],
+) -> Result<Columns, OutOfMemory> {
+    let mut columns = Columns::none(alloc);
+    add_rules(alloc, &mut columns, &catalogue.rules, laws)?;
+    add_views(alloc, &mut columns, &catalogue.fragments)?;
+    Ok(columns)
 }
 
 /// Whether the database of the facts meets each rule of the catalogue, and the rows of each fragment are, as a set, those
@@ -160,11 +196,8 @@ pub fn audit(
 {
     loaded_facts_are_flat();
     loaded_documents_are_lawful();
-    let bases = loaded.documents.items();
-    let broken = broken_rule(alloc, &catalogue.rules, bases, &loaded.facts)?;
-    if broken.is_some() {
-        return Ok(broken);
-    }
-    let apart = apart_fragment(alloc, &catalogue.fragments, &loaded.facts, rows)?;
-    Ok(apart)
+    let laws = laws_of(alloc, loaded.documents.items())?;
+    let columns = columns_of(alloc, catalogue, laws.items())?;
+    let facts = IndexedFacts::by(alloc, columns, &loaded.facts)?;
+    first_difference(alloc, catalogue, laws.items(), &facts, rows)
 }

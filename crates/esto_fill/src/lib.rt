@@ -11,6 +11,7 @@ mod filled;
 mod lawful;
 mod laws;
 mod loaded;
+mod nodes;
 mod record;
 mod rows;
 mod tried;

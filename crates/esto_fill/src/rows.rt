@@ -24,8 +24,8 @@ impl From<OutOfMemory> for AnswerError {
     }
 }
 
-/// The first place, counted from 0, in which the row has another term than a constant.
-pub fn open_place(row: &[Term]) -> Option<usize>
+// The first place, counted from 0, in which the row has another term than a constant.
+fn open_place(row: &[Term]) -> Option<usize>
     ensures { LeastOpen (row.now ∷ []) result }
 {
     'terms: for (place, term) in row.iter().enumerate() {

@@ -2,12 +2,10 @@
 ghost use Rattle.std.specs.Prelude.{◌≡◌, IsTrue, Contains, MatchOption, IfOk};
 ghost use Rattle.esto_constraint.specs.Constraints.{rule_of, rules_of};
 ghost use Rattle.esto_constraint.specs.Matches.{AreMet, IsFirstBroken, IsLeastActive, IsMet};
-ghost use Rattle.esto_fill.specs.Lawful.{AreLawful};
 
-use crate::lawful::laws_of;
 use esto_constraint::{Broken, Constraint, Egd, Rules, Tgd, active_in};
 use esto_query::{Columns, Found, IndexedFacts};
-use esto_semantics::{Atom, Facts};
+use esto_semantics::Atom;
 use esto_term::{OutOfMemory, equal_terms};
 use std::alloc::Global;
 
@@ -107,15 +105,19 @@ fn add_columns(alloc: Global, columns: &mut Columns, rule: &Constraint) -> Resul
     }
 }
 
-// The columns by which matches of the rules that are none of the laws are found.
-fn columns_of(alloc: Global, rules: &Rules, laws: &[Constraint]) -> Result<Columns, OutOfMemory> {
-    let mut columns = Columns::none(alloc);
+/// Adds the columns by which matches of the rules that are none of the laws are found.
+pub fn add_rules(
+    alloc: Global,
+    columns: &mut Columns,
+    rules: &Rules,
+    laws: &[Constraint],
+) -> Result<(), OutOfMemory> {
     'rules: for rule in rules.items() {
         if !is_law(rule, laws) {
-            add_columns(alloc, &mut columns, rule)?;
+            add_columns(alloc, columns, rule)?;
         }
     }
-    Ok(columns)
+    Ok(())
 }
 
 // The least active match of the rule, which isn't looked for where the rule is one of the laws.
@@ -135,9 +137,9 @@ fn tried(
     active_in(alloc, rule, facts)
 }
 
-// The first rule, by its number, that the facts do not meet, with its least active match, where they meet the laws. None
-// comes exactly where they meet each rule.
-fn first_broken(
+/// The first rule, by its number, that the facts do not meet, with its least active match, where they meet the laws, which
+/// are not tried. None comes exactly where they meet each rule.
+pub fn first_broken(
     alloc: Global,
     rules: &Rules,
     laws: &[Constraint],
@@ -158,23 +160,4 @@ fn first_broken(
         }
     }
     Ok(None)
-}
-
-/// The first rule, by its number, that the facts do not meet, with its least active match. None comes exactly where they
-/// meet each rule. The rules of the documents from these bases on, which the facts meet by law, are not tried.
-pub fn meets_by_law(
-    alloc: Global,
-    rules: &Rules,
-    bases: &[usize],
-    facts: &Facts,
-) -> Result<Option<Broken>, OutOfMemory>
-    requires { AreLawful bases.now facts.now }
-    ensures { IfOk result (λ outcome. MatchOption outcome (AreMet facts.now (rules_of rules.now))
-        (λ broken. IsFirstBroken (rules_of rules.now) facts.now broken.rule
-        broken.found.valuation broken.found.places)) }
-{
-    let laws = laws_of(alloc, bases)?;
-    let columns = columns_of(alloc, rules, laws.items())?;
-    let indexed = IndexedFacts::by(alloc, columns, facts)?;
-    first_broken(alloc, rules, laws.items(), &indexed)
 }

@@ -4,7 +4,7 @@ use Rattle.esto_views.specs.declared.fragments.FragmentDef.{FragmentDef}
 use Rattle.esto_fill.specs.Databases.{database_of}
 use Rattle.esto_fill.specs.Texts.{HaveTextsOnly}
 use Rattle.esto_term.proofs.ListLemmas.{HoldsBelow}
-use Rattle.esto_fill.proofs.views.audit_views.Given as goal
+use Rattle.esto_fill.proofs.views.judge_views.Given as goal
 
 -- the rows of the views so far are of texts alone
 abbrev pub invariant-fragments : goal.invariant-fragments
