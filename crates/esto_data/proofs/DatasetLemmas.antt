@@ -16,6 +16,7 @@ use Rattle.esto_fill.proofs.FileLemmas.{facts_flat}
 use Rattle.esto_fill.specs.declared.datasets.DatasetBytes.{DatasetBytes}
 use Rattle.esto_fill.specs.declared.loaded.Loaded.{Loaded}
 use Rattle.esto_fill.specs.declared.wanted.Wanted.{Wanted}
+use Rattle.esto_fill.proofs.WantedLemmas.{leaves_none}
 use Rattle.esto_ports.specs.Files.{Files}
 use Rattle.esto_ports.specs.declared.file_fault.FileError.{FileError}
 use Rattle.esto_ports.specs.declared.file_fault.FileError.TheVariants.{Fault}
@@ -112,7 +113,7 @@ pub record SoFarLoaded (files : Option Files) (datasets : List Dataset) (wanted 
 module _ (files : Option Files) (datasets : List Dataset) (wanted : Wanted) (numbers : List ℕ) (before : Option (List (List ℕ))) where
   pub loading_starts : (loaded : Loaded) → loaded.facts ≡ [] → loaded.next ≡ 0 → SoFarLoaded files datasets wanted numbers before 0 loaded before
   loading_starts loaded facts next =
-      record { contents = []; along = along_starts (loads_next files datasets) numbers [] before; are = ([], (refl, next), facts) }
+      record { contents = []; along = along_starts (loads_next files datasets) numbers [] before; are = ([], (refl, next), leaves_none wanted loaded.facts facts) }
 
   module _ (index : ℕ) (loaded : Loaded) (now : Option (List (List ℕ))) (so_far : SoFarLoaded files datasets wanted numbers before index loaded now) where
     module _ (number : ℕ) (below : index < length numbers) (is : number ≡ get_or numbers index number) where

@@ -1,18 +1,17 @@
--- What is said over the facts of the relations that are wanted, said over all facts.
-use Rattle.std.proofs.Common.{◌≡◌, ◌↔◌, inl, inr, ℕ, List, length, map, Contains, Option, Result, Ok, Err, sym, ◌∙◌, subst}
+-- What is said over the facts that are left, said over all facts.
+use Rattle.std.proofs.Common.{◌≡◌, ◌↔◌, inl, inr, ℕ, List, [], ◌∷◌, length, map, Contains, Option, Result, Ok, Err, sym, ◌∙◌, subst}
 use Rattle.esto_catalog.specs.declared.catalogue.Shape.{Shape}
 use Rattle.esto_course.specs.Course.{Course, and_then, gives, judges}
 use Rattle.esto_course.specs.Course.Stops.{is_free, refused}
 use Rattle.esto_fill.specs.Databases.{database_of}
 use Rattle.esto_fill.specs.Filled.{Fills, IsOpenedAs, without_mark}
-use Rattle.esto_fill.specs.Laws.{AnswersRestOnRelations}
+use Rattle.esto_fill.specs.Laws.{AnswersRestOnWantedFacts}
 use Rattle.esto_fill.specs.Texts.{AreTextsOf, IsFirstNodeColumn}
-use Rattle.esto_fill.specs.Wanted.{relations_in, wanted_facts}
+use Rattle.esto_fill.specs.Wanted.{Leaves}
 use Rattle.esto_fill.specs.declared.filled.FillError.{FillError}
 use Rattle.esto_fill.specs.declared.filled.FillError.TheVariants as filled
 use Rattle.esto_fill.specs.declared.loaded.Loaded.{Loaded}
-use Rattle.esto_fill.specs.declared.wanted.Wanted.TheVariants.{Every, Named}
-use Rattle.esto_fill.proofs.WantedLemmas.{body_wanted, every_wanted, queries_wanted}
+use Rattle.esto_fill.specs.declared.wanted.Wanted.TheVariants.{Asked}
 use Rattle.esto_opening.specs.Answers.{Answers}
 use Rattle.esto_opening.specs.Asked.{AsksIn}
 use Rattle.esto_opening.specs.Fragments.{Stored}
@@ -28,7 +27,7 @@ use Rattle.esto_semantics.specs.declared.fact.Fact.{Fact}
 use Rattle.esto_semantics.specs.declared.fact.Value.{Value}
 use Rattle.esto_semantics.specs.declared.fact.Value.TheVariants.{Text}
 use Rattle.esto_term.specs.declared.term.Term.{Term}
-use Rattle.esto_term.proofs.ListLemmas.{Contains-map_from}
+use Rattle.esto_term.proofs.ListLemmas.{Contains-head, Contains-map, Contains-map_from}
 use Rattle.esto_data.specs.Answer.{IsUnionAnswerOfFacts, answers_facts}
 use Rattle.esto_data.specs.Datasets.{LoadsAsking, named_by}
 use Rattle.esto_data.specs.Fill.{IsFilled, IsRowOfView, fill_status, fills_file}
@@ -85,20 +84,20 @@ then_more accepts others refuses refusals more worse next (Err said) (refused ca
 
 -- ---- `answer`
 
-module _ (law : AnswersRestOnRelations) (queries : List Query) (facts some : List (Fact Term)) (is : some ≡ wanted_facts (named_by queries) facts) where
+module _ (law : AnswersRestOnWantedFacts) (queries : List Query) (facts some : List (Fact Term)) (leaves : Leaves (named_by queries) facts some) where
   union_same : (values : List Value) → IsUnionAnswerOfFacts queries some values ↔ IsUnionAnswerOfFacts queries facts values
-  union_same values = subst (λ those. IsUnionAnswerOfFacts queries those values ↔ IsUnionAnswerOfFacts queries facts values) (sym is) (
+  union_same values = (
     (λ (query, inside, answer). (query, inside, (by query inside).0 answer)),
     (λ (query, inside, answer). (query, inside, (by query inside).1 answer)),
   )
     where
       by : (query : ConjunctiveQuery) → Contains (map query_of queries) query
-          → IsAnswer query (database_of (wanted_facts (named_by queries) facts)) values ↔ IsAnswer query (database_of facts) values
+          → IsAnswer query (database_of some) values ↔ IsAnswer query (database_of facts) values
       by query inside =
           let from = Contains-map_from query_of queries query inside in
-          subst (λ (it : ConjunctiveQuery). IsAnswer it (database_of (wanted_facts (named_by queries) facts)) values
-          ↔ IsAnswer it (database_of facts) values) from.2
-          (law (named_by queries) facts (query_of from.0) values (queries_wanted queries from.0 from.1))
+          subst (λ (it : ConjunctiveQuery). IsAnswer it (database_of some) values ↔ IsAnswer it (database_of facts) values) from.2
+          (law (map (λ its. (query_of its).body) queries) facts some (query_of from.0) values leaves
+          (Contains-map (λ its. (query_of its).body) queries from.0 from.1))
 
   pub answers_all : (result : Result Reply Status) → Answers (answers_facts queries some) ⊥ result
       → Answers (answers_facts queries facts) ⊥ result
@@ -113,13 +112,12 @@ module _ (law : AnswersRestOnRelations) (queries : List Query) (facts some : Lis
 
 -- ---- `fill`
 
-module _ (law : AnswersRestOnRelations) (stored : Stored) (facts some : List (Fact Term))
-    (is : some ≡ wanted_facts (Named (relations_in (query_of stored.definition.view).body)) facts) where
+module _ (law : AnswersRestOnWantedFacts) (stored : Stored) (facts some : List (Fact Term))
+    (leaves : Leaves (Asked ((query_of stored.definition.view).body ∷ [])) facts some) where
   view_same : (values : List Value) → IsRowOfView stored.definition some values ↔ IsRowOfView stored.definition facts values
   view_same values =
-      subst (λ those. IsRowOfView stored.definition those values ↔ IsRowOfView stored.definition facts values) (sym is)
-      (law (Named (relations_in (query_of stored.definition.view).body)) facts (query_of stored.definition.view) values
-      (body_wanted (query_of stored.definition.view).body))
+      law ((query_of stored.definition.view).body ∷ []) facts some (query_of stored.definition.view) values leaves
+      (Contains-head (query_of stored.definition.view).body [])
 
   pub fills_all : (result : Result (List ℕ) Status) → Answers (fills_file stored some) ⊥ result
       → Answers (fills_file stored facts) ⊥ result
@@ -141,12 +139,12 @@ module _ (law : AnswersRestOnRelations) (stored : Stored) (facts some : List (Fa
 
 -- ---- `audit`
 
--- where all relations are wanted, all facts are loaded
+-- where all facts are wanted, all are loaded
 pub loads_all : (course : Course Status (List (Fact Term))) (loaded : Loaded)
-    → (facts : List (Fact Term)) × course.goes facts × (loaded.facts ≡ wanted_facts Every facts) → course.goes loaded.facts
-loads_all course loaded (facts, goes, some) = subst (λ those. course.goes those) (sym (some ∙ every_wanted facts)) goes
+    → (facts : List (Fact Term)) × course.goes facts × (loaded.facts ≡ facts) → course.goes loaded.facts
+loads_all course loaded (facts, goes, some) = subst (λ those. course.goes those) (sym some) goes
 
 pub loads_all_asks : {before after : Option (List (List ℕ))} (course : Course Status (List (Fact Term))) (loaded : Loaded)
     → LoadsAsking before after Every course (Ok loaded) → AsksIn before after course (Ok loaded.facts)
 loads_all_asks {before = before} {after = after} course loaded (facts, asks, some) =
-    subst (λ those. AsksIn before after course (Ok those)) (sym (some ∙ every_wanted facts)) asks
+    subst (λ those. AsksIn before after course (Ok those)) (sym some) asks

@@ -1,15 +1,15 @@
 -- The files of the datasets that a command needs, as steps: each of the datasets has a file; then each file is fetched, and its content read, before the next
 -- is fetched.
-use Rattle.std.specs.Prelude.{◌≡◌, ◌↔◌, ◌⊎◌, ℕ, ◌+◌, ◌<◌, ◌≤◌, List, [], ◌∷◌, ◌++◌, flat_map, slice_get, AllPairs, Contains, Option, Some, None, IsSome, Result, Ok, Err}
+use Rattle.std.specs.Prelude.{◌≡◌, ◌↔◌, ◌⊎◌, ℕ, ◌+◌, ◌<◌, ◌≤◌, List, [], ◌∷◌, ◌++◌, map, slice_get, AllPairs, Contains, Option, Some, None, IsSome, Result, Ok, Err}
 use Rattle.esto_catalog.specs.Datasets.{relation_count}
 use Rattle.esto_catalog.specs.declared.dataset.Dataset.{Dataset}
 use Rattle.esto_course.specs.Course.{Course, Stops, judges, demands, gives, and_then, each}
 use Rattle.esto_fill.specs.Files.{AreFactsFrom, IsLoadedFrom, dataset_fault}
 use Rattle.esto_fill.specs.declared.datasets.DatasetBytes.{DatasetBytes}
-use Rattle.esto_fill.specs.Wanted.{relations_in, wanted_facts}
+use Rattle.esto_fill.specs.Wanted.{Leaves}
 use Rattle.esto_fill.specs.declared.loaded.Loaded.{Loaded}
 use Rattle.esto_fill.specs.declared.wanted.Wanted.{Wanted}
-use Rattle.esto_fill.specs.declared.wanted.Wanted.TheVariants.{Named}
+use Rattle.esto_fill.specs.declared.wanted.Wanted.TheVariants.{Asked}
 use Rattle.esto_query.specs.Making.{query_of}
 use Rattle.esto_query.specs.declared.query.Query.{Query}
 use Rattle.esto_ports.specs.Files.{Files}
@@ -109,26 +109,26 @@ loads files datasets Needs =
 
 -- ---- what functions answer
 
--- The relations that the queries name are wanted.
+-- The facts to which an atom of one of the queries can go are wanted.
 abbrev pub named_by : List Query → Wanted
-named_by queries = Named (flat_map (λ query. relations_in (query_of query).body) queries)
+named_by queries = Asked (map (λ query. (query_of query).body) queries)
 
 -- The number has come at the end, where its dataset is needed.
 abbrev pub AddsNeeded : Type 0 → ℕ → List ℕ → List ℕ → Type 0
 AddsNeeded Needed number old new = (Needed × (new ≡ old ++ number ∷ [])) ⊎ (¬ Needed × (new ≡ old))
 
--- What is loaded are, of facts with which the course goes on, those of the relations that are wanted; or it stops.
+-- What is loaded is what is left of facts with which the course goes on; or it stops.
 abbrev pub Loads : Wanted → Course Status (List (Fact Term)) → Type 0 → Result Loaded Status → Type 0
-Loads wanted course rose (Ok loaded) = (facts : List (Fact Term)) × course.goes facts × (loaded.facts ≡ wanted_facts wanted facts)
+Loads wanted course rose (Ok loaded) = (facts : List (Fact Term)) × course.goes facts × Leaves wanted facts loaded.facts
 Loads wanted course rose (Err refusal) = Stops IsWant (IsCaused rose) course refusal
 
 -- To the names that were asked for came those for which the course asked, up to the facts of which some are loaded or to its stop.
 abbrev pub LoadsAsking : Option (List (List ℕ)) → Option (List (List ℕ)) → Wanted → Course Status (List (Fact Term)) → Result Loaded Status → Type 0
 LoadsAsking before after wanted course (Ok loaded) =
-    (facts : List (Fact Term)) × AsksIn before after course (Ok facts) × (loaded.facts ≡ wanted_facts wanted facts)
+    (facts : List (Fact Term)) × AsksIn before after course (Ok facts) × Leaves wanted facts loaded.facts
 LoadsAsking before after wanted course (Err refusal) = AsksIn before after course (Err refusal)
 
--- After what was loaded come the facts of the file of the dataset of the number, with these bytes, of the relations that are wanted.
+-- After what was loaded come the facts of the file of the dataset of the number, with these bytes, as far as they are wanted.
 abbrev pub LoadsMore : List Dataset → Wanted → ℕ → List ℕ → Loaded → Loaded → Type 0
 LoadsMore datasets wanted number bytes old new =
     (contents : List DatasetBytes) → IsLoadedFrom datasets wanted contents old

@@ -8,7 +8,7 @@ ghost use Rattle.esto_opening.specs.Unions.{FormUnion};
 
 use crate::unions::load_union;
 use esto_catalog::Catalogue;
-use esto_fill::{AnswerError, Loaded, answer_union, answers_rest_on_their_relations};
+use esto_fill::{AnswerError, Loaded, answer_union, answers_rest_on_wanted_facts};
 use esto_opening::{Queries, Reply, Status, open_catalogue, open_union, union_rows_text};
 use esto_ports::Shelf;
 use esto_term::{Text, TextRows};
@@ -50,7 +50,7 @@ fn answer_queries<S: Shelf>(
     ensures files { S.files shelf.new ≡ S.files shelf.old }
     ensures later { S.faults shelf.old ≤ S.faults shelf.new }
 {
-    answers_rest_on_their_relations();
+    answers_rest_on_wanted_facts();
     let loaded = load_union(alloc, shelf, catalogue, queries)?;
     answer_loaded(alloc, queries, &loaded)
 }

@@ -1,12 +1,11 @@
 //! The files of the datasets that a command needs: each has to have a file; then each is fetched, and its content read,
 //! before the next is fetched.
-ghost use Rattle.std.specs.Prelude.{◌≡◌, ◌↔◌, ◌<◌, ◌≤◌, ℕ, IsTrue, length, slice_get, Some, Contains, IfOk, OnOk};
+ghost use Rattle.std.specs.Prelude.{◌≡◌, ◌↔◌, ◌<◌, ◌≤◌, [], ◌∷◌, ℕ, IsTrue, length, slice_get, Some, Contains, IfOk, OnOk};
 ghost use Rattle.esto_catalog.specs.declared.dataset.Dataset.{Dataset};
 ghost use Rattle.esto_ports.specs.Faults.{Rises};
 ghost use Rattle.esto_opening.specs.Answers.{Answers};
 ghost use Rattle.esto_data.specs.Datasets.{AddsNeeded, AreNeeded, IsAny, HasRelation, IsSourceAt, Loads, LoadsAsking, LoadsFiles, LoadsNext, Names, ReadsData};
-ghost use Rattle.esto_fill.specs.Wanted.{relations_in};
-ghost use Rattle.esto_fill.specs.declared.wanted.Wanted.TheVariants.{Every, Named};
+ghost use Rattle.esto_fill.specs.declared.wanted.Wanted.TheVariants.{Every, Asked};
 ghost use Rattle.esto_data.specs.Datasets.{Source, demands_file, demands_files, loads};
 
 use esto_catalog::{Catalogue, Dataset, Datasets, relation_count};
@@ -145,7 +144,7 @@ fn load_next<S: Shelf>(
     load_content(alloc, catalogue, wanted, number, &bytes, loaded)
 }
 
-/// Loads the facts of the files of the datasets of the numbers, in order, of the relations that are wanted.
+/// Loads the facts of the files of the datasets of the numbers, in order, as far as they are wanted.
 pub fn load_files<S: Shelf>(
     alloc: Global,
     shelf: &mut S,
@@ -167,7 +166,7 @@ pub fn load_files<S: Shelf>(
     Ok(loaded)
 }
 
-/// Loads, of the facts of the files of the datasets that the body names, in order, those of the relations that it names.
+/// Loads, of the facts of the files of the datasets that the body names, in order, those to which one of its atoms can go.
 /// Each of the datasets has to have a file; then each is fetched, and its content read, before the next is fetched.
 pub fn load_named<S: Shelf>(
     alloc: Global,
@@ -175,16 +174,16 @@ pub fn load_named<S: Shelf>(
     catalogue: &Catalogue,
     body: &Atoms,
 ) -> Result<Loaded, Status>
-    ensures answer { Loads (Named (relations_in body.now))
+    ensures answer { Loads (Asked (body.now ∷ []))
         (loads (S.files shelf.old) catalogue.now.datasets (Names body.now))
         (Rises S.faults shelf.old shelf.new) result }
     ensures asked { LoadsAsking (S.asked shelf.old) (S.asked shelf.new)
-        (Named (relations_in body.now))
+        (Asked (body.now ∷ []))
         (loads (S.files shelf.old) catalogue.now.datasets (Names body.now)) result }
     ensures files { S.files shelf.new ≡ S.files shelf.old }
     ensures later { S.faults shelf.old ≤ S.faults shelf.new }
 {
-    let wanted = wanted_by_body(alloc, body.items())?;
+    let wanted = wanted_by_body(alloc, body)?;
     let numbers = named_datasets(alloc, &catalogue.datasets, body)?;
     demand_files(alloc, &catalogue.datasets, &numbers)?;
     load_files(alloc, shelf, catalogue, &wanted, &numbers)

@@ -9,7 +9,7 @@ ghost use Rattle.esto_opening.specs.Fragments.{IsStoredAt};
 
 use crate::datasets::load_named;
 use esto_catalog::{Catalogue, catalogues_are_sound};
-use esto_fill::{FillError, Loaded, answers_rest_on_their_relations};
+use esto_fill::{FillError, Loaded, answers_rest_on_wanted_facts};
 use esto_opening::{Reply, Status, open_catalogue};
 use esto_ports::Shelf;
 use esto_term::{Bytes, Replicate, Text};
@@ -79,7 +79,7 @@ fn fill_fragment<S: Shelf>(
     ensures later { S.faults shelf.old ≤ S.faults shelf.new }
 {
     catalogues_are_sound();
-    answers_rest_on_their_relations();
+    answers_rest_on_wanted_facts();
     let fragment = catalogue.fragments.item(number);
     let loaded = load_named(alloc, shelf, catalogue, &fragment.view.body)?;
     let text = text_of(alloc, catalogue, number, &loaded)?;

@@ -6,11 +6,12 @@ use Rattle.std.proofs.lemmas.Option.{slice_get-get_or}
 use Rattle.std.proofs.lemmas.Result.{IfOk-weaker, on_ok_weaker}
 use Rattle.std.specs.Prelude.{Result, IfOk, OnOk}
 use Rattle.esto_term.specs.declared.term.Term.{Term}
-use Rattle.esto_term.specs.declared.term.Term.TheVariants.{Const, Plain}
+use Rattle.esto_term.specs.declared.term.Term.TheVariants.{Const, Plain, outs-Const}
 use Rattle.esto_term.proofs.PlaceLemmas.{drop-item, drop-there}
 use Rattle.esto_semantics.specs.declared.fact.Fact.{Fact}
 use Rattle.esto_docmodel.specs.DocumentFacts.{DocFact, root, field, item, value, below, flat}
-use Rattle.esto_docmodel.specs.Encodings.{size, entering, belows, holding, facts_from, every, is_kept, kept, kept_of, end, step_atoms, atoms}
+use Rattle.esto_docmodel.specs.Encodings.{size, entering, belows, holding, facts_from, every, has_term, has_text, is_among_kind, is_kept, kept, kept_of, end}
+use Rattle.esto_docmodel.specs.Encodings.{step_atoms, atoms}
 use Rattle.esto_docmodel.specs.Patterns.{done}
 use Rattle.esto_docmodel.specs.Forests.{Label, name, place, Forest, none, kid, Node, node}
 use Rattle.esto_docmodel.specs.Putting.{fact_over, turned, node_facts}
@@ -21,6 +22,8 @@ use Rattle.esto_docmodel.specs.declared.tree.Tree.{Tree}
 use Rattle.esto_docmodel.specs.declared.tree.Tree.TheVariants.{Value, Nothing, Fields, Items}
 use Rattle.esto_docmodel.proofs.ShapeLemmas.{shape-Value, shape-Nothing, shape-Fields, shape-Items, entry-Value, entry-Group}
 use Rattle.esto_docmodel.specs.declared.kept.Kept.{Kept}
+use Rattle.esto_docmodel.specs.declared.kept.KeptTexts.{KeptTexts}
+use Rattle.esto_docmodel.specs.declared.kept.KeptTexts.TheVariants.{Every, These}
 use Rattle.esto_docmodel.specs.declared.pattern.Step.{Step}
 use Rattle.esto_docmodel.specs.declared.pattern.Entry.{Entry}
 use Rattle.esto_docmodel.specs.declared.pattern.Entry.TheVariants as entry
@@ -70,6 +73,11 @@ one_put relations fact old new is put = put ∙ ap (λ (w : List (Fact Term)). o
 pub none_put : (relations : Kept) (fact : DocFact Term) (facts : List (Fact Term)) → is_kept relations fact ≡ false
     → facts ≡ facts ++ kept relations (fact ∷ [])
 none_put relations fact facts is = sym (append-nil facts) ∙ ap (λ (w : List (Fact Term)). facts ++ w) (sym (kept_none relations fact is))
+
+-- a constant's text tells whether facts of it are kept
+pub has_constant : (texts : KeptTexts) (text : List ℕ) → has_term texts (Const text) ≡ has_text texts text
+has_constant Every text = refl
+has_constant (These texts) text = ap (is_among_kind texts) (outs-Const text)
 
 belows_all : (relations : Kept) (above : List ℕ) (n : ℕ) → relations.below ≡ true → kept relations (belows above n) ≡ map (flat relations.base) (belows above n)
 belows_all relations [] n is = refl

@@ -1,12 +1,16 @@
 -- The facts of documents, and the atoms of a pattern.
-use Rattle.std.specs.Prelude.{ℕ, Bool, true, suc, ◌+◌, List, [], ◌∷◌, ◌++◌, filter, length, map, Option, Some, None}
-use Rattle.esto_term.specs.declared.term.Term.{Term}
+use Rattle.std.specs.Prelude.{ℕ, Bool, true, false, bytes_eq, suc, ◌+◌, List, [], ◌∷◌, ◌++◌, filter, length, map, Option, Some, None}
+use Rattle.std.specs.List.{list_any}
+use Rattle.esto_term.specs.declared.term.Term.{Term, out-Term}
+use Rattle.esto_term.specs.declared.term.Term.TheOpen.{Term-F}
 use Rattle.esto_term.specs.declared.term.Term.TheVariants.{Const, Plain}
 use Rattle.esto_semantics.specs.declared.fact.Fact.{Fact}
 use Rattle.esto_docmodel.specs.DocumentFacts.{DocFact, root, field, item, value, below, flat}
 use Rattle.esto_docmodel.specs.Forests.{Label, name, place, Forest, none, kid}
 use Rattle.esto_docmodel.specs.Patterns.{Entries, done, holds, group}
 use Rattle.esto_docmodel.specs.declared.kept.Kept.{Kept}
+use Rattle.esto_docmodel.specs.declared.kept.KeptTexts.{KeptTexts}
+use Rattle.esto_docmodel.specs.declared.kept.KeptTexts.TheVariants.{Every, These}
 use Rattle.esto_docmodel.specs.declared.pattern.Step.{Step}
 use Rattle.esto_docmodel.specs.declared.pattern.Step.TheVariants.{Name, Item, Below}
 
@@ -46,21 +50,37 @@ facts_of base first forest = map (flat base) (facts_from [] first forest)
 
 -- All five relations are kept, from the base on.
 abbrev pub every : ℕ → Kept
-every base = record { base = base; root = true; field = true; item = true; value = true; below = true }
+every base = record { base = base; root = true; field = Every; item = true; value = Every; below = true }
 
--- Whether the fact is of one of the five relations that are kept.
+-- Whether facts of the text are kept.
+abbrev pub has_text : KeptTexts → List ℕ → Bool
+has_text Every text = true
+has_text (These texts) text = list_any (λ own. bytes_eq own text) texts
+
+-- Whether a term by its kind is a constant that is one of the texts.
+abbrev pub is_among_kind : List (List ℕ) → Term-F Term → Bool
+is_among_kind texts (Term-F.Const text) = list_any (λ own. bytes_eq own text) texts
+is_among_kind texts (Term-F.Plain _) = false
+is_among_kind texts (Term-F.Made _ _ _) = false
+
+-- Whether facts of the term are kept: each, or those of constants that are among the texts.
+abbrev pub has_term : KeptTexts → Term → Bool
+has_term Every term = true
+has_term (These texts) term = is_among_kind texts (out-Term term)
+
+-- Whether the fact is kept, by its relation, and by its name or text.
 abbrev pub is_kept : Kept → DocFact Term → Bool
 is_kept relations (root n) = relations.root
-is_kept relations (field p k n) = relations.field
+is_kept relations (field p k n) = has_term relations.field k
 is_kept relations (item p n) = relations.item
-is_kept relations (value n t) = relations.value
+is_kept relations (value n t) = has_term relations.value t
 is_kept relations (below a n) = relations.below
 
--- Of these facts those of the relations that are kept, in order.
+-- Of these facts those that are kept, in order.
 abbrev pub kept : Kept → List (DocFact Term) → List (Fact Term)
 kept relations facts = map (flat relations.base) (filter (is_kept relations) facts)
 
--- Of the facts of documents, numbered from `first`, those of the relations that are kept.
+-- Of the facts of documents, numbered from `first`, those that are kept.
 abbrev pub kept_of : Kept → ℕ → Forest → List (Fact Term)
 kept_of relations first forest = kept relations (facts_from [] first forest)
 

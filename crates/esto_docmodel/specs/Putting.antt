@@ -24,7 +24,7 @@ turned (x ∷ xs) = turned xs ++ x ∷ []
 abbrev pub node_facts : List ℕ → ℕ → Node → List (DocFact Term)
 node_facts above n t = belows above n ++ (holding t.content n ++ facts_from (n ∷ above) (suc n) t.inside)
 
--- The facts of these documents, of the relations that are kept, have come after those that were there, and their nodes have the next numbers. The names of
+-- The facts of these documents, as far as they are kept, have come after those that were there, and their nodes have the next numbers. The names of
 -- their fields rise.
 pub record Encodes (relations : Kept) (trees : List Tree) (old new : Encoded) : Type 0 where
   pub facts : new.facts ≡ old.facts ++ kept_of relations old.next (documents trees)

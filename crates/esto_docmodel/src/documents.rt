@@ -9,7 +9,7 @@ ghost use Rattle.esto_docmodel.specs.Rising.{IsRising, AreRising};
 ghost use Rattle.esto_docmodel.specs.Shapes.{shape, row, named_row, shaped_field, documents};
 
 use crate::encode::{Encoded, LAST_BASE, after};
-use crate::kept::Kept;
+use crate::kept::{Kept, KeptTexts};
 use crate::nodes::{put_belows, put_field, put_item, put_root, put_value, with_node};
 use crate::tree::{Fields, Tree, Trees};
 use esto_semantics::Facts;
@@ -136,8 +136,8 @@ fn put_document(
     put_node(alloc, facts, relations, tree, &above, first)
 }
 
-/// Puts the facts of a document after those that are there, of the relations that are kept: root, field, item, value and
-/// below, from the base on. Nodes are numbered in preorder from `next` on, fields and items in order, and `next` then is
+/// Puts the facts of a document after those that are there, as far as they are kept: root, field, item, value and below,
+/// from the base on. Nodes are numbered in preorder from `next` on, fields and items in order, and `next` then is
 /// the first number that is not used. The facts of a node follow one another: how it is entered, what it stands below from
 /// the document down, and what it holds. OutOfMemory comes too where a relation or a node has no number of 64 bits.
 pub fn encode_document(
@@ -162,9 +162,9 @@ fn every(base: usize) -> Kept
     Kept {
         base,
         root: true,
-        field: true,
+        field: KeptTexts::Every,
         item: true,
-        value: true,
+        value: KeptTexts::Every,
         below: true,
     }
 }

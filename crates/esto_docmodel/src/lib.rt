@@ -18,7 +18,7 @@ mod tree;
 pub use documents::{encode_document, encode_documents};
 pub use encode::{Encoded, EncodedAtoms, encode_pattern};
 pub use field::FieldOf;
-pub use kept::Kept;
+pub use kept::{Kept, KeptTexts};
 pub use laws::{documents_meet_the_rules, encodings_mean_the_same, matches_rest_on_their_terms};
 pub use layout::{MAX_LAYOUT_DEPTH, is_layout};
 pub use matches::{Valuations, match_pattern};

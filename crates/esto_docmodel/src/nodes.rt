@@ -1,4 +1,4 @@
-//! The facts of a node of documents, of the relations that are kept.
+//! The facts of a node of documents, as far as they are kept.
 ghost use Rattle.std.specs.Prelude.{◌≡◌, ◌≤◌, ◌+◌, [], ◌∷◌, ◌++◌, map, IfOk, OnOk};
 ghost use Rattle.esto_term.specs.declared.term.Term.TheVariants.{Const, Plain};
 ghost use Rattle.esto_docmodel.specs.DocumentFacts.{root, field, item, value, flat};
@@ -27,7 +27,7 @@ pub fn put_root(
     put_one(alloc, facts, relations.base, node)
 }
 
-/// Puts that a node is the field of another by that name.
+/// Puts that a node is the field of another by that name, if facts of the name are kept.
 pub fn put_field(
     alloc: Global,
     facts: &mut Facts,
@@ -40,7 +40,7 @@ pub fn put_field(
     ensures { OnOk result (facts.new ≡ facts.old
         ++ kept relations.now (field (Plain parent) (Const name.now) (Plain node) ∷ [])) }
 {
-    if !relations.field {
+    if !relations.field.has(name) {
         return Ok(());
     }
     put_named(alloc, facts, relations.base + 1, parent, name, node)
@@ -64,7 +64,7 @@ pub fn put_item(
     put_two(alloc, facts, relations.base + 2, parent, Term::Plain(node))
 }
 
-/// Puts that the node holds the text.
+/// Puts that the node holds the text, if facts of the text are kept.
 pub fn put_value(
     alloc: Global,
     facts: &mut Facts,
@@ -76,7 +76,7 @@ pub fn put_value(
     ensures { OnOk result
         (facts.new ≡ facts.old ++ kept relations.now (value (Plain node) (Const text.now) ∷ [])) }
 {
-    if !relations.value {
+    if !relations.value.has(text) {
         return Ok(());
     }
     let text = Term::Const(Text::from_str(alloc, text)?);

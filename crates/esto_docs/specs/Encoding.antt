@@ -14,7 +14,7 @@ use Rattle.esto_docs.specs.Files.{is_bad, trees_of_line}
 use Rattle.esto_docs.specs.declared.parse.ParseError.{ParseError}
 use Rattle.esto_docs.specs.declared.parse.ParseError.TheVariants as parse
 
--- They are the facts of these documents, of the relations that are kept, whose nodes are numbered from `first` on, and the first number that is no node's. The
+-- They are the facts of these documents, as far as they are kept, whose nodes are numbered from `first` on, and the first number that is no node's. The
 -- names of the documents' fields rise.
 pub record AreEncoded (relations : Kept) (first : ℕ) (trees : List Tree) (encoded : Encoded) : Type 0 where
   pub facts : encoded.facts ≡ kept_of relations first (documents trees)

@@ -128,8 +128,8 @@ fn encode_array(
     }
 }
 
-/// The facts of the documents of a JSON file, of the relations that are kept, whose nodes are numbered from `first` on; or
-/// the file's first fault, as `read_trees` has it, whichever relations are kept. OutOfMemory comes too where a relation or
+/// The facts of the documents of a JSON file, as far as they are kept, whose nodes are numbered from `first` on; or the
+/// file's first fault, as `read_trees` has it, whichever facts are kept. OutOfMemory comes too where a relation or
 /// a node has no number of 64 bits.
 pub fn encode_file(
     alloc: Global,

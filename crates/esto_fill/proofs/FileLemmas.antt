@@ -29,13 +29,13 @@ use Rattle.esto_term.specs.declared.term.Term.TheVariants.{Const, Plain}
 use Rattle.esto_term.proofs.ListLemmas.{Contains-nil, Contains-cases, Contains-map_from, HoldsBelow}
 use Rattle.esto_term.proofs.PlaceLemmas.{take-item}
 use Rattle.esto_fill.specs.Files.{dataset_fault, nodes_in, AreFactsByModel, AreFactsOf, AreFactsFrom, AreReadable, AreWantedOf, GivesFacts, IsLoadedFrom}
-use Rattle.esto_fill.specs.Wanted.{IsKeptFor, is_wanted, wanted_facts}
+use Rattle.esto_fill.specs.Wanted.{IsKeptFor, Leaves, is_wanted}
 use Rattle.esto_fill.specs.declared.wanted.Wanted.{Wanted}
-use Rattle.esto_fill.specs.declared.wanted.Wanted.TheVariants.{Every, Named}
+use Rattle.esto_fill.specs.declared.wanted.Wanted.TheVariants.{Every, Asked}
 use Rattle.esto_fill.specs.Lawful.{IsLawfulBy}
 use Rattle.esto_docmodel.specs.Rising.{IsRising}
 use Rattle.esto_docmodel.proofs.FactLemmas.{these_meet_rules}
-use Rattle.esto_fill.proofs.WantedLemmas.{AreOver, chosen, every_wanted, kept_wanted, wanted_append, wanted_flat}
+use Rattle.esto_fill.proofs.WantedLemmas.{AreOver, chosen, kept_leaves, leaves_append, leaves_flat}
 use Rattle.esto_fill.specs.declared.loaded.Loaded.{Loaded}
 use Rattle.esto_fill.specs.declared.datasets.DatasetBytes.{DatasetBytes}
 
@@ -154,11 +154,11 @@ rows_over relation rows facts (kept, once, is) fact inside =
 module _ (dataset : Dataset) (wanted : Wanted) (bytes : List ℕ) (first : ℕ) (rows : List (List (List ℕ))) (facts some : List (Fact Term))
     (are : AreRowFacts dataset.base rows facts) (all : is_wanted wanted dataset.base ≡ true → some ≡ facts)
     (none : is_wanted wanted dataset.base ≡ false → some ≡ []) where
-  some_of : some ≡ wanted_facts wanted facts
+  some_of : Leaves wanted facts some
   some_of = chosen wanted dataset.base facts some (rows_over dataset.base rows facts are) all none
 
   some_flat : AreFlat some
-  some_flat = subst AreFlat (sym some_of) (wanted_flat wanted facts (rows_flat dataset.base rows facts are))
+  some_flat = leaves_flat wanted facts some some_of (rows_flat dataset.base rows facts are)
 
   pub table_gives : (table_fault dataset.columns bytes ≡ None) × (rows ≡ table_rows dataset.columns bytes)
       → GivesFacts DataModel.Table dataset wanted bytes first (Ok (record { facts = some; next = first }))
@@ -188,10 +188,10 @@ module _ (dataset : Dataset) (wanted : Wanted) (bytes : List ℕ) (first : ℕ) 
     },
   )
 
-documents_lawful : (wanted : Wanted) (base first : ℕ) (forest : Forest) (facts : List (Fact Term)) → facts ≡ wanted_facts wanted (facts_of base first forest)
+documents_lawful : (wanted : Wanted) (base first : ℕ) (forest : Forest) (facts : List (Fact Term)) → Leaves wanted (facts_of base first forest) facts
     → IsRising forest → IsLawfulBy DataModel.Documents wanted base facts
-documents_lawful Every base first forest facts some rising = these_meet_rules base first forest facts (some ∙ every_wanted (facts_of base first forest)) rising
-documents_lawful (Named relations) base first forest facts some rising = tt
+documents_lawful Every base first forest facts some rising = these_meet_rules base first forest facts some rising
+documents_lawful (Asked bodies) base first forest facts some rising = tt
 
 pub documents_give : (dataset : Dataset) (wanted : Wanted) (bytes : List ℕ) (first : ℕ) (relations : Kept) → IsKeptFor wanted dataset.base relations
     → (result : Result Encoded FileError)
@@ -199,14 +199,14 @@ pub documents_give : (dataset : Dataset) (wanted : Wanted) (bytes : List ℕ) (f
     → GivesFacts DataModel.Documents dataset wanted bytes first result
 documents_give dataset wanted bytes first relations kept (Ok encoded) (clear, are) =
     let all = facts_from [] first (documents (file_trees dataset.layout bytes)) in
-    let some = are.facts ∙ kept_wanted wanted dataset.base relations kept all in (
+    let some = subst (Leaves wanted (map (flat dataset.base) all)) (sym are.facts) (kept_leaves wanted dataset.base relations kept all) in (
       clear,
       record {
         facts = facts_of dataset.base first (documents (file_trees dataset.layout bytes));
         are = refl;
         some = some;
         next = are.next;
-        flat = subst AreFlat (sym some) (wanted_flat wanted _ (documents_flat dataset.base first (documents (file_trees dataset.layout bytes))));
+        flat = leaves_flat wanted _ encoded.facts some (documents_flat dataset.base first (documents (file_trees dataset.layout bytes)));
         lawful = documents_lawful wanted dataset.base first (documents (file_trees dataset.layout bytes)) encoded.facts some are.rising;
       },
     )
@@ -252,7 +252,7 @@ module _ (datasets : List Dataset) (files : List DatasetBytes) where
 pub loaded_all : (datasets : List Dataset) (files : List DatasetBytes) (loaded : Loaded) → IsLoadedFrom datasets Every files loaded
     → AreFactsFrom datasets 0 files loaded.facts loaded.next
 loaded_all datasets files loaded (facts, are, some) =
-    subst (λ those. AreFactsFrom datasets 0 files those loaded.next) (sym (some ∙ every_wanted facts)) are
+    subst (λ those. AreFactsFrom datasets 0 files those loaded.next) (sym some) are
 
 -- all files are loaded, where the loop goes over a list that is theirs
 pub all_loaded : (datasets : List Dataset) (files items : List DatasetBytes) (count : ℕ) (loaded : Loaded) → items ≡ files → length items ≤ count
@@ -268,13 +268,10 @@ pub load_more : (datasets : List Dataset) (wanted : Wanted) (files : List Datase
     (own : Encoded) (facts : List (Fact Term)) → IsLoadedFrom datasets wanted files old → slice_get datasets number ≡ Some dataset
     → AreWantedOf dataset.model dataset wanted bytes old.next own → facts ≡ old.facts ++ own.facts
     → (all : List (Fact Term)) × AreFactsFrom datasets 0 (files ++ record { dataset = number; bytes = bytes } ∷ []) all own.next
-    × (facts ≡ wanted_facts wanted all)
+    × Leaves wanted all facts
 load_more datasets wanted files number bytes dataset old own facts (before, were, some) there are whole = (
   before ++ are.facts,
   subst (AreFactsFrom datasets 0 (files ++ record { dataset = number; bytes = bytes } ∷ []) (before ++ are.facts)) (sym are.next)
       (file_more datasets 0 files before are.facts old.next (record { dataset = number; bytes = bytes }) dataset were there are.are),
-  whole
-      ∙ ap (λ those. those ++ own.facts) some
-      ∙ ap (λ those. wanted_facts wanted before ++ those) are.some
-      ∙ sym (wanted_append wanted before are.facts),
+  subst (Leaves wanted (before ++ are.facts)) (sym whole) (leaves_append wanted before old.facts are.facts own.facts some are.some),
 )

@@ -24,7 +24,7 @@ use Rattle.esto_fill.specs.declared.loaded.Loaded.{Loaded}
 use Rattle.esto_fill.specs.declared.wanted.Wanted.{Wanted}
 use Rattle.esto_fill.specs.declared.wanted.Wanted.TheVariants.{Every}
 use Rattle.esto_fill.specs.Lawful.{IsLawfulBy}
-use Rattle.esto_fill.specs.Wanted.{wanted_facts}
+use Rattle.esto_fill.specs.Wanted.{Leaves}
 
 -- ---- the file of one dataset
 
@@ -74,11 +74,10 @@ AreFactsFrom datasets first (file ∷ files) facts next =
     (dataset : Dataset) × (own others : List (Fact Term)) × (slice_get datasets file.dataset ≡ Some dataset) × AreFactsOf dataset file.bytes first own
     × AreFactsFrom datasets (first + nodes_in dataset file.bytes) files others next × (facts ≡ own ++ others)
 
--- What is loaded are, of the facts of the files, whose nodes are numbered from 0 on, those of the relations that are wanted, and the first number that is no
--- node's.
+-- What is loaded is what is left of the facts of the files, whose nodes are numbered from 0 on, and the first number that is no node's.
 abbrev pub IsLoadedFrom : List Dataset → Wanted → List DatasetBytes → Loaded → Type 0
 IsLoadedFrom datasets wanted files loaded =
-    (facts : List (Fact Term)) × AreFactsFrom datasets 0 files facts loaded.next × (loaded.facts ≡ wanted_facts wanted facts)
+    (facts : List (Fact Term)) × AreFactsFrom datasets 0 files facts loaded.next × Leaves wanted facts loaded.facts
 
 -- No file has a fault.
 abbrev pub AreReadable : List Dataset → List DatasetBytes → Type 0
@@ -122,7 +121,7 @@ AreApart files = AllPairs (λ file other. file.dataset ≢ other.dataset) files
 pub record AreWantedOf (model : DataModel) (dataset : Dataset) (wanted : Wanted) (bytes : List ℕ) (first : ℕ) (encoded : Encoded) : Type 0 where
   pub facts : List (Fact Term)
   pub are : AreFactsByModel model dataset bytes first facts
-  pub some : encoded.facts ≡ wanted_facts wanted facts
+  pub some : Leaves wanted facts encoded.facts
   pub next : encoded.next ≡ first + nodes_by_model model dataset bytes
   pub flat : AreFlat encoded.facts
   pub lawful : IsLawfulBy model wanted dataset.base encoded.facts

@@ -8,7 +8,7 @@ use Rattle.esto_semantics.specs.Rules.{Rule}
 use Rattle.esto_semantics.specs.declared.fact.Fact.{Fact}
 use Rattle.esto_term.specs.declared.term.Term.{Term}
 use Rattle.esto_fill.specs.declared.wanted.Wanted.{Wanted}
-use Rattle.esto_fill.specs.declared.wanted.Wanted.TheVariants.{Every, Named}
+use Rattle.esto_fill.specs.declared.wanted.Wanted.TheVariants.{Every, Asked}
 
 -- The facts meet the rules of the documents whose relations stand from each of the bases on.
 abbrev pub AreLawful : List ℕ → List (Fact Term) → Type 0
@@ -21,7 +21,7 @@ IsAmong base relation = (base ≤ relation) × (relation < base + 5)
 -- Where they are all the facts of a file of documents, they meet the rules of documents.
 abbrev pub IsLawfulBy : DataModel → Wanted → ℕ → List (Fact Term) → Type 0
 IsLawfulBy Documents Every base facts = AreMet facts (document_rules_2 base)
-IsLawfulBy Documents (Named relations) base facts = Unit {0}
+IsLawfulBy Documents (Asked bodies) base facts = Unit {0}
 IsLawfulBy Table wanted base facts = Unit {0}
 IsLawfulBy Keys wanted base facts = Unit {0}
 

@@ -76,7 +76,7 @@ fn facts_of_documents(
 ) -> Result<Encoded, FileError>
     ensures { GivesFacts DataModel.Documents dataset.now wanted.now bytes.now first result }
 {
-    let relations = kept_for(wanted, dataset.base)?;
+    let relations = kept_for(alloc, wanted, dataset.base)?;
     encode_file(alloc, bytes, &dataset.layout, &relations, first)
 }
 
@@ -152,8 +152,8 @@ fn add_file(
 }
 
 /// What was loaded, and after it, of the facts of the file of the dataset of that number, whose nodes are numbered from
-/// `next` on, those of the relations that are wanted, all of them and no others; or the file has a fault, and this is the
-/// first, whatever is wanted. OutOfMemory comes too where a node has no number of 64 bits.
+/// `next` on, those that are wanted, all of them; or the file has a fault, and this is the first, whatever is wanted. Where
+/// not all facts are wanted, others may be left too. OutOfMemory comes too where a node has no number of 64 bits.
 pub fn load_dataset(
     alloc: Global,
     catalogue: &Catalogue,

@@ -58,7 +58,7 @@ fn is_whole(model: &DataModel, wanted: &Wanted) -> bool
             DataModel::Table => false,
             DataModel::Keys => false,
         },
-        Wanted::Named(_) => false,
+        Wanted::Asked(_) => false,
     }
 }
 

@@ -1,5 +1,5 @@
 //! Laws of the facts of datasets and the rows of fragments.
-ghost use Rattle.esto_fill.specs.Laws.{AnswersRestOnDatasets, AnswersRestOnRelations, LoadedAreFlat, LoadedAreLawful, FactsStand, FactsAreOne, FaultsAreOne, ReadableHaveNone, AnswersAreOne};
+ghost use Rattle.esto_fill.specs.Laws.{AnswersRestOnDatasets, AnswersRestOnWantedFacts, LoadedAreFlat, LoadedAreLawful, FactsStand, FactsAreOne, FaultsAreOne, ReadableHaveNone, AnswersAreOne};
 ghost use Rattle.esto_fill.specs.Laws.{UnionAnswersAreOne, JudgementsAreOne, FillsAreOne, AuditsAreOne, AuditsAreOverFiles, AgreeingAnswersAreTexts};
 ghost use Rattle.esto_fill.specs.Laws.{AgreeingAnswersAreOne};
 
@@ -46,9 +46,10 @@ pub fn answers_rest_on_their_datasets()
     ensures { AnswersRestOnDatasets }
 {}
 
-/// A law: a query has the same answers over the facts of the relations that its body names as over all facts.
-pub fn answers_rest_on_their_relations()
-    ensures { AnswersRestOnRelations }
+/// A law: a query has the same answers over what is left of the facts, among which are those to which an atom of its body
+/// can go, as over all facts.
+pub fn answers_rest_on_wanted_facts()
+    ensures { AnswersRestOnWantedFacts }
 {}
 
 /// A law: an audit of fragments' rows is one of the files of which they are the rows.

@@ -23,7 +23,7 @@ pub use auditing::{Difference, TextRowsList, audit};
 pub use datasets::{DatasetBytes, LoadError, LoadList, dataset_facts, load_dataset};
 pub use filled::{FillError, fill};
 pub use laws::{
-    agreeing_answers_are_one, answers_rest_on_their_datasets, answers_rest_on_their_relations,
+    agreeing_answers_are_one, answers_rest_on_their_datasets, answers_rest_on_wanted_facts,
     audits_are_over_files, facts_stand_as_databases, loaded_facts_are_flat, outcomes_are_one,
 };
 pub use loaded::{Loaded, nothing_loaded};

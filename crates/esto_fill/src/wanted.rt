@@ -1,89 +1,165 @@
-//! Which relations' facts are wanted.
-ghost use Rattle.std.specs.Prelude.{◌≡◌, ◌==◌, ◌++◌, true, false, [], flat_map, IfOk, OnOk};
+//! Which facts are wanted.
+ghost use Rattle.std.specs.Prelude.{◌≡◌, ◌==◌, [], ◌∷◌, true, false, map, IfOk};
 ghost use Rattle.std.specs.List.{list_any};
+ghost use Rattle.esto_docmodel.specs.declared.kept.KeptTexts.TheVariants as texts;
 ghost use Rattle.esto_query.specs.Making.{query_of};
-ghost use Rattle.esto_fill.specs.Wanted.{IsKeptFor, is_wanted, relations_in};
+ghost use Rattle.esto_fill.specs.Wanted.{Admits, AdmitsAll, AdmitsBody, AdmitsMore, IsKeptFor, MeetsWant, is_wanted, names};
 ghost use Rattle.esto_fill.specs.declared.wanted.Wanted.TheVariants as wanted;
 
-use esto_docmodel::Kept;
+use esto_docmodel::{Kept, KeptTexts};
 use esto_query::Query;
-use esto_semantics::{Atom, Facts};
-use esto_term::{List, OutOfMemory, Places, Values};
+use esto_semantics::{Atom, Atoms, Facts};
+use esto_term::{List, OutOfMemory, Replicate, Term, Text};
 use std::alloc::Global;
 
-/// Which relations' facts are wanted.
+/// Which facts are wanted.
 #[derive(Drop)]
 pub enum Wanted {
-    /// Those of all relations.
+    /// All facts.
     Every,
-    /// Those of the relations of these numbers, in any order.
-    Named(Places),
+    /// Those to which some atom of these bodies can go.
+    Asked(List<Atoms>),
 }
 
-// Whether the number is one of these.
-fn is_one_of(numbers: &[usize], number: usize) -> bool
-    ensures { result ≡ list_any (λ other. other == number) numbers.now }
+// Whether one of the atoms is over the relation.
+fn names(body: &[Atom], relation: usize) -> bool
+    ensures { result ≡ names relation body.now }
 {
-    numbers.iter().any(|other| *other == number)
+    body.iter().any(|atom| atom.relation == relation)
+}
+
+// Whether one of the bodies has an atom over the relation.
+fn one_names(bodies: &[Atoms], relation: usize) -> bool
+    ensures { result ≡ list_any (names relation) bodies.now }
+{
+    bodies.iter().any(|body| names(body.items(), relation))
 }
 
 impl Wanted {
-    /// Whether the facts of the relation are wanted.
+    /// Whether facts of the relation are wanted.
     pub fn has(&self, relation: usize) -> bool
         ensures { result ≡ is_wanted self.now relation }
     {
         match self {
             Wanted::Every => true,
-            Wanted::Named(relations) => is_one_of(relations.items(), relation),
+            Wanted::Asked(bodies) => one_names(bodies.items(), relation),
         }
     }
 }
 
-// Puts the relations of the atoms at the end.
-fn add_relations(relations: &mut Places, body: &[Atom]) -> Result<(), OutOfMemory>
-    ensures { OnOk result (relations.new ≡ relations.old ++ relations_in body.now) }
+/// Those to which an atom of the body can go.
+pub fn wanted_by_body(alloc: Global, body: &Atoms) -> Result<Wanted, OutOfMemory>
+    ensures { IfOk result (λ it. it ≡ wanted.Asked (body.now ∷ [])) }
 {
-    'atoms: for atom in body {
-        relations.push(atom.relation)?;
-    }
-    Ok(())
+    let mut bodies = List::new(alloc);
+    bodies.push(body.copy(alloc)?)?;
+    Ok(Wanted::Asked(bodies))
 }
 
-/// Those that the body names.
-pub fn wanted_by_body(alloc: Global, body: &[Atom]) -> Result<Wanted, OutOfMemory>
-    ensures { IfOk result (λ it. it ≡ wanted.Named (relations_in body.now)) }
-{
-    let mut relations = Values::new(alloc);
-    add_relations(&mut relations, body)?;
-    Ok(Wanted::Named(relations))
-}
-
-/// Those that one of the queries names.
+/// Those to which an atom of one of the queries can go.
 pub fn wanted_by_queries(alloc: Global, queries: &[Query]) -> Result<Wanted, OutOfMemory>
     ensures { IfOk result (λ it. it
-        ≡ wanted.Named (flat_map (λ query. relations_in (query_of query).body) queries.now)) }
+        ≡ wanted.Asked (map (λ query. (query_of query).body) queries.now)) }
 {
-    let mut relations = Values::new(alloc);
+    let mut bodies = List::new(alloc);
     'queries: for query in queries {
-        add_relations(&mut relations, query.body.items())?;
+        bodies.push(query.body.copy(alloc)?)?;
     }
-    Ok(Wanted::Named(relations))
+    Ok(Wanted::Asked(bodies))
 }
 
-/// Of the five relations of documents, which stand from the base on, those that are wanted. OutOfMemory comes where one of
-/// them has no number of 64 bits.
-pub fn kept_for(wanted: &Wanted, base: usize) -> Result<Kept, OutOfMemory>
+// The texts, and this one too.
+fn with_text(alloc: Global, text: &Text, texts: KeptTexts) -> Result<KeptTexts, OutOfMemory>
+    ensures { IfOk result (AdmitsMore text.now texts) }
+{
+    match texts {
+        KeptTexts::Every => Ok(KeptTexts::Every),
+        KeptTexts::These(some) => {
+            let mut more = some;
+            more.push(text.copy(alloc)?)?;
+            Ok(KeptTexts::These(more))
+        }
+    }
+}
+
+// The texts, and that of the constant at the second place of the atom, if it is over the relation: each text where another
+// term stands there.
+fn with_atom(
+    alloc: Global,
+    atom: &Atom,
+    relation: usize,
+    texts: KeptTexts,
+) -> Result<KeptTexts, OutOfMemory>
+    ensures { IfOk result (Admits relation (atom.now ∷ []) texts) }
+{
+    if atom.relation != relation {
+        return Ok(texts);
+    }
+    match atom.terms.items().get(1) {
+        Some(Term::Const(text)) => with_text(alloc, text, texts),
+        Some(Term::Plain(_)) => Ok(KeptTexts::Every),
+        Some(Term::Made(_, _, _)) => Ok(KeptTexts::Every),
+        None => Ok(KeptTexts::Every),
+    }
+}
+
+// The texts, and those at the second place of the atoms that are over the relation.
+fn with_body(
+    alloc: Global,
+    body: &[Atom],
+    relation: usize,
+    texts: KeptTexts,
+) -> Result<KeptTexts, OutOfMemory>
+    ensures { IfOk result (Admits relation body.now texts) }
+{
+    let mut all = texts;
+    'atoms: for atom in body {
+        all = with_atom(alloc, atom, relation, all)?;
+    }
+    Ok(all)
+}
+
+// The texts at the second place of the atoms of the bodies that are over the relation.
+fn texts_in(
+    alloc: Global,
+    bodies: &[Atoms],
+    relation: usize,
+) -> Result<KeptTexts, OutOfMemory>
+    ensures { IfOk result (AdmitsAll relation bodies.now) }
+{
+    let mut texts = KeptTexts::These(List::new(alloc));
+    'bodies: for body in bodies {
+        texts = with_body(alloc, body.items(), relation, texts)?;
+    }
+    Ok(texts)
+}
+
+// The texts at the second place of facts of the relation that are wanted.
+fn wanted_texts(alloc: Global, wanted: &Wanted, relation: usize) -> Result<KeptTexts, OutOfMemory>
+    ensures { IfOk result (MeetsWant wanted.now relation) }
+{
+    match wanted {
+        Wanted::Every => Ok(KeptTexts::Every),
+        Wanted::Asked(bodies) => texts_in(alloc, bodies.items(), relation),
+    }
+}
+
+/// Of the facts of documents, whose five relations stand from the base on, those that are wanted: of `field` and `value` by
+/// the name and the text too. OutOfMemory comes too where one of the relations has no number of 64 bits.
+pub fn kept_for(alloc: Global, wanted: &Wanted, base: usize) -> Result<Kept, OutOfMemory>
     ensures { IfOk result (IsKeptFor wanted.now base) }
 {
     let Some(last) = base.checked_add(4) else {
         return Err(OutOfMemory);
     };
+    let field = wanted_texts(alloc, wanted, base + 1)?;
+    let value = wanted_texts(alloc, wanted, base + 3)?;
     Ok(Kept {
         base,
         root: wanted.has(base),
-        field: wanted.has(base + 1),
+        field,
         item: wanted.has(base + 2),
-        value: wanted.has(base + 3),
+        value,
         below: wanted.has(last),
     })
 }

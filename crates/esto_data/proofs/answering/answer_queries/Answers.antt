@@ -18,7 +18,7 @@ returns-clause-answer g c =
     let (facts, goes, some) = c.in_ok-loaded.ensures.answer in
     next_answers _ _ _ facts c.answer_loaded.result goes
     (answers_still (answers_facts c.args.queries.now facts) _ c.answer_loaded.result
-    (answers_all c.answers_rest_on_their_relations.ensures c.args.queries.now facts c.in_ok-loaded.loaded.facts some c.answer_loaded.result
+    (answers_all c.answers_rest_on_wanted_facts.ensures c.args.queries.now facts c.in_ok-loaded.loaded.facts some c.answer_loaded.result
     c.answer_loaded.ensures))
 
 pub returns-clause-asked : goal.returns-clause-asked
@@ -27,5 +27,5 @@ returns-clause-asked g c =
     later_asks _ _ asked
     (quiet_asks (answers_facts c.args.queries.now facts) _ c.answer_loaded.result
     (quiet_then _ _ (quiet_judges _ _) (λ rows. quiet_gives _ _))
-    (answers_all c.answers_rest_on_their_relations.ensures c.args.queries.now facts c.in_ok-loaded.loaded.facts some c.answer_loaded.result
+    (answers_all c.answers_rest_on_wanted_facts.ensures c.args.queries.now facts c.in_ok-loaded.loaded.facts some c.answer_loaded.result
     c.answer_loaded.ensures))

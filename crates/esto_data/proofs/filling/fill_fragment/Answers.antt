@@ -20,7 +20,7 @@ returns-in_err-text-clause-answer g c =
     at_exit _ _ c.from_residual-in_err-text.result c.from_residual-in_err-text.ensures.1
     (fill_unfilled (g.S.Shelf.files c.args.shelf.now) c.args.catalogue.now c.args.number _ stored.1 c.in_ok-loaded.ensures.answer.0
     c.in_ok-loaded.ensures.answer.1
-    _ _ (fills_all c.answers_rest_on_their_relations.ensures _ c.in_ok-loaded.ensures.answer.0 c.in_ok-loaded.loaded.facts c.in_ok-loaded.ensures.answer.2
+    _ _ (fills_all c.answers_rest_on_wanted_facts.ensures _ c.in_ok-loaded.ensures.answer.0 c.in_ok-loaded.loaded.facts c.in_ok-loaded.ensures.answer.2
     (Err _) (c.in_err-text.ensures _ stored.1)))
 
 pub returns-clause-answer : goal.returns-clause-answer
@@ -29,7 +29,7 @@ returns-clause-answer g c =
     (c.catalogues_are_sound.ensures c.args.catalogue.now).stored in
     fill_goes (g.S.Shelf.files c.args.shelf.now) c.args.catalogue.now c.args.number _ stored.1 c.in_ok-loaded.ensures.answer.0
     c.in_ok-loaded.ensures.answer.1 c.in_ok-text.text
-    (fills_all c.answers_rest_on_their_relations.ensures _ c.in_ok-loaded.ensures.answer.0 c.in_ok-loaded.loaded.facts c.in_ok-loaded.ensures.answer.2
+    (fills_all c.answers_rest_on_wanted_facts.ensures _ c.in_ok-loaded.ensures.answer.0 c.in_ok-loaded.loaded.facts c.in_ok-loaded.ensures.answer.2
     (Ok c.in_ok-text.text) (c.in_ok-text.ensures _ stored.1))
     (Done c.in_ok-text.text) refl
 
@@ -47,7 +47,7 @@ returns-in_err-text-clause-asked g c =
     handed_asks _ _ c.from_residual-in_err-text.result c.from_residual-in_err-text.ensures.1
     (fill_unfilled_asks (g.S.Shelf.files c.args.shelf.now) c.args.catalogue.now c.args.number _ stored.1 c.in_ok-loaded.ensures.asked.0
     c.in_ok-loaded.ensures.asked.1 _
-    (fills_all c.answers_rest_on_their_relations.ensures _ c.in_ok-loaded.ensures.asked.0 c.in_ok-loaded.loaded.facts c.in_ok-loaded.ensures.asked.2
+    (fills_all c.answers_rest_on_wanted_facts.ensures _ c.in_ok-loaded.ensures.asked.0 c.in_ok-loaded.loaded.facts c.in_ok-loaded.ensures.asked.2
     (Err _) (c.in_err-text.ensures _ stored.1)))
 
 pub returns-clause-asked : goal.returns-clause-asked
@@ -56,5 +56,5 @@ returns-clause-asked g c =
     (c.catalogues_are_sound.ensures c.args.catalogue.now).stored in
     fill_goes_asks (g.S.Shelf.files c.args.shelf.now) c.args.catalogue.now c.args.number _ stored.1 c.in_ok-loaded.ensures.asked.0
     c.in_ok-loaded.ensures.asked.1 c.in_ok-text.text
-    (fills_all c.answers_rest_on_their_relations.ensures _ c.in_ok-loaded.ensures.asked.0 c.in_ok-loaded.loaded.facts c.in_ok-loaded.ensures.asked.2
+    (fills_all c.answers_rest_on_wanted_facts.ensures _ c.in_ok-loaded.ensures.asked.0 c.in_ok-loaded.loaded.facts c.in_ok-loaded.ensures.asked.2
     (Ok c.in_ok-text.text) (c.in_ok-text.ensures _ stored.1))

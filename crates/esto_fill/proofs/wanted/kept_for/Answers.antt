@@ -5,5 +5,5 @@ use Rattle.esto_fill.proofs.wanted.kept_for.Goals as goal
 
 pub returns : goal.returns
 returns c =
-    kept_each c.args.wanted.now c.args.base _ refl c.has.ensures c.has-2.ensures c.has-3.ensures c.has-4.ensures
-    (c.has-5.ensures ∙ ap (is_wanted c.args.wanted.now) (omega (arith, c.in-Some.ensures)))
+    kept_each c.args.wanted.now c.args.base _ refl c.has.ensures c.in_ok-field.ensures c.has-2.ensures c.in_ok-value.ensures
+    (c.has-3.ensures ∙ ap (is_wanted c.args.wanted.now) (omega (arith, c.in-Some.ensures)))
