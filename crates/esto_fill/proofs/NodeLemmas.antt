@@ -83,15 +83,15 @@ row_text m (first ∷ rest) each =
 module _ (facts : List (Fact Term)) (columns : List Column) (cover : CoverNodes facts columns) where
   value_text : (m : Term → Value) (atom : Fact Term) → Contains (database_of facts) (image m atom) → (term : Term) → IsFreeIn columns term atom
       → (text : List ℕ) × (m term ≡ Text text)
-  value_text m atom there term (column, own, at, same, free) =
+  value_text m atom there term (column, own, at, free) =
       let from = Contains-map_from (image value_of) facts (image m atom) there in
       let rows : map value_of from.0.terms ≡ map m atom.terms = ap (λ (fact : Fact Value). fact.terms) from.2 in
       let relation : from.0.relation ≡ atom.relation = ap (λ (fact : Fact Value). fact.relation) from.2 in
       let back = map_at-from value_of from.0.terms column (m own) (ap (λ those. slice_get those column) rows ∙ map_at m atom.terms column own at) in
       elim (told back.0) [
-        | inl (text, is) ↦ (text, ap m (sym same) ∙ sym back.2 ∙ ap value_of is ∙ value_Const text)
+        | inl (text, is) ↦ (text, ap m (sym free.0) ∙ sym back.2 ∙ ap value_of is ∙ value_Const text)
         | inr (node, is, apart) ↦
-            absurd (free (subst (λ n. Contains columns (column_of n column)) relation (cover from.0 from.1 column (back.0, back.1, apart))))
+            absurd (free.1 (subst (λ n. Contains columns (column_of n column)) relation (cover from.0 from.1 column (back.0, back.1, apart))))
       ]
 
   free_view : (query : ConjunctiveQuery) → IsFreeView columns query → HaveTextsOnly (IsAnswer query (database_of facts))

@@ -19,11 +19,10 @@ use Rattle.esto_semantics.specs.Facts.{image}
 use Rattle.esto_semantics.specs.Maps.{AreFlat}
 use Rattle.esto_semantics.specs.declared.fact.Fact.{Fact}
 use Rattle.esto_semantics.specs.declared.fact.Value.{Value}
-use Rattle.esto_semantics.specs.declared.fact.Value.TheVariants.{Text}
 use Rattle.esto_term.specs.declared.term.Term.{Term}
 use Rattle.esto_term.specs.declared.term.Term.TheVariants.{Const}
 use Rattle.esto_term.proofs.ListLemmas.{Contains-cases, Contains-filter, Contains-filter_from, Contains-head, Contains-map, Contains-map_from, Contains-nil, Contains-one}
-use Rattle.esto_term.proofs.ListLemmas.{Contains-rest, each_more, each_seen, map_at}
+use Rattle.esto_term.proofs.ListLemmas.{each_more, each_seen, map_at}
 use Rattle.esto_fill.specs.Databases.{database_of, value_of}
 use Rattle.esto_fill.specs.Laws.{AnswersRestOnWantedFacts}
 use Rattle.esto_fill.specs.Wanted.{Admits, AdmitsAll, AdmitsMore, Grow, IsAsked, IsKeptFor, IsThere, IsWanted, Leaves, MeetsWant, is_wanted, names}
@@ -224,8 +223,8 @@ leaves_append (Asked bodies) facts some others more one two = (
 )
 
 pub leaves_flat : (wanted : Wanted) (facts some : List (Fact Term)) → Leaves wanted facts some → AreFlat facts → AreFlat some
-leaves_flat Every facts some is flat = subst AreFlat (sym is) flat
-leaves_flat (Asked bodies) facts some leaves flat term (fact, inside, at) = flat term (fact, leaves.0 fact inside, at)
+leaves_flat Every facts some is all = subst AreFlat (sym is) all
+leaves_flat (Asked bodies) facts some leaves all = λ term (fact, inside, at). all term (fact, leaves.0 fact inside, at)
 
 pub leaves_none : (wanted : Wanted) (some : List (Fact Term)) → some ≡ [] → Leaves wanted [] some
 leaves_none Every some empty = empty

@@ -1,5 +1,5 @@
 -- Facts that are wanted.
-use Rattle.std.specs.Prelude.{◌≡◌, ◌⊎◌, ◌==◌, ℕ, ◌+◌, Bool, true, List, [], ◌∷◌, Some, map, slice_get, Contains}
+use Rattle.std.specs.Prelude.{◌≡◌, ◌⊎◌, ◌==◌, ℕ, Bool, true, List, Some, slice_get, Contains}
 use Rattle.std.specs.List.{list_any}
 use Rattle.esto_docmodel.specs.DocumentFacts.{DocFact, flat}
 use Rattle.esto_docmodel.specs.Encodings.{has_text, is_kept}

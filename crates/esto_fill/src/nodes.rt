@@ -70,13 +70,7 @@ pub fn node_columns(alloc: Global, facts: &[Atom]) -> Result<Values<Column>, Out
 }
 
 // Whether the term is this one, and the column is none of these.
-fn is_free_at(
-    columns: &[Column],
-    relation: usize,
-    column: usize,
-    own: &Term,
-    term: &Term,
-) -> bool
+fn is_free_at(columns: &[Column], relation: usize, column: usize, own: &Term, term: &Term) -> bool
     ensures { IsTrue result → IsFreeAt columns.now relation column own.now term.now }
 {
     if !own.equal(term) {

@@ -3,7 +3,7 @@ ghost use Rattle.std.specs.Prelude.{◌≡◌, ◌==◌, [], ◌∷◌, true, fa
 ghost use Rattle.std.specs.List.{list_any};
 ghost use Rattle.esto_docmodel.specs.declared.kept.KeptTexts.TheVariants as texts;
 ghost use Rattle.esto_query.specs.Making.{query_of};
-ghost use Rattle.esto_fill.specs.Wanted.{Admits, AdmitsAll, AdmitsBody, AdmitsMore, IsKeptFor, MeetsWant, is_wanted, names};
+ghost use Rattle.esto_fill.specs.Wanted.{Admits, AdmitsAll, AdmitsMore, IsKeptFor, MeetsWant, is_wanted, names};
 ghost use Rattle.esto_fill.specs.declared.wanted.Wanted.TheVariants as wanted;
 
 use esto_docmodel::{Kept, KeptTexts};
@@ -95,11 +95,13 @@ fn with_atom(
     if atom.relation != relation {
         return Ok(texts);
     }
-    match atom.terms.items().get(1) {
-        Some(Term::Const(text)) => with_text(alloc, text, texts),
-        Some(Term::Plain(_)) => Ok(KeptTexts::Every),
-        Some(Term::Made(_, _, _)) => Ok(KeptTexts::Every),
-        None => Ok(KeptTexts::Every),
+    if atom.terms.len() < 2 {
+        return Ok(KeptTexts::Every);
+    }
+    match atom.terms.item(1) {
+        Term::Const(text) => with_text(alloc, text, texts),
+        Term::Plain(_) => Ok(KeptTexts::Every),
+        Term::Made(_, _, _) => Ok(KeptTexts::Every),
     }
 }
 
@@ -120,11 +122,7 @@ fn with_body(
 }
 
 // The texts at the second place of the atoms of the bodies that are over the relation.
-fn texts_in(
-    alloc: Global,
-    bodies: &[Atoms],
-    relation: usize,
-) -> Result<KeptTexts, OutOfMemory>
+fn texts_in(alloc: Global, bodies: &[Atoms], relation: usize) -> Result<KeptTexts, OutOfMemory>
     ensures { IfOk result (AdmitsAll relation bodies.now) }
 {
     let mut texts = KeptTexts::These(List::new(alloc));

@@ -4,4 +4,4 @@ use Rattle.esto_fill.proofs.wanted.with_body.Given as goal
 
 -- what the atoms so far have at their second place has come to the others
 abbrev pub invariant-atoms : goal.invariant-atoms
-invariant-atoms l = Admits l.relation (take l.atom-index l.body) l.texts l.all
+invariant-atoms l = Admits l.relation (take l.atom-index l.body) l.fn.texts l.all
