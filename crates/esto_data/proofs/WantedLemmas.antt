@@ -11,7 +11,7 @@ use Rattle.esto_fill.specs.Wanted.{Leaves}
 use Rattle.esto_fill.specs.declared.filled.FillError.{FillError}
 use Rattle.esto_fill.specs.declared.filled.FillError.TheVariants as filled
 use Rattle.esto_fill.specs.declared.loaded.Loaded.{Loaded}
-use Rattle.esto_fill.specs.declared.wanted.Wanted.TheVariants.{Asked}
+use Rattle.esto_fill.specs.declared.wanted.Wanted.TheVariants.{Every, Asked}
 use Rattle.esto_opening.specs.Answers.{Answers}
 use Rattle.esto_opening.specs.Asked.{AsksIn}
 use Rattle.esto_opening.specs.Fragments.{Stored}
