@@ -27,7 +27,7 @@ pub fn answer(alloc: Global, query: &Query, loaded: &Loaded) -> Result<TextRows,
     loaded_facts_are_flat();
     queries_are_sound();
     let rows = answers(alloc, query, &loaded.facts)?;
-    texts_of(alloc, &rows)
+    texts_of(alloc, rows)
 }
 
 // The columns by which the answers of the queries are found.
@@ -75,5 +75,5 @@ pub fn answer_union(
     let columns = columns_of(alloc, queries)?;
     let facts = IndexedFacts::by(alloc, columns, &loaded.facts)?;
     let rows = union_answers(alloc, queries, &facts)?;
-    texts_of(alloc, &rows)
+    texts_of(alloc, rows)
 }

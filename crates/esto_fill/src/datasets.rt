@@ -13,7 +13,7 @@ use esto_docmodel::Encoded;
 use esto_docs::encode_file;
 use esto_ports::{FileError, FileFault};
 use esto_read::DataModel;
-use esto_relmodel::table_facts;
+use esto_relmodel::facts_of_rows;
 use esto_semantics::Facts;
 use esto_stores::{open_keys, open_table};
 use esto_term::{Bytes, List, OutOfMemory};
@@ -59,7 +59,7 @@ fn facts_of_table(
     ensures { GivesFacts DataModel.Table dataset.now wanted.now bytes.now first result }
 {
     let rows = open_table(alloc, bytes, &dataset.columns)?;
-    let facts = table_facts(alloc, dataset.base, &rows)?;
+    let facts = facts_of_rows(alloc, dataset.base, rows)?;
     Ok(Encoded {
         facts: if_wanted(alloc, wanted, dataset.base, facts),
         next: first,
@@ -91,7 +91,7 @@ fn facts_of_keys(
     ensures { GivesFacts DataModel.Keys dataset.now wanted.now bytes.now first result }
 {
     let rows = open_keys(alloc, bytes, KEY_CELLS)?;
-    let facts = table_facts(alloc, dataset.base, &rows)?;
+    let facts = facts_of_rows(alloc, dataset.base, rows)?;
     Ok(Encoded {
         facts: if_wanted(alloc, wanted, dataset.base, facts),
         next: first,

@@ -82,13 +82,45 @@ pub fn text_row(alloc: Global, terms: &[Term]) -> Result<TextRow, OutOfMemory>
     Ok(row)
 }
 
-// The rows of the texts of the terms.
-fn text_rows(alloc: Global, rows: &[Terms]) -> Result<TextRows, OutOfMemory>
-    ensures { IfOk result (λ it. it ≡ map (map text_of) rows.now) }
+// The text of a constant, which is moved and not copied; the empty text for another term.
+fn moved_text(alloc: Global, term: Term) -> Text
+    ensures { result ≡ text_of term }
+{
+    match term {
+        Term::Const(text) => text,
+        Term::Plain(_) => Text::new(alloc),
+        Term::Made(_, _, _) => Text::new(alloc),
+    }
+}
+
+// An empty row, with room for so many texts.
+fn row_with_room(alloc: Global, texts: usize) -> Result<TextRow, OutOfMemory>
+    ensures { IfOk result (λ it. it ≡ []) }
+{
+    match Vec::with_capacity(alloc, texts) {
+        Ok(texts) => Ok(List::from_vec(texts)),
+        Err(_) => Err(OutOfMemory),
+    }
+}
+
+// The row of the texts of the terms, which are moved and not copied.
+fn moved_row(alloc: Global, terms: Terms) -> Result<TextRow, OutOfMemory>
+    ensures { IfOk result (λ it. it ≡ map text_of terms) }
+{
+    let mut row = row_with_room(alloc, terms.len())?;
+    'terms: for term in terms.into_vec() {
+        row.push(moved_text(alloc, term))?;
+    }
+    Ok(row)
+}
+
+// The rows of the texts of the terms, which are moved and not copied.
+fn moved_rows(alloc: Global, rows: TermRows) -> Result<TextRows, OutOfMemory>
+    ensures { IfOk result (λ it. it ≡ map (map text_of) rows) }
 {
     let mut texts = List::new(alloc);
-    'rows: for row in rows {
-        texts.push(text_row(alloc, row.items())?)?;
+    'rows: for row in rows.into_vec() {
+        texts.push(moved_row(alloc, row)?)?;
     }
     Ok(texts)
 }
@@ -115,13 +147,13 @@ pub fn node_at(place: usize) -> AnswerError
 }
 
 /// The rows of terms as texts, in order, or the least column in which one of them has another term than a constant.
-pub fn texts_of(alloc: Global, rows: &TermRows) -> Result<TextRows, AnswerError>
-    requires { IsAscending rows.now }
-    ensures { GivesTexts (IsImageOf rows.now) result }
+pub fn texts_of(alloc: Global, rows: TermRows) -> Result<TextRows, AnswerError>
+    requires { IsAscending rows }
+    ensures { GivesTexts (IsImageOf rows) result }
 {
     if let Some(place) = least_open(rows.items()) {
         return Err(node_at(place));
     }
-    let texts = text_rows(alloc, rows.items())?;
+    let texts = moved_rows(alloc, rows)?;
     Ok(texts)
 }

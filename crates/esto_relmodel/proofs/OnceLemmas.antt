@@ -1,5 +1,5 @@
 -- Things each once: one thing more.
-use Rattle.std.proofs.Common.{◌≡◌, inl, inr, ℕ, Bool, true, false, ◌<◌, ◌≤◌, ◌+◌, List, [], ◌∷◌, ◌++◌, take, length, get_or, Contains, AllPairs, sym, subst}
+use Rattle.std.proofs.Common.{◌≡◌, inl, inr, ℕ, Bool, true, false, ◌<◌, ◌≤◌, ◌+◌, List, [], ◌∷◌, ◌++◌, take, length, get_or, Contains, AllPairs, sym, ap, ◌∙◌, subst}
 use Rattle.std.proofs.Common.{arith}
 use Rattle.std.proofs.lemmas.List.{take_all}
 use Rattle.std.proofs.lemmas.List.Elements.{Contains-append_left, Contains-append_right, Contains-push_cases}
@@ -87,3 +87,18 @@ more_rows rows old new count row within read once step =
 
 pub all_rows : {X : Type 0} (rows kept : List X) (count : ℕ) → length rows ≤ count → AreEachOnce (take count rows) kept → AreEachOnce rows kept
 all_rows rows kept count all once = subst (λ those. AreEachOnce those kept) (take_all count rows all) once
+
+-- a row that is new, where those so far are each once
+pub one_new : {X : Type 0} (rows old new : List X) (count : ℕ) (row : X) (is_new : Bool) → count < length rows → row ≡ get_or rows count row
+    → (old ≡ take count rows) × AreEachOnce (take count rows) old → is_new ≡ true → IsAdded old new row is_new
+    → (new ≡ take (count + 1) rows) × AreEachOnce (take (count + 1) rows) new
+one_new rows old new count row is_new within read before told added =
+    let own = subst (IsAdded old new row) told added in (
+      own.1 ∙ ap (λ those. those ++ row ∷ []) before.0 ∙ sym (take-item rows count row within read),
+      more_rows rows old new count row within read before.1 (one_more true old new row own),
+    )
+
+pub all_new : {X : Type 0} (rows seen : List X) (count : ℕ) → length rows ≤ count → (seen ≡ take count rows) × AreEachOnce (take count rows) seen
+    → AreEachOnce rows rows
+all_new rows seen count all before =
+    subst (AreEachOnce rows) (before.0 ∙ take_all count rows all) (all_rows rows seen count all before.1)

@@ -1,5 +1,5 @@
 //! The facts of rows.
-ghost use Rattle.std.specs.Prelude.{◌≡◌, ℕ, List, [], ◌∷◌, ◌++◌, map, IfOk, OnOk};
+ghost use Rattle.std.specs.Prelude.{◌≡◌, ℕ, List, [], ◌∷◌, ◌++◌, false, map, IfOk, OnOk};
 ghost use Rattle.esto_term.specs.declared.term.Term.TheVariants.{Const};
 ghost use Rattle.esto_relmodel.specs.Once.{AreEachOnce};
 ghost use Rattle.esto_relmodel.specs.RowFacts.{row_fact, AreRowFacts};
@@ -77,4 +77,63 @@ pub fn table_facts(alloc: Global, relation: usize, rows: &TextRows) -> Result<Fa
         put_row(alloc, relation, row, &mut seen, &mut facts)?;
     }
     Ok(facts)
+}
+
+// Whether one of the rows stands there twice.
+fn has_repeats(alloc: Global, rows: &[TextRow]) -> Result<bool, OutOfMemory>
+    ensures { IfOk result (λ it. (it ≡ false) → AreEachOnce rows.now rows.now) }
+{
+    let mut seen = Seen::new(alloc);
+    'rows: for row in rows {
+        if !seen.add(alloc, row)? {
+            return Ok(true);
+        }
+    }
+    Ok(false)
+}
+
+// The constants of the cells, which are moved and not copied, in order.
+fn moved_constants(alloc: Global, row: TextRow) -> Result<Terms, OutOfMemory>
+    ensures { IfOk result (λ it. it ≡ map Const row) }
+{
+    let mut terms = row_with_room(alloc, row.len())?;
+    'cells: for cell in row.into_vec() {
+        terms.push(Term::Const(cell))?;
+    }
+    Ok(terms)
+}
+
+// Puts the row, which is moved and not copied, as a fact at the end.
+fn put_moved(
+    alloc: Global,
+    relation: usize,
+    row: TextRow,
+    facts: &mut Facts,
+) -> Result<(), OutOfMemory>
+    ensures { OnOk result (facts.new ≡ facts.old ++ row_fact relation row ∷ []) }
+{
+    let terms = moved_constants(alloc, row)?;
+    facts.push(Fact { relation, terms })?;
+    Ok(())
+}
+
+// The rows as facts, whose cells are moved and not copied.
+fn moved_rows(alloc: Global, relation: usize, rows: TextRows) -> Result<Facts, OutOfMemory>
+    ensures { IfOk result (λ it. it ≡ map (row_fact relation) rows) }
+{
+    let mut facts = List::new(alloc);
+    'rows: for row in rows.into_vec() {
+        put_moved(alloc, relation, row, &mut facts)?;
+    }
+    Ok(facts)
+}
+
+/// The same facts as those of `table_facts`. Where no row is repeated, its cells are moved and not copied.
+pub fn facts_of_rows(alloc: Global, relation: usize, rows: TextRows) -> Result<Facts, OutOfMemory>
+    ensures { IfOk result (λ it. AreRowFacts relation rows it) }
+{
+    if has_repeats(alloc, rows.items())? {
+        return table_facts(alloc, relation, &rows);
+    }
+    moved_rows(alloc, relation, rows)
 }

@@ -4,4 +4,4 @@
 mod facts;
 mod seen;
 
-pub use facts::{constants, table_facts};
+pub use facts::{constants, facts_of_rows, table_facts};

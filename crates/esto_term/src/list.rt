@@ -86,6 +86,13 @@ impl<T> List<T> {
 }
 
 impl<T: Drop> List<T> {
+    /// The items, which are moved and not copied.
+    pub fn into_vec(self) -> Vec<T>
+        ensures { result.items ≡ self }
+    {
+        self.items
+    }
+
     /// Puts an item at the end.
     pub fn push(&mut self, item: T) -> Result<(), OutOfMemory>
         ensures ok { OnOk result (self.new ≡ self.old ++ item ∷ []) }
