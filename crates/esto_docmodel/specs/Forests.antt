@@ -16,6 +16,7 @@ pub record Node : Type 0 where
   pub content : Option (List ℕ)
   pub inside : Forest
 
+-- The node that holds this, with this row below it.
 abbrev pub node : Option (List ℕ) → Forest → Node
 node content inside = record { content = content; inside = inside }
 

@@ -28,6 +28,7 @@ Rise fields = IsTrue (rise (names_of fields))
 abbrev pub parts : {X : Type 0} → FieldOf X → List ℕ × X
 parts field = (field.name, field.tree)
 
+-- Fields with one name and one thing there are one field.
 pub parts_inj : {X : Type 0} (field other : FieldOf X) → parts field ≡ parts other → field ≡ other
 parts_inj field other same = λ i. record { name = (same i).0; tree = (same i).1 }
 

@@ -31,6 +31,7 @@ shape_step (Tree-F.Items items) = node None (row items)
 abbrev pub shape : Tree → Node
 shape = fold-Tree Node shape_step
 
+-- A field with the shape of what stands there.
 abbrev pub shaped_field : FieldOf Tree → FieldOf Node
 shaped_field field = record { name = field.name; tree = shape field.tree }
 
@@ -52,6 +53,7 @@ abbrev pub entry_step : Entry-F More → More
 entry_step (Entry-F.Value path term) rest = holds path term rest
 entry_step (Entry-F.Group path inner) rest = group path (chain inner) rest
 
+-- An entry as what it puts before others.
 abbrev pub entry_shape : Entry → More
 entry_shape = fold-Entry More entry_step
 

@@ -25,12 +25,14 @@ begins_with_field (Name k ∷ path) = true
 begins_with_field (Item ∷ path) = false
 begins_with_field (Below ∷ path) = false
 
+-- The name of the field with which a path begins; no bytes where it begins with none.
 abbrev pub first_name : List Step → List ℕ
 first_name [] = []
 first_name (Name k ∷ path) = k
 first_name (Item ∷ path) = []
 first_name (Below ∷ path) = []
 
+-- The steps of a path after the first.
 abbrev pub later_steps : List Step → List Step
 later_steps [] = []
 later_steps (step ∷ path) = path
@@ -64,12 +66,13 @@ documents_text Lines ds = flat_map document_line ds
 
 -- ---- for private clauses
 
--- The path of the first entry, and what it writes after its first step.
+-- The path of the first entry.
 abbrev pub first_path : Entries → List Step
 first_path done = []
 first_path (holds path term rest) = path
 first_path (group path inner rest) = path
 
+-- What the first entry writes after its first step.
 abbrev pub first_data : Entries → Row → Data
 first_data done row = object no_members
 first_data (holds path term rest) row = path_data (later_steps path) (string (text_in row term))

@@ -54,6 +54,7 @@ abbrev pub fault_unless_array : Option json.Items → Option FileFault
 fault_unless_array None = Some (fault_at NotArray 0)
 fault_unless_array (Some items) = None
 
+-- What is wrong with a file that is to be an array: it is no JSON value, or another value.
 abbrev pub array_fault : Option Data → Option FileFault
 array_fault None = Some (fault_at BadJson 0)
 array_fault (Some value) = fault_unless_array (as_array value)
@@ -63,6 +64,7 @@ abbrev pub trees_of_items : Option json.Items → List Tree
 trees_of_items None = []
 trees_of_items (Some items) = trees_of items
 
+-- The documents of a file that is an array, in order; none where it is none.
 abbrev pub trees_of_array : Option Data → List Tree
 trees_of_array None = []
 trees_of_array (Some value) = trees_of_items (as_array value)

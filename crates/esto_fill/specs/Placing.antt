@@ -45,6 +45,7 @@ text_by_kind (Term-F.Const text) = text
 text_by_kind (Term-F.Plain _) = []
 text_by_kind (Term-F.Made _ _ _) = []
 
+-- The text of a term that is a constant; no bytes for another.
 abbrev pub text_of : Term → List ℕ
 text_of term = text_by_kind (out-Term term)
 

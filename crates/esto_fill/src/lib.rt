@@ -24,7 +24,8 @@ pub use datasets::{DatasetBytes, LoadError, LoadList, dataset_facts, load_datase
 pub use filled::{FillError, fill};
 pub use laws::{
     agreeing_answers_are_one, answers_rest_on_their_datasets, answers_rest_on_wanted_facts,
-    audits_are_over_files, facts_stand_as_databases, loaded_facts_are_flat, outcomes_are_one,
+    audits_are_over_files, facts_stand_as_databases, loaded_documents_are_lawful,
+    loaded_facts_are_flat, outcomes_are_one,
 };
 pub use loaded::{Loaded, nothing_loaded};
 pub use rows::AnswerError;
