@@ -21,7 +21,8 @@ use Rattle.esto_semantics.specs.declared.fact.Fact.{Fact}
 use Rattle.esto_semantics.specs.declared.fact.Value.{Value}
 use Rattle.esto_term.specs.declared.term.Term.{Term}
 use Rattle.esto_term.specs.declared.term.Term.TheVariants.{Const}
-use Rattle.esto_term.proofs.ListLemmas.{Contains-cases, Contains-filter, Contains-filter_from, Contains-head, Contains-map, Contains-map_from, Contains-nil, Contains-one}
+use Rattle.esto_term.proofs.ListLemmas.{Contains-cases, Contains-filter, Contains-filter_from, Contains-head, Contains-map, Contains-map_from}
+use Rattle.esto_term.proofs.ListLemmas.{Contains-nil, Contains-one}
 use Rattle.esto_term.proofs.ListLemmas.{each_more, each_seen, map_at}
 use Rattle.esto_fill.specs.Databases.{database_of, value_of}
 use Rattle.esto_fill.specs.Laws.{AnswersRestOnWantedFacts}
@@ -228,7 +229,10 @@ leaves_flat (Asked bodies) facts some leaves all = λ term (fact, inside, at). a
 
 pub leaves_none : (wanted : Wanted) (some : List (Fact Term)) → some ≡ [] → Leaves wanted [] some
 leaves_none Every some empty = empty
-leaves_none (Asked bodies) some empty = ((λ fact inside. subst (λ those. Contains those fact) empty inside), λ fact inside asked. absurd (Contains-nil fact inside))
+leaves_none (Asked bodies) some empty = (
+  (λ fact inside. subst (λ those. Contains those fact) empty inside),
+  λ fact inside asked. absurd (Contains-nil fact inside),
+)
 
 -- ---- answers
 
