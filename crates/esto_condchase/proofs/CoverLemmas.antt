@@ -186,11 +186,11 @@ module _ (entries later : List Entry) (entry : Entry) (added : IsAdded entries e
         (AreDerived-push expanded rules entries entry derived (record { follows = follows; uncovered = new.0 }))
   ]
 
-pub grown_none : (rules : List Rule) (count : ℕ) (entries asked : List Entry) → IsGrownIn rules count entries asked [] entries
-grown_none rules count entries asked = record {
+pub grown_none : (rules : List Rule) (entries asked : List Entry) → IsGrownIn rules entries asked [] entries
+grown_none rules entries asked = record {
   more = ([], sym (append-nil entries));
   derived = λ expanded derived. derived;
-  there = λ turn entry inside. absurd (Contains-nil turn inside);
+  there = λ entry (turn, inside, read). absurd (Contains-nil turn inside);
 }
 
 pub added_at_counted : (entries asked later : List Entry) (place count : ℕ) → ((entry : Entry) → Contains asked entry → length entry.product ≡ count)
@@ -203,9 +203,9 @@ added_at_counted entries asked later place count counted (inr (past, same)) coun
 module _ (rules : List Rule) (count : ℕ) (entries asked : List Entry)
     (follow : (entry : Entry) → Contains asked entry → IsFollowing rules count entries entry) (turns : List Turn) (place : ℕ) (turn : Turn)
     (inside : place < length turns) (is : turn ≡ get_or turns place turn) (current later : List Entry)
-    (so_far : IsGrownIn rules count entries asked (take place turns) current) where
+    (so_far : IsGrownIn rules entries asked (take place turns) current) where
   turn_added : (entry : Entry) → slice_get asked turn.place ≡ Some entry → IsAdded current entry.claim entry.product entry.reason later
-      → IsGrownIn rules count entries asked (take (place + 1) turns) later
+      → IsGrownIn rules entries asked (take (place + 1) turns) later
   turn_added entry at added = record {
     more = (so_far.more.0 ++ its.0, its.1 ∙ ap (λ it. it ++ its.0) so_far.more.1 ∙ append_assoc entries so_far.more.0 its.0);
     derived = λ expanded derived. added_derived current later entry added expanded rules
@@ -213,10 +213,10 @@ module _ (rules : List Rule) (count : ℕ) (entries asked : List Entry)
         (Follows-append entries so_far.more.0 expanded rules entry.claim entry.product entry.reason
         ((follow entry (Contains-at asked turn.place entry at)).follows expanded)))
         (so_far.derived expanded derived);
-    there = λ own asks in_turns read. elim (Contains-push_cases (take place turns) turn own
+    there = λ asks (own, in_turns, read). elim (Contains-push_cases (take place turns) turn own
         (subst (λ it. Contains it own) (take-item turns place turn inside is) in_turns)) [
           | inl earlier ↦ subst (λ it. IsThere it asks.claim asks.product) (sym its.1)
-              (there_more current its.0 asks.claim asks.product (so_far.there own asks earlier read))
+              (there_more current its.0 asks.claim asks.product (so_far.there asks (own, earlier, read)))
           | inr same ↦
               let both : Some entry ≡ Some asks = sym at ∙ ap (λ (it : Turn). slice_get asked it.place) same ∙ read in
               let one : entry ≡ asks = cc in
@@ -227,38 +227,38 @@ module _ (rules : List Rule) (count : ℕ) (entries asked : List Entry)
       its : (others : List Entry) × (later ≡ current ++ others)
       its = added_more current later entry added
 
-  turn_past : length asked ≤ turn.place → later ≡ current → IsGrownIn rules count entries asked (take (place + 1) turns) later
-  turn_past past same = subst (IsGrownIn rules count entries asked (take (place + 1) turns)) (sym same) (record {
+  turn_past : length asked ≤ turn.place → later ≡ current → IsGrownIn rules entries asked (take (place + 1) turns) later
+  turn_past past same = subst (IsGrownIn rules entries asked (take (place + 1) turns)) (sym same) (record {
     more = so_far.more;
     derived = so_far.derived;
-    there = λ own asks in_turns read. elim (Contains-push_cases (take place turns) turn own
+    there = λ asks (own, in_turns, read). elim (Contains-push_cases (take place turns) turn own
         (subst (λ it. Contains it own) (take-item turns place turn inside is) in_turns)) [
-          | inl earlier ↦ so_far.there own asks earlier read
+          | inl earlier ↦ so_far.there asks (own, earlier, read)
           | inr it ↦ absurd (let within = slice_get_within asked own.place asks read in
               let at = ap (λ (its : Turn). its.place) it in omega (arith, within, past, at))
         ];
   })
 
-  pub grown_turn : IsAddedAt current asked turn.place later → IsGrownIn rules count entries asked (take (place + 1) turns) later
+  pub grown_turn : IsAddedAt current asked turn.place later → IsGrownIn rules entries asked (take (place + 1) turns) later
   grown_turn (inl (entry, at, added)) = turn_added entry at added
   grown_turn (inr (past, same)) = turn_past past same
 
 -- in all turns
-pub grown_all : (rules : List Rule) (count : ℕ) (entries asked : List Entry) (turns : List Turn) (later : List Entry) → AreTurnsOf (length asked) turns
-    → IsGrownIn rules count entries asked turns later → IsGrownBy rules count entries asked later
-grown_all rules count entries asked turns later all grown = record {
+pub grown_all : (rules : List Rule) (entries asked : List Entry) (turns : List Turn) (later : List Entry) → AreTurnsOf (length asked) turns
+    → IsGrownIn rules entries asked turns later → IsGrownBy rules entries asked later
+grown_all rules entries asked turns later all grown = record {
   more = grown.more;
   derived = grown.derived;
   there = λ entry inside.
       let at = place-from_Contains asked entry inside in
       let turn = all at.0 (slice_get_within asked at.0 entry at.1) in
-      grown.there turn.0 entry turn.1 (ap (slice_get asked) turn.2 ∙ at.1);
+      grown.there entry (turn.0, turn.1, ap (slice_get asked) turn.2 ∙ at.1);
 }
 
 -- what is covered by the entries and what was asked for is covered by the later ones
-pub covered_grown : (rules : List Rule) (count : ℕ) (entries asked later : List Entry) → IsGrownBy rules count entries asked later
+pub covered_grown : (rules : List Rule) (entries asked later : List Entry) → IsGrownBy rules entries asked later
     → (atoms : List Bool) (claim : Claim) → IsCovered (InWorld (entries ++ asked) atoms) claim → IsCovered (InWorld later atoms) claim
-covered_grown rules count entries asked later grown atoms = by
+covered_grown rules entries asked later grown atoms = by
   where
     holds : (claim : Claim) → InWorld (entries ++ asked) atoms claim → IsCovered (InWorld later atoms) claim
     holds claim (entry, inside, within, is) = elim (Contains-append_cases entries asked entry inside) [

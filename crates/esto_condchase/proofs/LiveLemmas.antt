@@ -73,7 +73,7 @@ module _ (entries : List Entry) (groups : List Group) (are : AreGroups entries g
       → Contains found place)
       → ((at : ℕ) → Contains found at → (group : Group) → slice_get groups at ≡ Some group → (place : ℕ) → Contains group.places place → Contains places place)
       → AreAllFacts entries relation places
-  facts_all relation found places are_found all place entry fact at states same =
+  facts_all relation found places are_found all fact same place entry at states =
       let it = are.all entry (Contains-at entries place entry at) in
       let group_is : it.0.claim ≡ Stated fact = same_stated fact it.0.claim (subst (λ claim. AreSameClaim claim it.0.claim) states it.2) in
       let there = place-from_Contains groups it.0 it.1 in

@@ -115,15 +115,15 @@ given_all facts place entries past given = subst (λ it. AreGiven it entries) (t
 
 -- ---- rounds
 
-pub grown_same : (count : ℕ) (its rules : List Constraint) (entries later : List Entry) → its ≡ rules
-    → (asked : List Entry) × IsGrownBy (rules_of its) count entries asked later → (asked : List Entry) × IsGrownBy (rules_of rules) count entries asked later
-grown_same count its rules entries later same (asked, grown) = (asked, subst (λ it. IsGrownBy (rules_of it) count entries asked later) same grown)
+pub grown_same : (its rules : List Constraint) (entries later : List Entry) → its ≡ rules
+    → (asked : List Entry) × IsGrownBy (rules_of its) entries asked later → (asked : List Entry) × IsGrownBy (rules_of rules) entries asked later
+grown_same its rules entries later same (asked, grown) = (asked, subst (λ it. IsGrownBy (rules_of it) entries asked later) same grown)
 
 nothing : (more : List Entry) → length more ≡ 0 → more ≡ []
 nothing [] l = refl
 nothing (first ∷ rest) l = absurd (omega (arith, l))
 
-module _ (facts : List ExpandedFact) (rules : List Rule) (count : ℕ) (entries asked later : List Entry) (grown : IsGrownBy rules count entries asked later) where
+module _ (facts : List ExpandedFact) (rules : List Rule) (count : ℕ) (entries asked later : List Entry) (grown : IsGrownBy rules entries asked later) where
   pub turn_given : AreGiven facts entries → AreGiven facts later
   turn_given given = subst (AreGiven facts) (sym grown.more.1) (λ fact inside atoms has. InWorld-more entries (entries ++ grown.more.0) atoms
       (λ entry in_entries. Contains-append_left entries grown.more.0 entry in_entries) (Stated fact.fact) (given fact inside atoms has))

@@ -84,9 +84,9 @@ module _ (entries : List Entry) (since : ℕ) (body : List (Fact Term)) (apart :
       kept term other (entry, inside, within, is) = (entry, early entry inside (λ is_apart. subst (λ it. IsApart it body) is is_apart), within, is)
 
 -- where the body's matches are settled there is none anew
-pub settled_anew : (entries : List Entry) (since : ℕ) (body : List (Fact Term)) (live : List Term) (ways : List Way) → ways ≡ []
-    → IsSettled entries since body → AreFoundAnew entries since body live ways
-settled_anew entries since body live ways none is_settled = rw none record {
+pub settled_anew : (entries : List Entry) (since : ℕ) (body : List (Fact Term)) (live sides : List Term) (ways : List Way) → ways ≡ []
+    → IsSettled entries since body → AreFoundAnew entries since body live sides ways
+settled_anew entries since body live sides ways none is_settled = rw none record {
   sound = λ way inside. absurd (Contains-nil way inside);
   complete = λ atoms chosen matches. inl (chosen, (λ term its. refl), is_settled atoms chosen matches);
 }

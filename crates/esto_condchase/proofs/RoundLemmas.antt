@@ -16,7 +16,7 @@ use Rattle.esto_term.proofs.ZipLemmas.{zip_weaker}
 use Rattle.esto_constraint.specs.Constraints.{rule_of, rules_of}
 use Rattle.esto_constraint.specs.declared.rule.Constraint.{Constraint}
 use Rattle.esto_views.specs.declared.expansion.ExpandedFact.{ExpandedFact}
-use Rattle.esto_world_laws.specs.Worlds.{Linked}
+use Rattle.esto_world_laws.specs.Worlds.{InWorld, Linked}
 use Rattle.esto_world_laws.specs.Matches.{taken, Touching, AreChosen, match_map}
 use Rattle.esto_chase_laws.specs.Making.{is_variable_level, is_variable_of, frontier, made_for, extended}
 use Rattle.esto_chase_laws.proofs.JoinedLemmas.{joined_from}
@@ -25,7 +25,7 @@ use Rattle.esto_term.specs.Order.{same_term}
 use Rattle.esto_semantics.proofs.TermLemmas.{same_term-Decides}
 use Rattle.std.specs.List.{filter}
 use Rattle.std.specs.Set.{is_member}
-use Rattle.esto_world_laws.specs.Steps.{IsAsked, AreAnswered}
+use Rattle.esto_world_laws.specs.Steps.{IsAsked, IsCovered, AreAnswered}
 use Rattle.esto_world_laws.specs.Derived.{Claims, IsNamed, FollowsBy, Follows}
 use Rattle.esto_world_laws.specs.declared.entry.Claim.{Claim}
 use Rattle.esto_world_laws.specs.declared.entry.Claim.TheVariants.{Fact as Stated, Same}
@@ -34,9 +34,9 @@ use Rattle.esto_world_laws.specs.declared.entry.Entry.{Entry}
 use Rattle.esto_world_laws.proofs.LinkLemmas.{Linked-touching, Touching-more}
 use Rattle.esto_world_laws.proofs.GrowLemmas.{InWorld-more, IsCovered-more}
 use Rattle.esto_prov.specs.Taking.{made_of}
-use Rattle.esto_condchase.specs.Ways.{AgreeOn, IsFound}
+use Rattle.esto_condchase.specs.Ways.{AgreeOn, IsFound, MeetOne}
 use Rattle.esto_condchase.specs.News.{AreFoundAnew}
-use Rattle.esto_condchase.specs.Rounds.{IsNoted, IsThere, AsksMore, IsAnswered, IsRuleAnswered, terms_asked}
+use Rattle.esto_condchase.specs.Rounds.{IsNoted, IsThere, AsksMore, IsAnswered, IsRuleAnswered, sides_asked, terms_asked}
 use Rattle.esto_condchase.specs.declared.ways.Way.{Way}
 use Rattle.esto_term.proofs.PlaceLemmas.{take-item}
 use Rattle.esto_condchase.proofs.CoverLemmas.{IsThere-grows, AsksMore-then, noted_asks, noted_there}
@@ -178,6 +178,19 @@ IsAsked-agree number (equality body left right) m other agree claim is =
     is ∙ (λ i. Same (agree left (Contains-head left (right ∷ [])) i) (agree right (Contains-rest left (right ∷ []) right (Contains-head right [])) i))
 IsAsked-agree number (denial body) m other agree claim asked = asked
 
+-- where an equality rule's sides meet terms that are one, what it asks for is there
+one_covered : (entries : List Entry) (number : ℕ) (rule : Rule) (from to : List Term) (set : List Bool) (claim : Claim)
+    → MeetOne entries (sides_asked rule) from to set → IsAsked number rule (taken from to) claim → IsCovered (InWorld entries set) claim
+one_covered entries number (tuple body head) from to set claim (one, other, is, in_one, in_other, touches) asked =
+    let long : 0 ≡ length (one ∷ other ∷ []) = ap length is in absurd (omega (arith, long))
+one_covered entries number (equality body left right) from to set claim (one, other, is, in_one, in_other, touches) asked =
+    let left_is : left ≡ one = ap (λ it. get_or it 0 left) is in
+    let right_is : right ≡ other = ap (λ it. get_or it 1 right) is in
+    subst (IsCovered (InWorld entries set)) (sym asked)
+    (subst (λ it. Touching (InWorld entries set) (taken from to it) (taken from to right)) (sym left_is)
+    (subst (λ it. Touching (InWorld entries set) (taken from to one) (taken from to it)) (sym right_is) touches))
+one_covered entries number (denial body) from to set claim one asked = absurd asked
+
 pub IsAnswered-grows : (entries more later : List Entry) (number : ℕ) (rule : Rule) (way : Way) → ((entry : Entry) → Contains more entry → Contains later entry)
     → IsAnswered (entries ++ more) number rule way → IsAnswered (entries ++ later) number rule way
 IsAnswered-grows entries more later number rule way kept answered claim asked = IsThere-grows entries more later kept claim way.product (answered claim asked)
@@ -197,14 +210,18 @@ module _ (rules : List Rule) (count : ℕ) (entries : List Entry) (number : ℕ)
         ]),
       )
 
-  pub ways_all : (since place : ℕ) (more : List Entry) → length items ≤ place → AreFoundAnew entries since (body_of rule) (terms_asked rule) ways
+  pub ways_all : (since place : ℕ) (more : List Entry) → length items ≤ place
+      → AreFoundAnew entries since (body_of rule) (terms_asked rule) (sides_asked rule) ways
       → IsRuleAnswered (take since entries) entries number rule
       → ((its : Way) → Contains (take place items) its → IsAnswered (entries ++ more) number rule its) → IsRuleAnswered entries (entries ++ more) number rule
   ways_all since place more past found before answered atoms chosen matches claim asked = elim (found.complete atoms chosen matches) [
     | inl older ↦
         IsCovered-more (InWorld-more entries (entries ++ more) atoms (λ entry inside. Contains-append_left entries more entry inside)) claim
         (before atoms older.0 older.2 claim (asked_too (terms_of older.0) older.1))
-    | inr way ↦
+    | inr (inr one) ↦
+        IsCovered-more (InWorld-more entries (entries ++ more) atoms (λ entry inside. Contains-append_left entries more entry inside)) claim
+        (one_covered entries number rule (terms_of (body_of rule)) (terms_of chosen) atoms claim one asked)
+    | inr (inl way) ↦
         let inside : Contains (take place items) way.0 = rw (take_all place items past) (subst (λ it. Contains it way.0) (sym items_are) way.1) in
         answered way.0 inside claim (asked_too way.0.to way.2) atoms way.3
   ]
@@ -214,12 +231,13 @@ module _ (rules : List Rule) (count : ℕ) (entries : List Entry) (number : ℕ)
       asked_too to agree = IsAsked-agree number rule (match_map (body_of rule) chosen) (taken (terms_of (body_of rule)) to)
           (λ term its. sym (agree term its)) claim asked
 
-pub found_of : (entries its_entries : List Entry) (since : ℕ) (body its_body : List (Fact Term)) (live its_live : List Term) (ways : List Way)
-    → its_entries ≡ entries → its_body ≡ body → its_live ≡ live → AreFoundAnew its_entries since its_body its_live ways
-    → AreFoundAnew entries since body live ways
-found_of entries its_entries since body its_body live its_live ways same_entries same same_live found =
-    subst (λ it. AreFoundAnew it since body live ways) same_entries
-    (subst (λ it. AreFoundAnew its_entries since it live ways) same (subst (λ it. AreFoundAnew its_entries since its_body it ways) same_live found))
+pub found_of : (entries its_entries : List Entry) (since : ℕ) (body its_body : List (Fact Term)) (live its_live sides its_sides : List Term)
+    (ways : List Way) → its_entries ≡ entries → its_body ≡ body → its_live ≡ live → its_sides ≡ sides
+    → AreFoundAnew its_entries since its_body its_live its_sides ways → AreFoundAnew entries since body live sides ways
+found_of entries its_entries since body its_body live its_live sides its_sides ways same_entries same same_live same_sides found =
+    subst (λ it. AreFoundAnew it since body live sides ways) same_entries
+    (subst (λ it. AreFoundAnew its_entries since it live sides ways) same (subst (λ it. AreFoundAnew its_entries since its_body it sides ways) same_live
+    (subst (λ it. AreFoundAnew its_entries since its_body its_live it ways) same_sides found)))
 
 -- ---- all rules
 

@@ -1,8 +1,8 @@
 -- What goes on from a way: kept ways, places that tell, supports, and a fact's row.
-use Rattle.std.proofs.Common.{◌≡◌, ◌≢◌, ◌⊎◌, ◌<◌, ◌≤◌, ◌+◌, inl, inr, zero, suc, ℕ, Bool, true, false, cond, List, [], ◌∷◌, ◌++◌, length, map, take, get_or, slice_get}
+use Rattle.std.proofs.Common.{◌≡◌, ◌⊎◌, ◌<◌, ◌≤◌, ◌+◌, inl, inr, zero, suc, ℕ, Bool, true, false, cond, List, [], ◌∷◌, ◌++◌, length, map, take, get_or, slice_get}
 use Rattle.std.proofs.Common.{◌==◌}
 use Rattle.std.proofs.lemmas.Bool.Decides.{nat_tests}
-use Rattle.std.proofs.Common.{Contains, Some, refl, sym, ap, ◌∙◌, subst, arith}
+use Rattle.std.proofs.Common.{Contains, Option, None, Some, MatchOption, IfSome, refl, sym, ap, ◌∙◌, subst, arith}
 use Rattle.std.specs.List.{AllZip}
 use Rattle.std.proofs.lemmas.List.{get_or_default, length-append, length-map}
 use Rattle.std.proofs.lemmas.List.Elements.{Contains-append_left, Contains-push, Contains-push_cases}
@@ -27,9 +27,10 @@ use Rattle.esto_world_laws.specs.declared.entry.Claim.{Claim}
 use Rattle.esto_world_laws.specs.declared.entry.Claim.TheVariants.{Fact as Stated}
 use Rattle.esto_world_laws.specs.declared.entry.Entry.{Entry}
 use Rattle.esto_world_laws.proofs.LinkLemmas.{Touching-more}
+use Rattle.esto_world_laws.proofs.GrowLemmas.{InWorld-within}
 use Rattle.esto_world_laws.proofs.TakenLemmas.{taken-Const, taken_cases, Fits-join}
 use Rattle.esto_condchase.proofs.WayLemmas.{IsUnion-more, last_more, fact_more, within_united, taken-apart, IsNamed-held}
-use Rattle.esto_condchase.specs.Ways.{AreCounted, Grown, AreAllLive, AreAllFacts, IsFirstAt, TellsOne, HasWay, HasSupport, meets, IsLinkedFrom, TouchesFrom}
+use Rattle.esto_condchase.specs.Ways.{AreCounted, Grown, AreAllLive, AreAllFacts, IsFirstAt, IsMetAt, TellsOne, HasWay, IsTold, HasSupport, meets, IsLinkedFrom, TouchesFrom}
 use Rattle.esto_condchase.specs.Ways.{IsStale, AreFresh, IsFreeLink, floor_of, PassesTo, PassesIn, IsPassedAt, IsLonger, IsSupport, AreLonger, AreSupports, ComesBy, Comes, extended, IsOldWay, GoesOn}
 use Rattle.esto_known.specs.Indexes.{HasSide}
 use Rattle.esto_condchase.specs.declared.passing.Support.{Support}
@@ -78,6 +79,44 @@ pub way_wider : (places : List ℕ) (ways : List Way) (to : List Term) (small se
     → HasWay places ways to set
 way_wider places ways to small set (way, inside, agree, within) wider = (way, inside, agree, λ number has. wider number (within number has))
 
+pub told_kept : (entries : List Entry) (sides : Option (ℕ × ℕ)) (places : List ℕ) (ways later : List Way) (to : List Term) (set : List Bool)
+    → ((way : Way) → Contains ways way → Contains later way) → IsTold entries sides places ways to set → IsTold entries sides places later to set
+told_kept entries sides places ways later to set kept told = elim told [
+  | inl way ↦ inl (way_kept places ways later to set kept way)
+  | inr one ↦ inr one
+]
+
+pub told_wider : (entries : List Entry) (sides : Option (ℕ × ℕ)) (places : List ℕ) (ways : List Way) (to : List Term) (small set : List Bool)
+    → IsTold entries sides places ways to small → Within small set → IsTold entries sides places ways to set
+told_wider entries sides places ways to small set told wider = elim told [
+  | inl way ↦ inl (way_wider places ways to small set way wider)
+  | inr (left, right, is, own, other, at, at_other, touches) ↦
+      inr (left, right, is, own, other, at, at_other, Touching-more (InWorld-within entries small set wider) own other touches)
+]
+
+-- ---- two sides
+
+pub met_at : (from : List Term) (term : Term) (place : ℕ) → (IsConstant term → ⊥) → IsFirstAt from term place → IsMetAt from term place
+met_at from term place apart (at, first) = (
+  Contains-at from place term at,
+  (λ to it l at_it. elim (taken_cases term) [
+    | inl constant ↦ absurd (apart constant)
+    | inr is ↦ first to it l at_it ∙ sym (is from to)
+  ]),
+)
+
+pub some_met : (from : List Term) (term : Term) (found : Option ℕ) → (IsConstant term → ⊥)
+    → MatchOption found (Contains from term → ⊥) (λ place. IsFirstAt from term place) → IfSome found (λ place. IsMetAt from term place)
+some_met from term None apart none = tt
+some_met from term (Some place) apart first = met_at from term place apart first
+
+pub two_sides : (sides : List Term) (left right d e : Term) → length sides ≡ 2 → left ≡ get_or sides 0 d → right ≡ get_or sides 1 e
+    → sides ≡ left ∷ right ∷ []
+two_sides [] left right d e long left_is right_is = absurd (omega (arith, long))
+two_sides (one ∷ []) left right d e long left_is right_is = absurd (omega (arith, long))
+two_sides (one ∷ two ∷ []) left right d e long left_is right_is = λ i. sym left_is i ∷ sym right_is i ∷ []
+two_sides (one ∷ two ∷ three ∷ more) left right d e long left_is right_is = absurd (omega (arith, long))
+
 pub support_kept : (supports later : List Support) (set : List Bool) → ((support : Support) → Contains supports support → Contains later support)
     → HasSupport supports set → HasSupport later set
 support_kept supports later set kept (support, inside, within) = (support, kept support inside, within)
@@ -101,7 +140,7 @@ first_is (first ∷ from) term (suc place) early at (target ∷ to) it l at_to =
 pub first_here : (from : List Term) (term other : Term) (place : ℕ) → place < length from → other ≡ get_or from place other → term ≡ other
     → HoldsBelow (λ _ (it : Term). term ≡ it → ⊥) from place → IsFirstAt from term place
 first_here from term other place within is same early =
-    (within, first_is from term place early (subst (λ it. slice_get from place ≡ Some it) (sym same) (item_at from place other within is)))
+    let at = subst (λ it. slice_get from place ≡ Some it) (sym same) (item_at from place other within is) in (at, first_is from term place early at)
 
 pub tells_constant : (from : List Term) (places : List ℕ) (term : Term) → IsConstant term → TellsOne from places term
 tells_constant from places term (text, is) to others l k agree =
@@ -111,9 +150,10 @@ pub tells_apart : (from : List Term) (places : List ℕ) (term : Term) → (Cont
 tells_apart from places term apart to others l k agree = taken-apart from to others term apart
 
 pub tells_first : (from : List Term) (places : List ℕ) (term : Term) (place : ℕ) → IsFirstAt from term place → Contains places place → TellsOne from places term
-tells_first from places term place (within, first) inside to others l k agree = elim (taken_cases term) [
+tells_first from places term place (at, first) inside to others l k agree = elim (taken_cases term) [
   | inl constant ↦ tells_constant from places term constant to others l k agree
   | inr is ↦
+      let within = slice_get_within from place term at in
       let one = thing_at to place (omega (arith, within, l)) in
       let other = thing_at others place (omega (arith, within, k)) in
       let same : one.0 ≡ other.0 = same_Some one.0 other.0 (sym one.1 ∙ agree place inside ∙ other.1) in
@@ -471,16 +511,16 @@ kept_come entries from terms its_to owns before place entry product start few su
     (come_by entries from terms its_to owns before place entry product start support few to_is rows at product_is start_is few_is
     (its support (subst (λ it. Contains it support) same inside)))) grown
 
-pub kept_there : (entries : List Entry) (m : Term → Term) (terms owns to : List Term) (at floor few : ℕ) (places : List ℕ) (ways later : List Way)
-    (start : Support) (supports items : List Support) → items ≡ supports → ((way : Way) → Contains ways way → Contains later way)
-    → AreSupports entries m terms owns at floor (HasWay places ways to) start few supports
-    → ((support : Support) → Contains items support → HasWay places later to support.product)
-    → (set : List Bool) → Within start.product set → PassesTo entries m terms owns at floor set few → HasWay places later to set
-kept_there entries m terms owns to at floor few places ways later start supports items same kept its there set within passes =
+pub kept_there : (entries : List Entry) (m : Term → Term) (terms owns to : List Term) (at floor few : ℕ) (sides : Option (ℕ × ℕ)) (places : List ℕ)
+    (ways later : List Way) (start : Support) (supports items : List Support) → items ≡ supports → ((way : Way) → Contains ways way → Contains later way)
+    → AreSupports entries m terms owns at floor (IsTold entries sides places ways to) start few supports
+    → ((support : Support) → Contains items support → IsTold entries sides places later to support.product)
+    → (set : List Bool) → Within start.product set → PassesTo entries m terms owns at floor set few → IsTold entries sides places later to set
+kept_there entries m terms owns to at floor few sides places ways later start supports items same kept its there set within passes =
     elim (its.go_on set within passes) [
       | inl (support, inside, support_within) ↦
-          way_wider places later to support.product set (there support (subst (λ it. Contains it support) (sym same) inside)) support_within
-      | inr settled ↦ way_kept places ways later to set kept settled
+          told_wider entries sides places later to support.product set (there support (subst (λ it. Contains it support) (sym same) inside)) support_within
+      | inr settled ↦ told_kept entries sides places ways later to set kept settled
     ]
 
 pub counted_come : (count place : ℕ) (owns : List Term) (before : Way) (items supports : List Support) (ways later : List Way) → items ≡ supports
@@ -493,25 +533,25 @@ counted_come count place owns before items supports ways later same grown counts
 -- ---- an atom
 
 -- what the entry at a place lets go on
-abbrev pub GoesAt : List Entry → List Term → Fact Term → List ℕ → Way → List Way → ℕ → ℕ → Type 0
-GoesAt entries from atom places before ways floor place = (entry : Entry) (fact : Fact Term) (set : List Bool) → slice_get entries place ≡ Some entry
+abbrev pub GoesAt : List Entry → List Term → Fact Term → Option (ℕ × ℕ) → List ℕ → Way → List Way → ℕ → ℕ → Type 0
+GoesAt entries from atom sides places before ways floor place = (entry : Entry) (fact : Fact Term) (set : List Bool) → slice_get entries place ≡ Some entry
     → entry.claim ≡ Stated fact → IsLike atom fact → Within before.product set → Within entry.product set
     → PassesIn entries (meets from atom.terms before.to fact.terms) atom.terms fact.terms set
-    → HasWay places ways (before.to ++ fact.terms) set
+    → IsTold entries sides places ways (before.to ++ fact.terms) set
     ⊎ ((0 < floor) × PassesIn (take floor entries) (meets from atom.terms before.to fact.terms) atom.terms fact.terms set)
 
 -- the same, once it is known what is old
-abbrev pub GoesSince : List Entry → ℕ → List Term → Fact Term → List ℕ → Way → List Way → ℕ → Type 0
-GoesSince entries since from atom places before ways place = (entry : Entry) (fact : Fact Term) (set : List Bool) → slice_get entries place ≡ Some entry
+abbrev pub GoesSince : List Entry → ℕ → List Term → Fact Term → Option (ℕ × ℕ) → List ℕ → Way → List Way → ℕ → Type 0
+GoesSince entries since from atom sides places before ways place = (entry : Entry) (fact : Fact Term) (set : List Bool) → slice_get entries place ≡ Some entry
     → entry.claim ≡ Stated fact → IsLike atom fact → Within before.product set → Within entry.product set
     → PassesIn entries (meets from atom.terms before.to fact.terms) atom.terms fact.terms set
-    → HasWay places ways (before.to ++ fact.terms) set
+    → IsTold entries sides places ways (before.to ++ fact.terms) set
     ⊎ (IsOldWay since before × (place < since) × PassesIn (take since entries) (meets from atom.terms before.to fact.terms) atom.terms fact.terms set)
 
-module _ (entries : List Entry) (from : List Term) (atom : Fact Term) (places : List ℕ) (before : Way) where
+module _ (entries : List Entry) (from : List Term) (atom : Fact Term) (sides : Option (ℕ × ℕ)) (places : List ℕ) (before : Way) where
   pub at_since : (since floor place : ℕ) (new : Bool) (ways : List Way) → (0 < floor → (new ≡ false) × (place < since) × (floor ≡ since))
-      → (new ≡ false → IsOldWay since before) → GoesAt entries from atom places before ways floor place
-      → GoesSince entries since from atom places before ways place
+      → (new ≡ false → IsOldWay since before) → GoesAt entries from atom sides places before ways floor place
+      → GoesSince entries since from atom sides places before ways place
   at_since since floor place new ways floors old goes entry fact set at states like within its_within passes =
       elim (goes entry fact set at states like within its_within passes) [
         | inl there ↦ inl there
@@ -521,30 +561,31 @@ module _ (entries : List Entry) (from : List Term) (atom : Fact Term) (places : 
       ]
 
   pub since_kept : (since place : ℕ) (ways later : List Way) → ((way : Way) → Contains ways way → Contains later way)
-      → GoesSince entries since from atom places before ways place → GoesSince entries since from atom places before later place
+      → GoesSince entries since from atom sides places before ways place → GoesSince entries since from atom sides places before later place
   since_kept since place ways later kept goes entry fact set at states like within its_within passes =
       elim (goes entry fact set at states like within its_within passes) [
-        | inl there ↦ inl (way_kept places ways later (before.to ++ fact.terms) set kept there)
+        | inl there ↦ inl (told_kept entries sides places ways later (before.to ++ fact.terms) set kept there)
         | inr old ↦ inr old
       ]
 
   pub goes_all : (since : ℕ) (facts : List ℕ) (ways : List Way) → AreAllFacts entries atom.relation facts
-      → ((place : ℕ) → Contains facts place → GoesSince entries since from atom places before ways place)
-      → GoesOn entries since from atom places before ways
+      → ((place : ℕ) → Contains facts place → GoesSince entries since from atom sides places before ways place)
+      → GoesOn entries since from atom sides places before ways
   goes_all since facts ways live each set fact within (entry, inside, entry_within, is) like passes =
       let at = place-from_Contains entries entry inside in
-      let it = live at.0 entry fact at.1 is like.0 in
+      let it = live fact like.0 at.0 entry at.1 is in
       let its_within : Within it.1.product set = λ number has. entry_within number (it.6 number has) in
       elim (each it.0 it.2 it.1 fact set it.4 it.5 like within its_within passes) [
         | inl there ↦ inl there
         | inr (old, early, its) ↦ inr (old, (it.1, Contains-take entries since it.0 it.1 early it.4, its_within, it.5), its)
       ]
 
-pub goes_kept : (entries : List Entry) (since : ℕ) (from : List Term) (atom : Fact Term) (places : List ℕ) (before : Way) (ways later : List Way)
-    → ((way : Way) → Contains ways way → Contains later way) → GoesOn entries since from atom places before ways
-    → GoesOn entries since from atom places before later
-goes_kept entries since from atom places before ways later kept goes set fact within holds like passes = elim (goes set fact within holds like passes) [
-  | inl there ↦ inl (way_kept places ways later (before.to ++ fact.terms) set kept there)
+pub goes_kept : (entries : List Entry) (since : ℕ) (from : List Term) (atom : Fact Term) (sides : Option (ℕ × ℕ)) (places : List ℕ) (before : Way)
+    (ways later : List Way)
+    → ((way : Way) → Contains ways way → Contains later way) → GoesOn entries since from atom sides places before ways
+    → GoesOn entries since from atom sides places before later
+goes_kept entries since from atom sides places before ways later kept goes set fact within holds like passes = elim (goes set fact within holds like passes) [
+  | inl there ↦ inl (told_kept entries sides places ways later (before.to ++ fact.terms) set kept there)
   | inr old ↦ inr old
 ]
 
@@ -610,20 +651,20 @@ entry_grown entries from terms owns atom fact before place entry ways later term
       subst (λ it. ComesBy entries from atom.terms before place it way) owns_is (subst (λ it. ComesBy entries from it before place owns way) terms_is by),
     )) grown
 
-pub entry_goes : (entries : List Entry) (from terms to owns : List Term) (atom fact : Fact Term) (places : List ℕ) (before : Way) (place floor : ℕ)
-    (entry : Entry) (later : List Way) → terms ≡ atom.terms → to ≡ before.to → owns ≡ fact.terms → slice_get entries place ≡ Some entry
+pub entry_goes : (entries : List Entry) (from terms to owns : List Term) (atom fact : Fact Term) (sides : Option (ℕ × ℕ)) (places : List ℕ) (before : Way)
+    (place floor : ℕ) (entry : Entry) (later : List Way) → terms ≡ atom.terms → to ≡ before.to → owns ≡ fact.terms → slice_get entries place ≡ Some entry
     → entry.claim ≡ Stated fact
     → ((set : List Bool) → Within before.product set → Within entry.product set → PassesIn entries (meets from terms to owns) terms owns set
-    → HasWay places later (to ++ owns) set ⊎ ((0 < floor) × PassesIn (take floor entries) (meets from terms to owns) terms owns set))
-    → GoesAt entries from atom places before later floor place
-entry_goes entries from terms to owns atom fact places before place floor entry later terms_is to_is owns_is at states there its its_fact set its_at its_states
+    → IsTold entries sides places later (to ++ owns) set ⊎ ((0 < floor) × PassesIn (take floor entries) (meets from terms to owns) terms owns set))
+    → GoesAt entries from atom sides places before later floor place
+entry_goes entries from terms to owns atom fact sides places before place floor entry later terms_is to_is owns_is at states there its its_fact set its_at its_states
     like within its_within passes =
     let entry_is : entry ≡ its = same_Some entry its (sym at ∙ its_at) in
     let claims : Stated fact ≡ Stated its_fact = sym states ∙ ap (λ (it : Entry). it.claim) entry_is ∙ its_states in
     let fact_is : fact ≡ its_fact = cc in
     let all : owns ≡ its_fact.terms = owns_is ∙ ap (λ (it : Fact Term). it.terms) fact_is in
     let Goes : List Term → List Term → List Term → Type 0 = λ terms to owns. PassesIn entries (meets from terms to owns) terms owns set
-    → HasWay places later (to ++ owns) set ⊎ ((0 < floor) × PassesIn (take floor entries) (meets from terms to owns) terms owns set) in
+    → IsTold entries sides places later (to ++ owns) set ⊎ ((0 < floor) × PassesIn (take floor entries) (meets from terms to owns) terms owns set) in
     subst (λ it. Goes atom.terms before.to it) all (subst (λ it. Goes atom.terms it owns) to_is (subst (λ it. Goes it to owns) terms_is
     (there set within (subst (λ (it : Entry). Within it.product set) (sym entry_is) its_within)))) passes
 
@@ -687,10 +728,11 @@ told_all places ways to items none bound product same long empty below (way, ins
   within,
 )
 
-pub goes_told : (entries : List Entry) (since : ℕ) (from : List Term) (atom : Fact Term) (places : List ℕ) (before : Way) (ways : List Way)
-    → ((owns : List Term) → HasWay places ways (before.to ++ owns) before.product) → GoesOn entries since from atom places before ways
-goes_told entries since from atom places before ways told set fact within holds like passes =
-    inl (way_wider places ways (before.to ++ fact.terms) before.product set (told fact.terms) within)
+pub goes_told : (entries : List Entry) (since : ℕ) (from : List Term) (atom : Fact Term) (sides : Option (ℕ × ℕ)) (places : List ℕ) (before : Way)
+    (ways : List Way)
+    → ((owns : List Term) → HasWay places ways (before.to ++ owns) before.product) → GoesOn entries since from atom sides places before ways
+goes_told entries since from atom sides places before ways told set fact within holds like passes =
+    inl (inl (way_wider places ways (before.to ++ fact.terms) before.product set (told fact.terms) within))
 
 -- ---- facts that make nothing new
 
@@ -698,9 +740,10 @@ says_side : (claim : Claim) (own goal : Term) → SaysOne claim own goal → Has
 says_side claim own goal (inl is) = subst (λ it. HasSide it own) (sym is) (inl refl)
 says_side claim own goal (inr is) = subst (λ it. HasSide it own) (sym is) (inr refl)
 
-pub stale_goes : (entries : List Entry) (since : ℕ) (from : List Term) (atom : Fact Term) (places : List ℕ) (before : Way) (ways : List Way) (place : ℕ)
-    → IsOldWay since before → IsStale entries since place → GoesSince entries since from atom places before ways place
-stale_goes entries since from atom places before ways place old (early, stale) entry fact set at states like within its_within passes = inr (
+pub stale_goes : (entries : List Entry) (since : ℕ) (from : List Term) (atom : Fact Term) (sides : Option (ℕ × ℕ)) (places : List ℕ) (before : Way)
+    (ways : List Way) (place : ℕ)
+    → IsOldWay since before → IsStale entries since place → GoesSince entries since from atom sides places before ways place
+stale_goes entries since from atom sides places before ways place old (early, stale) entry fact set at states like within its_within passes = inr (
   old,
   early,
   all_old entries (meets from atom.terms before.to fact.terms) atom.terms fact.terms since (length fact.terms) like.1 (omega arith)
@@ -711,15 +754,16 @@ stale_goes entries since from atom places before ways place old (early, stale) e
       set passes,
 )
 
-pub tried_goes : (entries : List Entry) (since : ℕ) (from : List Term) (atom : Fact Term) (places : List ℕ) (before : Way) (ways : List Way)
+pub tried_goes : (entries : List Entry) (since : ℕ) (from : List Term) (atom : Fact Term) (sides : Option (ℕ × ℕ)) (places : List ℕ) (before : Way)
+    (ways : List Way)
     (new : Bool) (facts fresh tried : List ℕ) → (new ≡ false → IsOldWay since before) → AreFresh entries since facts fresh
     → ((new ≡ true) × (tried ≡ facts)) ⊎ ((new ≡ false) × (tried ≡ fresh))
-    → ((place : ℕ) → Contains tried place → GoesSince entries since from atom places before ways place)
-    → (place : ℕ) → Contains facts place → GoesSince entries since from atom places before ways place
-tried_goes entries since from atom places before ways new facts fresh tried old are_fresh which each place inside = elim which [
+    → ((place : ℕ) → Contains tried place → GoesSince entries since from atom sides places before ways place)
+    → (place : ℕ) → Contains facts place → GoesSince entries since from atom sides places before ways place
+tried_goes entries since from atom sides places before ways new facts fresh tried old are_fresh which each place inside = elim which [
   | inl (is, all) ↦ each place (subst (λ it. Contains it place) (sym all) inside)
   | inr (is, some) ↦ elim (are_fresh place inside) [
     | inl there ↦ each place (subst (λ it. Contains it place) (sym some) there)
-    | inr stale ↦ stale_goes entries since from atom places before ways place (old is) stale
+    | inr stale ↦ stale_goes entries since from atom sides places before ways place (old is) stale
   ]
 ]

@@ -1,5 +1,5 @@
 -- Ways that grow by one term, by a row, by an atom and by a body.
-use Rattle.std.proofs.Common.{◌≡◌, ◌≢◌, ◌⊎◌, ◌↔◌, ◌<◌, ◌≤◌, ◌+◌, inl, inr, zero, suc, ℕ, Bool, true, false, cond, List, [], ◌∷◌, ◌++◌, length, map, take, drop, get_or, slice_get, slice_range, ◌-◌}
+use Rattle.std.proofs.Common.{◌≡◌, ◌⊎◌, ◌↔◌, ◌<◌, ◌≤◌, ◌+◌, inl, inr, zero, suc, ℕ, Bool, true, false, cond, List, [], ◌∷◌, ◌++◌, length, map, take, drop, get_or, slice_get, slice_range, ◌-◌}
 use Rattle.std.proofs.Common.{Contains, Some, refl, sym, ap, ◌∙◌, subst, arith}
 use Rattle.std.specs.List.{AllZip}
 use Rattle.std.proofs.lemmas.List.{append-nil, append_assoc, length-append, length-drop, take_all, drop_all}
@@ -207,9 +207,9 @@ row_agrees One terms from to others owns agree row =
 
 -- ---- a body
 
-pub found_none : (entries : List Entry) (live : List Term) (ways : List Way) (way : Way) → ways ≡ way ∷ [] → way.to ≡ [] → way.facts ≡ [] → way.links ≡ []
-    → ((number : ℕ) → Has way.product number → ⊥) → AreFound entries [] live ways
-found_none entries live ways way are no_to no_facts no_links empty = rw are record {
+pub found_none : (entries : List Entry) (live sides : List Term) (ways : List Way) (way : Way) → ways ≡ way ∷ [] → way.to ≡ [] → way.facts ≡ [] → way.links ≡ []
+    → ((number : ℕ) → Has way.product number → ⊥) → AreFound entries [] live sides ways
+found_none entries live sides ways way are no_to no_facts no_links empty = rw are record {
   sound = λ it inside. one_of (IsFound entries []) way it inside (record {
     chosen = [];
     stated = subst (λ its. AllZip (λ (place : ℕ) (fact : Fact Term). Claims entries place (Stated fact)) its []) (sym no_facts) tt;
@@ -224,7 +224,7 @@ found_none entries live ways way are no_to no_facts no_links empty = rw are reco
           rw (no_facts, no_links) (IsUnion-none entries way.product empty);
     };
   });
-  complete = λ atoms chosen matches. none atoms chosen matches;
+  complete = λ atoms chosen matches. inl (none atoms chosen matches);
 }
   where
     none : (atoms : List Bool) (chosen : List (Fact Term)) → IsDirectMatch (InWorld entries atoms) [] chosen → (it : Way) × Contains (way ∷ []) it
@@ -265,9 +265,9 @@ same_take [] (y ∷ ys) (suc place) same = absurd (omega (arith, same))
 same_take (x ∷ xs) [] (suc place) same = absurd (omega (arith, same))
 same_take (x ∷ xs) (y ∷ ys) (suc place) same = let rest = same_take xs ys place (omega (arith, same)) in omega (arith, rest)
 
-pub found_lengths : (entries : List Entry) (body : List (Fact Term)) (live : List Term) (ways items : List Way) (from : List Term)
-    → AreFound entries body live ways → items ≡ ways → from ≡ terms_of body → (way : Way) → Contains items way → length from ≡ length way.to
-found_lengths entries body live ways items from found same from_is way inside =
+pub found_lengths : (entries : List Entry) (body : List (Fact Term)) (live sides : List Term) (ways items : List Way) (from : List Term)
+    → AreFound entries body live sides ways → items ≡ ways → from ≡ terms_of body → (way : Way) → Contains items way → length from ≡ length way.to
+found_lengths entries body live sides ways items from found same from_is way inside =
     let it = found.sound way (subst (λ its. Contains its way) same inside) in
     ap length from_is ∙ it.is_way.lengths ∙ ap length (sym it.is_way.to_is)
 
@@ -280,11 +280,11 @@ pub live_turn : (body : List (Fact Term)) (asked : List Term) (place : ℕ) (ato
 live_turn body asked place atom within is = ap (λ (it : List (Fact Term)). terms_of it ++ asked) (drop-item body place atom within is)
     ∙ append_assoc atom.terms (terms_of (drop (place + 1) body)) asked
 
-pub body_all : (entries : List Entry) (body : List (Fact Term)) (asked : List Term) (place : ℕ) (ways : List Way) → length body ≤ place
-    → AreFound entries (take place body) (terms_of (drop place body) ++ asked) ways → AreFound entries body asked ways
-body_all entries body asked place ways past found =
-    subst (λ it. AreFound entries it asked ways) (take_all place body past)
-    (subst (λ (it : List (Fact Term)). AreFound entries (take place body) (terms_of it ++ asked) ways) (drop_all place body past) found)
+pub body_all : (entries : List Entry) (body : List (Fact Term)) (asked sides : List Term) (place : ℕ) (ways : List Way) → length body ≤ place
+    → AreFound entries (take place body) (terms_of (drop place body) ++ asked) sides ways → AreFound entries body asked sides ways
+body_all entries body asked sides place ways past found =
+    subst (λ it. AreFound entries it asked sides ways) (take_all place body past)
+    (subst (λ (it : List (Fact Term)). AreFound entries (take place body) (terms_of it ++ asked) sides ways) (drop_all place body past) found)
 
 pub from_turn : (body : List (Fact Term)) (place : ℕ) (atom : Fact Term) (from later copied : List Term) → place < length body → atom ≡ get_or body place atom
     → from ≡ terms_of (take place body) → copied ≡ atom.terms → later ≡ from ++ copied

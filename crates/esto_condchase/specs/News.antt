@@ -10,7 +10,7 @@ use Rattle.esto_world_laws.specs.Worlds.{InWorld}
 use Rattle.esto_world_laws.specs.declared.entry.Claim.{Claim}
 use Rattle.esto_world_laws.specs.declared.entry.Claim.TheVariants.{Fact as Stated, Same}
 use Rattle.esto_world_laws.specs.declared.entry.Entry.{Entry}
-use Rattle.esto_condchase.specs.Ways.{AgreeOn, IsFound}
+use Rattle.esto_condchase.specs.Ways.{AgreeOn, IsFound, MeetOne}
 use Rattle.esto_condchase.specs.declared.ways.Way.{Way}
 
 -- No match of the body uses the claim: it is a fact of a relation that no atom of the body has.
@@ -30,9 +30,10 @@ IsOlder entries since body live atoms terms =
     (chosen : List (Fact Term)) × AgreeOn live (terms_of body) (terms_of chosen) terms × IsDirectMatch (InWorld (take since entries) atoms) body chosen
 
 -- The ways are direct matches of the body, and in each world each direct match agrees on the live terms with one of them, or with a direct match among the
--- first few entries.
-pub record AreFoundAnew (entries : List Entry) (since : ℕ) (body : List (Fact Term)) (live : List Term) (ways : List Way) : Type 0 where
+-- first few entries, or the two sides meet terms that are one already.
+pub record AreFoundAnew (entries : List Entry) (since : ℕ) (body : List (Fact Term)) (live sides : List Term) (ways : List Way) : Type 0 where
   pub sound : (way : Way) → Contains ways way → IsFound entries body way
   pub complete : (atoms : List Bool) (chosen : List (Fact Term)) → IsDirectMatch (InWorld entries atoms) body chosen
       → IsOlder entries since body live atoms (terms_of chosen)
-      ⊎ ((way : Way) × Contains ways way × AgreeOn live (terms_of body) way.to (terms_of chosen) × Within way.product atoms)
+      ⊎ (((way : Way) × Contains ways way × AgreeOn live (terms_of body) way.to (terms_of chosen) × Within way.product atoms)
+      ⊎ MeetOne entries sides (terms_of body) (terms_of chosen) atoms)

@@ -46,11 +46,15 @@ pub record AsksMore (rules : List Rule) (count : ℕ) (entries asked later : Lis
 abbrev pub IsThere : List Entry → Claim → List Bool → Type 0
 IsThere entries claim product = (atoms : List Bool) → Within product atoms → IsCovered (InWorld entries atoms) claim
 
--- The later entries are the earlier ones, and perhaps others after them, which follow; and they cover what was asked for.
-pub record IsGrownBy (rules : List Rule) (count : ℕ) (entries asked later : List Entry) : Type 0 where
+-- The later entries are the earlier ones, and perhaps others after them, which follow; and they cover each entry that is so.
+pub record IsGrown (rules : List Rule) (entries : List Entry) (IsSo : Entry → Type 0) (later : List Entry) : Type 0 where
   pub more : (others : List Entry) × (later ≡ entries ++ others)
   pub derived : (expanded : List ExpandedFact) → AreDerived expanded rules entries → AreDerived expanded rules later
-  pub there : (entry : Entry) → Contains asked entry → IsThere later entry.claim entry.product
+  pub there : (entry : Entry) → IsSo entry → IsThere later entry.claim entry.product
+
+-- They have grown so by all that was asked for.
+abbrev pub IsGrownBy : List Rule → List Entry → List Entry → List Entry → Type 0
+IsGrownBy rules entries asked later = IsGrown rules entries (Contains asked) later
 
 -- The entry at the place is added to the entries, if there is one.
 abbrev pub IsAddedAt : List Entry → List Entry → ℕ → List Entry → Type 0
@@ -58,11 +62,10 @@ IsAddedAt entries asked place later =
     ((entry : Entry) × (slice_get asked place ≡ Some entry) × IsAdded entries entry.claim entry.product entry.reason later)
     ⊎ ((length asked ≤ place) × (later ≡ entries))
 
--- The later entries are the earlier ones, and perhaps others after them, which follow; and they cover what was asked for in these turns.
-pub record IsGrownIn (rules : List Rule) (count : ℕ) (entries asked : List Entry) (turns : List Turn) (later : List Entry) : Type 0 where
-  pub more : (others : List Entry) × (later ≡ entries ++ others)
-  pub derived : (expanded : List ExpandedFact) → AreDerived expanded rules entries → AreDerived expanded rules later
-  pub there : (turn : Turn) (entry : Entry) → Contains turns turn → slice_get asked turn.place ≡ Some entry → IsThere later entry.claim entry.product
+-- They have grown so by what was asked for in these turns.
+abbrev pub IsGrownIn : List Rule → List Entry → List Entry → List Turn → List Entry → Type 0
+IsGrownIn rules entries asked turns later =
+    IsGrown rules entries (λ entry. (turn : Turn) × Contains turns turn × (slice_get asked turn.place ≡ Some entry)) later
 
 -- The entry is that of the expanded fact: it states the fact, its product is the fact's atom alone, and its reason names the atom and the fact's place.
 pub record IsEntryOf (fact : ExpandedFact) (entry : Entry) : Type 0 where
@@ -80,6 +83,12 @@ abbrev pub terms_asked : Rule → List Term
 terms_asked (tuple body head) = terms_of head
 terms_asked (equality body left right) = left ∷ right ∷ []
 terms_asked (denial body) = []
+
+-- The two sides of an equality rule. No other rule has sides.
+abbrev pub sides_asked : Rule → List Term
+sides_asked (tuple body head) = []
+sides_asked (equality body left right) = left ∷ right ∷ []
+sides_asked (denial body) = []
 
 -- The claims that the rule asks for at the way are there.
 abbrev pub IsAnswered : List Entry → ℕ → Rule → Way → Type 0

@@ -1,5 +1,5 @@
 -- Ways to match the first atoms of a body, with the entries that they use.
-use Rattle.std.specs.Prelude.{◌≡◌, ◌⊎◌, ◌<◌, ◌≤◌, ℕ, Bool, List, [], ◌∷◌, ◌++◌, length, map, replicate, false, take, Contains, Some, slice_get}
+use Rattle.std.specs.Prelude.{◌≡◌, ◌⊎◌, ◌<◌, ◌≤◌, ℕ, Bool, List, [], ◌∷◌, ◌++◌, length, map, replicate, false, take, Contains, Option, Some, slice_get}
 use Rattle.std.specs.List.{AllZip}
 use Rattle.std.specs.Prelude.{◌==◌, cond}
 use Rattle.esto_term.specs.declared.term.Term.{Term}
@@ -63,16 +63,17 @@ pub record Grown {X : Type 0} (Comes : X → Type 0) (old new : List X) : Type 0
 -- A later entry, or the one at the place itself, says it at one of the places, with a product within that of this one.
 abbrev pub HasLater : List Entry → List ℕ → (Claim → Type 0) → ℕ → Entry → Type 0
 HasLater entries places Says place entry =
-    (later : ℕ) × (its : Entry) × Contains places later × place ≤ later × (slice_get entries later ≡ Some its) × Says its.claim × Within its.product entry.product
+    (later : ℕ) × (its : Entry) × Contains places later × place ≤ later × (slice_get entries later ≡ Some its) × Says its.claim
+    × Within its.product entry.product
 
 -- Among the places is one for each entry that says so.
 abbrev pub AreAllLive : List Entry → List ℕ → (Claim → Type 0) → Type 0
-AreAllLive entries places Says = (place : ℕ) (entry : Entry) → slice_get entries place ≡ Some entry → Says entry.claim → HasLater entries places Says place entry
+AreAllLive entries places Says = (place : ℕ) (entry : Entry) → slice_get entries place ≡ Some entry → Says entry.claim
+    → HasLater entries places Says place entry
 
--- Among the places is one for each fact of the relation.
+-- Among the places is one for each entry that states a fact of the relation.
 abbrev pub AreAllFacts : List Entry → ℕ → List ℕ → Type 0
-AreAllFacts entries relation places = (place : ℕ) (entry : Entry) (fact : Fact Term) → slice_get entries place ≡ Some entry → entry.claim ≡ Stated fact
-    → fact.relation ≡ relation → HasLater entries places (λ claim. claim ≡ Stated fact) place entry
+AreAllFacts entries relation places = (fact : Fact Term) → fact.relation ≡ relation → AreAllLive entries places (λ claim. claim ≡ Stated fact)
 
 -- No equality with the term stands from a place on.
 abbrev pub IsUnlinked : List Entry → ℕ → Term → Type 0
@@ -90,7 +91,7 @@ AreFresh entries since facts fresh = (place : ℕ) → Contains facts place → 
 
 -- The place is the first one of the term.
 abbrev pub IsFirstAt : List Term → Term → ℕ → Type 0
-IsFirstAt from term place = place < length from
+IsFirstAt from term place = (slice_get from place ≡ Some term)
     × ((to : List Term) (it : Term) → length from ≡ length to → slice_get to place ≡ Some it → it ≡ substituted from to term)
 
 -- The lists have the same at the places.
@@ -105,6 +106,30 @@ TellsOne from places term = (to others : List Term) → length from ≡ length t
 -- Some way has the same at the places, with a product within the set.
 abbrev pub HasWay : List ℕ → List Way → List Term → List Bool → Type 0
 HasWay places ways to set = (way : Way) × Contains ways way × AgreeAt places way.to to × Within way.product set
+
+-- What the term meets first, which is one of `from`, stands at the place.
+abbrev pub IsMetAt : List Term → Term → ℕ → Type 0
+IsMetAt from term place = Contains from term
+    × ((to : List Term) (it : Term) → length from ≡ length to → slice_get to place ≡ Some it → it ≡ taken from to term)
+
+-- What the two sides meet first stands at the places.
+abbrev pub AreMetAt : List Term → List Term → ℕ × ℕ → Type 0
+AreMetAt from sides places =
+    (left : Term) × (right : Term) × (sides ≡ left ∷ right ∷ []) × IsMetAt from left places.0 × IsMetAt from right places.1
+
+-- The two sides, which are of `from`, meet terms that are one in the set's world.
+abbrev pub MeetOne : List Entry → List Term → List Term → List Term → List Bool → Type 0
+MeetOne entries sides from to set = (left : Term) × (right : Term) × (sides ≡ left ∷ right ∷ []) × Contains from left × Contains from right
+    × Touching (InWorld entries set) (taken from to left) (taken from to right)
+
+-- What stands at the two places is one in the set's world.
+abbrev pub AreOneAt : List Entry → Option (ℕ × ℕ) → List Term → List Bool → Type 0
+AreOneAt entries sides to set = (left : ℕ) × (right : ℕ) × (sides ≡ Some (left, right)) × (own : Term) × (other : Term)
+    × (slice_get to left ≡ Some own) × (slice_get to right ≡ Some other) × Touching (InWorld entries set) own other
+
+-- Some way tells it, with a product within the set; or what stands at the two sides' places is one already in the set's world, so that nothing is owed.
+abbrev pub IsTold : List Entry → Option (ℕ × ℕ) → List ℕ → List Way → List Term → List Bool → Type 0
+IsTold entries sides places ways to set = HasWay places ways to set ⊎ AreOneAt entries sides to set
 
 -- Some support has a product within the set.
 abbrev pub HasSupport : List Support → List Bool → Type 0
@@ -150,7 +175,8 @@ IsPassedAt entries m terms owns floor product Settled at = (set : List Bool) (ow
 pub record IsLonger (entries : List Entry) (own goal : Term) (before support : Support) : Type 0 where
   pub kept : (place : ℕ) → Contains before.links place → Contains support.links place
   pub touch : Touching (IsNamed entries support.links) own goal
-  pub equalities : ((place : ℕ) → Contains before.links place → IsEquality entries place) → (place : ℕ) → Contains support.links place → IsEquality entries place
+  pub equalities : ((place : ℕ) → Contains before.links place → IsEquality entries place)
+      → (place : ℕ) → Contains support.links place → IsEquality entries place
   pub union : (facts : List ℕ) → IsUnion entries (facts ++ before.links) before.product → IsUnion entries (facts ++ support.links) support.product
   pub count : length support.product ≡ length before.product
 
@@ -194,19 +220,22 @@ abbrev pub GoesOld : List Entry → ℕ → List Term → Fact Term → Way → 
 GoesOld entries since from atom before fact set = IsOldWay since before × InWorld (take since entries) set (Stated fact)
     × PassesIn (take since entries) (meets from atom.terms before.to fact.terms) atom.terms fact.terms set
 
--- Where the way goes on with a fact in a set's world, one of the ways does so, as far as the places tell, or the first few entries alone let it.
-abbrev pub GoesOn : List Entry → ℕ → List Term → Fact Term → List ℕ → Way → List Way → Type 0
-GoesOn entries since from atom places before ways = (set : List Bool) (fact : Fact Term) → Within before.product set → InWorld entries set (Stated fact)
-    → IsLike atom fact → PassesIn entries (meets from atom.terms before.to fact.terms) atom.terms fact.terms set
-    → HasWay places ways (before.to ++ fact.terms) set ⊎ GoesOld entries since from atom before fact set
+-- Where the way goes on with a fact in a set's world, one of the ways does so, as far as the places tell, or nothing is owed, or the first few entries alone
+-- let it.
+abbrev pub GoesOn : List Entry → ℕ → List Term → Fact Term → Option (ℕ × ℕ) → List ℕ → Way → List Way → Type 0
+GoesOn entries since from atom sides places before ways = (set : List Bool) (fact : Fact Term) → Within before.product set
+    → InWorld entries set (Stated fact) → IsLike atom fact
+    → PassesIn entries (meets from atom.terms before.to fact.terms) atom.terms fact.terms set
+    → IsTold entries sides places ways (before.to ++ fact.terms) set ⊎ GoesOld entries since from atom before fact set
 
--- The ways are given ones with a fact for one atom more, as far as they tell what the live terms meet, but for those that use the first few entries alone.
-pub record AreNext (entries : List Entry) (since : ℕ) (from : List Term) (atom : Fact Term) (live : List Term) (given ways : List Way) : Type 0 where
+-- The ways are given ones with a fact for one atom more, as far as they tell what the live terms meet, but for those by which the two sides are one already,
+-- and for those that use the first few entries alone.
+pub record AreNext (entries : List Entry) (since : ℕ) (from : List Term) (atom : Fact Term) (live sides : List Term) (given ways : List Way) : Type 0 where
   pub come : (way : Way) → Contains ways way → (before : Way) × Contains given before × Comes entries from atom before way
   pub go_on : (set : List Bool) (before : Way) (fact : Fact Term) → Contains given before → length from ≡ length before.to → Within before.product set
       → InWorld entries set (Stated fact) → IsLike atom fact → PassesIn entries (meets from atom.terms before.to fact.terms) atom.terms fact.terms set
       → ((way : Way) × Contains ways way × AgreeOn live (from ++ atom.terms) way.to (before.to ++ fact.terms) × Within way.product set)
-      ⊎ GoesOld entries since from atom before fact set
+      ⊎ (MeetOne entries sides (from ++ atom.terms) (before.to ++ fact.terms) set ⊎ GoesOld entries since from atom before fact set)
 
 -- The way is a direct match of the body among the entries.
 pub record IsFound (entries : List Entry) (body : List (Fact Term)) (way : Way) : Type 0 where
@@ -215,8 +244,10 @@ pub record IsFound (entries : List Entry) (body : List (Fact Term)) (way : Way) 
   pub alike : AllZip IsLike body chosen
   pub is_way : IsWay entries way.facts (terms_of body) (terms_of chosen) way
 
--- The ways are direct matches of the body, and in each world each direct match agrees with one of them on the live terms.
-pub record AreFound (entries : List Entry) (body : List (Fact Term)) (live : List Term) (ways : List Way) : Type 0 where
+-- The ways are direct matches of the body, and in each world each direct match agrees with one of them on the live terms, or makes no more of the two sides
+-- one.
+pub record AreFound (entries : List Entry) (body : List (Fact Term)) (live sides : List Term) (ways : List Way) : Type 0 where
   pub sound : (way : Way) → Contains ways way → IsFound entries body way
   pub complete : (atoms : List Bool) (chosen : List (Fact Term)) → IsDirectMatch (InWorld entries atoms) body chosen
-      → (way : Way) × Contains ways way × AgreeOn live (terms_of body) way.to (terms_of chosen) × Within way.product atoms
+      → ((way : Way) × Contains ways way × AgreeOn live (terms_of body) way.to (terms_of chosen) × Within way.product atoms)
+      ⊎ MeetOne entries sides (terms_of body) (terms_of chosen) atoms

@@ -84,7 +84,7 @@ fn next(
     requires counts { AreOfCount count entries.old }
     ensures counted { OnOk result (AreOfCount count entries.new) }
     ensures grown { OnOk result ((asked : List Entry)
-        × IsGrownBy (rules_of rules.now) count entries.old asked entries.new) }
+        × IsGrownBy (rules_of rules.now) entries.old asked entries.new) }
     ensures answered { OnOk result
         (AreAnswered (rules_of rules.now) entries.old entries.new) }
     ensures joined { OnOk result (AreJoined entries.old entries.new) }

@@ -89,7 +89,7 @@ fn add_in(
     ensures counted { OnOk result (AreOfCount count entries.new) }
     ensures grown { OnOk result ((rules : List Rule)
         → ((entry : Entry) → Contains asked.now entry → IsFollowing rules count entries.old entry)
-        → IsGrownIn rules count entries.old asked.now turns.now entries.new) }
+        → IsGrownIn rules entries.old asked.now turns.now entries.new) }
 {
     'turns: for turn in turns {
         add_at(alloc, entries, asked, turn, count)?;
@@ -109,7 +109,7 @@ pub fn add_all(
     ensures counted { OnOk result (AreOfCount count entries.new) }
     ensures grown { OnOk result ((rules : List Rule)
         → ((entry : Entry) → Contains asked.now entry → IsFollowing rules count entries.old entry)
-        → IsGrownBy rules count entries.old asked.now entries.new) }
+        → IsGrownBy rules entries.old asked.now entries.new) }
 {
     let turns = turns_of(alloc, asked)?;
     add_in(alloc, entries, asked, turns.as_slice(), count)

@@ -1,7 +1,7 @@
 //! Ways that are kept, which are found by what they tell.
 ghost use Rattle.std.specs.Prelude.{◌≡◌, ◌<◌, ◌++◌, ◌∷◌, [], length, slice_get, Contains, IsTrue, IfOk, IfSome, OnOk, MatchOption, ℕ};
 ghost use Rattle.esto_term.specs.declared.term.Term.{Term};
-ghost use Rattle.esto_condchase.specs.Ways.{AreCounted, AgreeAt, IsFirstAt, TellsOne, HasWay};
+ghost use Rattle.esto_condchase.specs.Ways.{AreCounted, AreMetAt, AgreeAt, IsFirstAt, IsMetAt, TellsOne, HasWay};
 
 use crate::ways::Way;
 use esto_bits::{Products, RowBits};
@@ -70,6 +70,28 @@ pub fn telling_places(alloc: Global, from: &[Term], terms: &[Term]) -> Result<Pl
     Ok(places)
 }
 
+/// The place at which stands what the term meets first, if it is no constant and has one.
+fn place_met(from: &[Term], term: &Term) -> Option<usize>
+    ensures { IfSome result (λ place. IsMetAt from.now term.now place) }
+{
+    if term.is_constant() {
+        return None;
+    }
+    first_place(from, term)
+}
+
+/// The places at which stands what the two sides meet first, if there are two and both have one.
+pub fn places_met(from: &[Term], sides: &[Term]) -> Option<(usize, usize)>
+    ensures { IfSome result (λ places. AreMetAt from.now sides.now places) }
+{
+    if sides.len() != 2 {
+        return None;
+    }
+    let left = place_met(from, &sides[0])?;
+    let right = place_met(from, &sides[1])?;
+    Some((left, right))
+}
+
 /// A hash of what stands at those of the places that are of a row which begins at an offset.
 pub fn hash_at(places: &[usize], offset: usize, row: &[Term]) -> u64 {
     let mut hash: u64 = 0;
@@ -84,7 +106,7 @@ pub fn hash_at(places: &[usize], offset: usize, row: &[Term]) -> u64 {
 }
 
 /// What stands at the place of the one row and the other behind it.
-fn term_at<'a>(place: usize, to: &'a [Term], owns: &'a [Term]) -> Option<&'a Term>
+pub fn term_at<'a>(place: usize, to: &'a [Term], owns: &'a [Term]) -> Option<&'a Term>
     ensures { IfSome result (λ it. slice_get (to.now ++ owns.now) place ≡ Some it.now) }
 {
     if place < to.len() {

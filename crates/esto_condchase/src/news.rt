@@ -1,6 +1,7 @@
 //! What is new since a round, and the matches that use something of it.
 ghost use Rattle.std.specs.Prelude.{◌≡◌, ◌↔◌, ◌<◌, ◌++◌, ◌∷◌, [], ℕ, false, Contains, IsTrue, IfOk};
 ghost use Rattle.esto_semantics.specs.declared.fact.Fact.{Fact};
+ghost use Rattle.esto_term.specs.declared.term.Term.{Term};
 ghost use Rattle.esto_world_laws.specs.Worlds.{AreOfCount};
 ghost use Rattle.esto_acyclic.specs.Relations.{HasRelation};
 ghost use Rattle.esto_condchase.specs.News.{IsApart, IsSettled, AreFoundAnew};
@@ -78,16 +79,18 @@ fn anew(
     body: &[Atom],
     last: &Atom,
     asked: &[Term],
+    sides: &[Term],
     count: usize,
 ) -> Result<List<Way>, OutOfMemory>
+    requires among { (term : Term) → Contains sides.now term → Contains asked.now term }
     requires counts { AreOfCount count known.now }
     ensures found { IfOk result
-        (AreFoundAnew known.now since (body.now ++ last.now ∷ []) asked.now) }
+        (AreFoundAnew known.now since (body.now ++ last.now ∷ []) asked.now sides.now) }
     ensures counted { IfOk result (λ ways. AreCounted count ways) }
 {
     let from = terms_of(alloc, body)?;
     let live = both(alloc, last.terms.items(), asked)?;
-    let given = matches_of(alloc, known, body, live.items(), count)?;
+    let given = matches_of(alloc, known, body, live.items(), sides, count)?;
     let ways = match_next(
         alloc,
         known,
@@ -95,6 +98,7 @@ fn anew(
         &from,
         last,
         asked,
+        sides,
         given.items(),
         count,
     )?;
@@ -102,17 +106,19 @@ fn anew(
 }
 
 /// The direct matches of a body among the entries, as far as they tell what the terms asked for meet, each with what it uses, but
-/// for those that use the entries before a place alone.
+/// for those that use the entries before a place alone, and for those by which the two sides, if there are two, are one already.
 pub fn matches_since(
     alloc: Global,
     entries: &Known,
     since: usize,
     body: &[Atom],
     asked: &[Term],
+    sides: &[Term],
     count: usize,
 ) -> Result<List<Way>, OutOfMemory>
+    requires among { (term : Term) → Contains sides.now term → Contains asked.now term }
     requires counts { AreOfCount count entries.now }
-    ensures found { IfOk result (AreFoundAnew entries.now since body.now asked.now) }
+    ensures found { IfOk result (AreFoundAnew entries.now since body.now asked.now sides.now) }
     ensures counted { IfOk result (λ ways. AreCounted count ways) }
 {
     if !has_news(entries.items(), since, body) {
@@ -120,6 +126,8 @@ pub fn matches_since(
     }
     match body.split_last() {
         None => Ok(List::new(alloc)),
-        Some((last, others)) => anew(alloc, entries, since, others, last, asked, count),
+        Some((last, others)) => anew(
+            alloc, entries, since, others, last, asked, sides, count,
+        ),
     }
 }

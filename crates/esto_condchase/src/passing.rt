@@ -5,9 +5,9 @@ ghost use Rattle.esto_world_laws.specs.Matches.{taken};
 ghost use Rattle.esto_world_laws.specs.Worlds.{AreOfCount, SaysOne};
 ghost use Rattle.esto_world_laws.specs.declared.entry.Entry.{Entry};
 ghost use Rattle.esto_condchase.specs.declared.passing.Support.{Support};
-ghost use Rattle.esto_condchase.specs.Ways.{AreCounted, AreAllLive, Grown, HasWay, HasSupport, IsLonger, IsLinkedFrom, IsFreeLink, IsPassedAt, PassesIn, AreLonger, AreSupports, floor_of, meets};
+ghost use Rattle.esto_condchase.specs.Ways.{AreCounted, AreAllLive, AreOneAt, Grown, IsTold, HasSupport, IsLonger, IsLinkedFrom, IsFreeLink, IsPassedAt, PassesIn, AreLonger, AreSupports, floor_of, meets};
 
-use crate::kept::Kept;
+use crate::kept::{Kept, term_at};
 use crate::live::links_of;
 use crate::news::has_later;
 use esto_bits::RowBits;
@@ -25,7 +25,8 @@ pub struct Support {
 }
 
 /// A fact that goes on from a way: `from` are the terms of the atoms so far, which meet `to`; `terms` and `owns` are those of the
-/// next atom and of the fact. What stands at the places tells all that is asked for later, and has this key.
+/// next atom and of the fact. What stands at the places tells all that is asked for later, and has this key. Nothing is owed where
+/// what stands at the two sides' places is one already.
 #[derive(Clone, Copy)]
 pub struct Step<'a> {
     pub known: &'a Known,
@@ -33,6 +34,7 @@ pub struct Step<'a> {
     pub terms: &'a [Term],
     pub to: &'a [Term],
     pub owns: &'a [Term],
+    pub sides: Option<(usize, usize)>,
     pub places: &'a [usize],
     pub key: u64,
 }
@@ -54,12 +56,34 @@ pub fn met_first<'a>(
     taken_term(terms, owns, term)
 }
 
-/// Whether a kept way tells the same as the step, with a product within the set.
-pub fn is_settled(step: &Step, product: &RowBits, kept: &Kept) -> bool
-    requires { AreCounted (length product.now) kept.now }
-    ensures { IsTrue result → HasWay step.now.places.now kept.now
+/// Whether what stands at the two sides' places is one already, by an entry whose product is within the set if not by itself.
+fn are_one(step: &Step, product: &RowBits) -> bool
+    requires { AreOfCount (length product.now) step.now.known.now }
+    ensures { IsTrue result → AreOneAt step.now.known.now step.now.sides
         (step.now.to.now ++ step.now.owns.now) product.now }
 {
+    let Some((left, right)) = step.sides else {
+        return false;
+    };
+    let Some(own) = term_at(left, step.to, step.owns) else {
+        return false;
+    };
+    let Some(other) = term_at(right, step.to, step.owns) else {
+        return false;
+    };
+    own.equal(other) || step.known.says_one(own, other, product)
+}
+
+/// Whether a kept way tells the same as the step, with a product within the set, or nothing is owed in the set's world.
+pub fn is_settled(step: &Step, product: &RowBits, kept: &Kept) -> bool
+    requires counts { AreOfCount (length product.now) step.now.known.now }
+    requires counted { AreCounted (length product.now) kept.now }
+    ensures { IsTrue result → IsTold step.now.known.now step.now.sides step.now.places.now kept.now
+        (step.now.to.now ++ step.now.owns.now) product.now }
+{
+    if are_one(step, product) {
+        return true;
+    }
     kept.covers(step.key, product, step.places, step.to, step.owns)
 }
 
@@ -90,7 +114,7 @@ pub fn union_of(alloc: Global, one: &RowBits, other: &RowBits) -> Result<RowBits
     Ok(product)
 }
 
-/// Adds the support with an equality more, unless a kept way tells the same with a product within its own.
+/// Adds the support with an equality more, unless a kept way tells the same with a product within its own, or nothing is owed.
 fn add_longer(
     alloc: Global,
     step: &Step,
@@ -101,13 +125,14 @@ fn add_longer(
     next: &mut List<Support>,
 ) -> Result<(), OutOfMemory>
     requires at { slice_get step.now.known.now place ≡ Some entry.now }
-    requires count { length before.now.product ≡ length entry.now.product }
+    requires counts { AreOfCount (length before.now.product) step.now.known.now }
     requires counted { AreCounted (length before.now.product) kept.now }
     ensures grown { OnOk result ((own goal : Term) → SaysOne entry.now.claim own goal
         → Grown (IsLonger step.now.known.now own goal before.now) next.old next.new) }
     ensures goes { OnOk result ((set : List Bool) → Within before.now.product set
         → Within entry.now.product set → HasSupport next.new set
-        ⊎ HasWay step.now.places.now kept.now (step.now.to.now ++ step.now.owns.now) set) }
+        ⊎ IsTold step.now.known.now step.now.sides step.now.places.now kept.now
+        (step.now.to.now ++ step.now.owns.now) set) }
 {
     let product = union_of(alloc, &before.product, &entry.product)?;
     if is_settled(step, &product, kept) {
@@ -155,7 +180,8 @@ fn longer_at(
     ensures goes { OnOk result ((set : List Bool) (entry : Entry) → floor ≤ place
         → slice_get step.now.known.now place ≡ Some entry → SaysOne entry.claim own.now goal.now
         → Within before.now.product set → Within entry.product set → HasSupport next.new set
-        ⊎ HasWay step.now.places.now kept.now (step.now.to.now ++ step.now.owns.now) set) }
+        ⊎ IsTold step.now.known.now step.now.sides step.now.places.now kept.now
+        (step.now.to.now ++ step.now.owns.now) set) }
 {
     if place < floor {
         return Ok(());
@@ -228,7 +254,8 @@ fn longer(
         (Grown (IsLonger step.now.known.now own.now goal.now before.now) next.old next.new) }
     ensures goes { OnOk result ((set : List Bool) → Within before.now.product set
         → IsLinkedFrom step.now.known.now floor set own.now goal.now → HasSupport next.new set
-        ⊎ HasWay step.now.places.now kept.now (step.now.to.now ++ step.now.owns.now) set) }
+        ⊎ IsTold step.now.known.now step.now.sides step.now.places.now kept.now
+        (step.now.to.now ++ step.now.owns.now) set) }
 {
     if let Some(place) = free_link(step.known, own, goal, floor, &before.product, links) {
         return longer_at(alloc, step, own, goal, floor, before, place, kept, next);
@@ -256,7 +283,8 @@ fn all_longer(
     requires counts { AreOfCount count step.now.known.now }
     requires counted { AreCounted count kept.now }
     ensures { IfOk result (AreLonger step.now.known.now own.now goal.now floor
-        (HasWay step.now.places.now kept.now (step.now.to.now ++ step.now.owns.now)) given.now) }
+        (IsTold step.now.known.now step.now.sides step.now.places.now kept.now
+        (step.now.to.now ++ step.now.owns.now)) given.now) }
 {
     let links = links_of(step.known, own, goal);
     let mut next = List::new(alloc);
@@ -289,7 +317,8 @@ fn pass_term(
         → slice_get step.now.terms.now index ≡ Some term
         → AreLonger step.now.known.now own (meets step.now.from.now step.now.terms.now
         step.now.to.now step.now.owns.now term) floor
-        (HasWay step.now.places.now kept.now (step.now.to.now ++ step.now.owns.now))
+        (IsTold step.now.known.now step.now.sides step.now.places.now kept.now
+        (step.now.to.now ++ step.now.owns.now))
         supports.old supports.new) }
 {
     let own = &step.owns[index];
@@ -395,7 +424,8 @@ pub fn through_row(
     ensures { IfOk result (AreSupports step.now.known.now (meets step.now.from.now
         step.now.terms.now step.now.to.now step.now.owns.now) step.now.terms.now
         step.now.owns.now at floor
-        (HasWay step.now.places.now kept.now (step.now.to.now ++ step.now.owns.now)) start.now
+        (IsTold step.now.known.now step.now.sides step.now.places.now kept.now
+        (step.now.to.now ++ step.now.owns.now)) start.now
         (length step.now.owns.now)) }
 {
     let mut supports = only(alloc, start)?;

@@ -160,6 +160,7 @@ fn answer_tuples(
         since,
         rule.body.items(),
         asked.items(),
+        &[],
         count,
     )?;
     'found: for way in found.items() {
@@ -203,13 +204,14 @@ fn answer_equalities(
         (equality rule.now.body rule.now.left rule.now.right)) }
 {
     let from = terms_of(alloc, rule.body.items())?;
-    let asked = sides_of(alloc, rule)?;
+    let sides = sides_of(alloc, rule)?;
     let found = matches_since(
         alloc,
         entries,
         since,
         rule.body.items(),
-        asked.items(),
+        sides.items(),
+        sides.items(),
         count,
     )?;
     'found: for way in found.items() {

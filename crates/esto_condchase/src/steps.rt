@@ -9,7 +9,7 @@ ghost use Rattle.esto_world_laws.specs.declared.entry.Claim.TheVariants.{Fact as
 ghost use Rattle.esto_world_laws.specs.declared.entry.Entry.{Entry};
 ghost use Rattle.esto_condchase.specs.declared.passing.Support.{Support};
 ghost use Rattle.esto_condchase.specs.declared.ways.Way.{Way};
-ghost use Rattle.esto_condchase.specs.Ways.{AreCounted, AreAllFacts, AreFresh, Grown, HasWay, extended, meets, PassesTo, PassesIn, IsPassedAt, ComesBy, Comes, GoesOn};
+ghost use Rattle.esto_condchase.specs.Ways.{AreCounted, AreAllFacts, AreFresh, Grown, HasWay, IsTold, extended, meets, PassesTo, PassesIn, IsPassedAt, ComesBy, Comes, GoesOn};
 
 use crate::kept::{Kept, hash_at};
 use crate::news::{has_later, is_new};
@@ -70,7 +70,7 @@ fn extended(
     })
 }
 
-/// Keeps the way that goes on with a support, unless a kept one tells the same.
+/// Keeps the way that goes on with a support, unless a kept one tells the same, or nothing is owed.
 fn keep(
     alloc: Global,
     step: &Step,
@@ -80,11 +80,12 @@ fn keep(
     kept: &mut Kept,
 ) -> Result<(), OutOfMemory>
     requires to { step.now.to.now ≡ before.now.to }
+    requires counts { AreOfCount (length support.now.product) step.now.known.now }
     requires counted { AreCounted (length support.now.product) kept.old }
     ensures grown { OnOk result (Grown
         (λ way. way ≡ extended before.now place step.now.owns.now support.now)
         kept.old kept.new) }
-    ensures there { OnOk result (HasWay step.now.places.now kept.new
+    ensures there { OnOk result (IsTold step.now.known.now step.now.sides step.now.places.now kept.new
         (step.now.to.now ++ step.now.owns.now) support.now.product) }
 {
     if is_settled(step, &support.product, kept) {
@@ -107,14 +108,15 @@ fn keep_all(
     requires to { step.now.to.now ≡ before.now.to }
     requires supports { (support : Support) → Contains supports.now support
         → length support.product ≡ count }
+    requires counts { AreOfCount count step.now.known.now }
     requires counted { AreCounted count kept.old }
     ensures grown { OnOk result (Grown
         (λ way. (support : Support) × Contains supports.now support
         × (way ≡ extended before.now place step.now.owns.now support))
         kept.old kept.new) }
     ensures there { OnOk result ((support : Support) → Contains supports.now support
-        → HasWay step.now.places.now kept.new (step.now.to.now ++ step.now.owns.now)
-        support.product) }
+        → IsTold step.now.known.now step.now.sides step.now.places.now kept.new
+        (step.now.to.now ++ step.now.owns.now) support.product) }
 {
     'supports: for support in supports {
         keep(alloc, step, before, place, support, kept)?;
@@ -157,7 +159,8 @@ fn pass(
         → PassesTo step.now.known.now (meets step.now.from.now step.now.terms.now
         step.now.to.now step.now.owns.now) step.now.terms.now step.now.owns.now at floor set
         (length step.now.owns.now)
-        → HasWay step.now.places.now kept.new (step.now.to.now ++ step.now.owns.now) set) }
+        → IsTold step.now.known.now step.now.sides step.now.places.now kept.new
+        (step.now.to.now ++ step.now.owns.now) set) }
     ensures counted { OnOk result (AreCounted count kept.new) }
 {
     let start = start_of(alloc, before, product)?;
@@ -192,7 +195,8 @@ fn pass_at(
     ensures there { OnOk result (IsPassedAt step.now.known.now (meets step.now.from.now
         step.now.terms.now step.now.to.now step.now.owns.now) step.now.terms.now step.now.owns.now
         floor product.now
-        (HasWay step.now.places.now kept.new (step.now.to.now ++ step.now.owns.now)) at) }
+        (IsTold step.now.known.now step.now.sides step.now.places.now kept.new
+        (step.now.to.now ++ step.now.owns.now)) at) }
     ensures counted { OnOk result (AreCounted count kept.new) }
 {
     let goal = met_first(step.from, step.to, step.terms, step.owns, &step.terms[at]);
@@ -228,7 +232,8 @@ fn pass_anew(
         → IsPassedAt step.now.known.now (meets step.now.from.now
         step.now.terms.now step.now.to.now step.now.owns.now) step.now.terms.now step.now.owns.now
         floor product.now
-        (HasWay step.now.places.now kept.new (step.now.to.now ++ step.now.owns.now)) at) }
+        (IsTold step.now.known.now step.now.sides step.now.places.now kept.new
+        (step.now.to.now ++ step.now.owns.now)) at) }
     ensures counted { OnOk result (AreCounted count kept.new) }
 {
     'row: for at in 0..step.owns.len() {
@@ -262,7 +267,8 @@ fn pass_from(
         → Within entry.now.product set
         → PassesIn step.now.known.now (meets step.now.from.now step.now.terms.now
         step.now.to.now step.now.owns.now) step.now.terms.now step.now.owns.now set
-        → HasWay step.now.places.now kept.new (step.now.to.now ++ step.now.owns.now) set
+        → IsTold step.now.known.now step.now.sides step.now.places.now kept.new
+        (step.now.to.now ++ step.now.owns.now) set
         ⊎ ((0 < floor) × PassesIn (take floor step.now.known.now) (meets step.now.from.now
         step.now.terms.now step.now.to.now step.now.owns.now) step.now.terms.now
         step.now.owns.now set)) }
@@ -284,14 +290,16 @@ fn pass_from(
     Ok(())
 }
 
-/// What a search goes on by: the entries, the terms of the atoms so far, the next atom, and the places of what tells all that is
-/// asked for later. A way that uses nothing from a place on is not looked for, unless that is 0.
+/// What a search goes on by: the entries, the terms of the atoms so far, the next atom, the places of the two sides, and those of
+/// what tells all that is asked for later. A way that uses nothing from a place on is not looked for, unless that is 0, and neither
+/// is one by which what stands at the two sides' places is one already.
 #[derive(Clone, Copy)]
 pub struct Level<'a> {
     pub known: &'a Known,
     pub since: usize,
     pub from: &'a [Term],
     pub atom: &'a Atom,
+    pub sides: Option<(usize, usize)>,
     pub places: &'a [usize],
 }
 
@@ -351,7 +359,8 @@ fn match_entry(
         → Within entry.product set
         → PassesIn level.now.known.now (meets level.now.from.now level.now.atom.now.terms
         before.now.to fact.terms) level.now.atom.now.terms fact.terms set
-        → HasWay level.now.places.now kept.new (before.now.to ++ fact.terms) set
+        → IsTold level.now.known.now level.now.sides level.now.places.now kept.new
+        (before.now.to ++ fact.terms) set
         ⊎ ((0 < floor) × PassesIn (take floor level.now.known.now) (meets level.now.from.now
         level.now.atom.now.terms before.now.to fact.terms) level.now.atom.now.terms fact.terms
         set)) }
@@ -366,6 +375,7 @@ fn match_entry(
                 terms: level.atom.terms.items(),
                 to: before.to.items(),
                 owns: fact.terms.items(),
+                sides: level.sides,
                 places: level.places,
                 key: key ^ hash_at(level.places, level.from.len(), fact.terms.items()),
             };
@@ -424,7 +434,7 @@ fn match_way(
     ensures grown { OnOk result (Grown (Comes level.now.known.now level.now.from.now
         level.now.atom.now before.now) kept.old kept.new) }
     ensures goes { OnOk result (GoesOn level.now.known.now level.now.since level.now.from.now
-        level.now.atom.now level.now.places.now before.now kept.new) }
+        level.now.atom.now level.now.sides level.now.places.now before.now kept.new) }
     ensures counted { OnOk result (AreCounted count kept.new) }
 {
     let new = is_new(before, level.since);
@@ -462,7 +472,7 @@ pub fn match_all(
         kept.old kept.new) }
     ensures goes { OnOk result ((before : Way) → Contains given.now before
         → GoesOn level.now.known.now level.now.since level.now.from.now level.now.atom.now
-        level.now.places.now before kept.new) }
+        level.now.sides level.now.places.now before kept.new) }
     ensures counted { OnOk result (AreCounted count kept.new) }
 {
     'given: for before in given {

@@ -1,12 +1,12 @@
 //! Ways to match a body among entries, modulo equalities.
-ghost use Rattle.std.specs.Prelude.{◌≡◌, ◌++◌, ◌∷◌, [], ◌<◌, length, Contains, IfOk, OnOk};
+ghost use Rattle.std.specs.Prelude.{◌≡◌, ◌++◌, ◌∷◌, [], ◌<◌, length, Contains, IfOk, IfSome, OnOk};
 ghost use Rattle.esto_semantics.specs.Facts.{terms_of};
 ghost use Rattle.esto_world_laws.specs.Worlds.{AreOfCount};
-ghost use Rattle.esto_condchase.specs.Ways.{AreCounted, empty_way, Comes, GoesOn, TellsOne, AreNext, AreFound};
+ghost use Rattle.esto_condchase.specs.Ways.{AreCounted, AreMetAt, empty_way, Comes, GoesOn, TellsOne, AreNext, AreFound};
 ghost use Rattle.esto_condchase.specs.declared.ways.Way.{Way};
 
 use crate::fresh::fresh_of;
-use crate::kept::{Kept, telling_places};
+use crate::kept::{Kept, places_met, telling_places};
 use crate::live::facts_of;
 use crate::steps::{Level, both, match_all};
 use esto_bits::RowBits;
@@ -64,7 +64,7 @@ fn kept_of(
         × Comes level.now.known.now level.now.from.now level.now.atom.now before way) }
     ensures goes { IfOk result (λ ways. (before : Way) → Contains given.now before
         → GoesOn level.now.known.now level.now.since level.now.from.now level.now.atom.now
-        level.now.places.now before ways) }
+        level.now.sides level.now.places.now before ways) }
     ensures counted { IfOk result (AreCounted count) }
 {
     let facts = facts_of(alloc, level.known, level.atom.relation)?;
@@ -82,23 +82,28 @@ fn kept_of(
     Ok(kept.into_list())
 }
 
-/// The places among the terms so far and those of the atom that tell what the live terms meet.
+/// The places among the terms so far and those of the atom that tell what the two sides meet, if there are two, and what the live
+/// terms meet.
 fn places_for(
     alloc: Global,
     from: &Terms,
     atom: &Atom,
     live: &[Term],
-) -> Result<Places, OutOfMemory>
-    ensures { IfOk result (λ it. (term : Term) → Contains live.now term
-        → TellsOne (from.now ++ atom.now.terms) it term) }
+    sides: &[Term],
+) -> Result<(Option<(usize, usize)>, Places), OutOfMemory>
+    ensures met { IfOk result (λ it. IfSome it.0
+        (AreMetAt (from.now ++ atom.now.terms) sides.now)) }
+    ensures tells { IfOk result (λ it. (term : Term) → Contains live.now term
+        → TellsOne (from.now ++ atom.now.terms) it.1 term) }
 {
     let terms = both(alloc, from.items(), atom.terms.items())?;
     let places = telling_places(alloc, terms.items(), live)?;
-    Ok(places)
+    Ok((places_met(terms.items(), sides), places))
 }
 
 /// The ways that go on from the given ones by one atom, as far as they tell what the live terms meet: the terms of the atoms that
-/// are still to come, and those that are asked for in the end. Those that use nothing from a place on are left out, unless that is 0.
+/// are still to come, and those that are asked for in the end. Those that use nothing from a place on are left out, unless that is 0,
+/// and so are those by which the two sides are one already.
 pub fn match_next(
     alloc: Global,
     known: &Known,
@@ -106,6 +111,7 @@ pub fn match_next(
     from: &Terms,
     atom: &Atom,
     live: &[Term],
+    sides: &[Term],
     given: &[Way],
     count: usize,
 ) -> Result<List<Way>, OutOfMemory>
@@ -113,15 +119,16 @@ pub fn match_next(
     requires given { AreCounted count given.now }
     requires counts { AreOfCount count known.now }
     ensures next { IfOk result
-        (AreNext known.now since from.now atom.now live.now given.now) }
+        (AreNext known.now since from.now atom.now live.now sides.now given.now) }
     ensures counted { IfOk result (AreCounted count) }
 {
-    let places = places_for(alloc, from, atom, live)?;
+    let (sides, places) = places_for(alloc, from, atom, live, sides)?;
     let level = Level {
         known,
         since,
         from: from.items(),
         atom,
+        sides,
         places: places.items(),
     };
     let ways = kept_of(alloc, &level, given, count)?;
@@ -134,6 +141,7 @@ fn go_on(
     known: &Known,
     atom: &Atom,
     live: &[Term],
+    sides: &[Term],
     count: usize,
     from: &mut Terms,
     ways: &mut List<Way>,
@@ -142,11 +150,11 @@ fn go_on(
     requires counted { AreCounted count ways.old }
     requires counts { AreOfCount count known.now }
     ensures next { OnOk result
-        (AreNext known.now 0 from.old atom.now live.now ways.old ways.new) }
+        (AreNext known.now 0 from.old atom.now live.now sides.now ways.old ways.new) }
     ensures counted { OnOk result (AreCounted count ways.new) }
     ensures from { OnOk result (from.new ≡ from.old ++ atom.now.terms) }
 {
-    *ways = match_next(alloc, known, 0, from, atom, live, ways.items(), count)?;
+    *ways = match_next(alloc, known, 0, from, atom, live, sides, ways.items(), count)?;
     from.append(atom.terms.copy(alloc)?)?;
     Ok(())
 }
@@ -161,16 +169,19 @@ fn live_terms(alloc: Global, atoms: &[Atom], asked: &[Term]) -> Result<Terms, Ou
 }
 
 /// The direct matches of a body among the entries, each with what it uses, as far as they tell what the terms meet that are
-/// asked for: in each world, each direct match agrees on these with one of them, whose product is within the world's set.
+/// asked for: in each world, each direct match agrees on these with one of them, whose product is within the world's set, or the two
+/// sides meet terms that are one already.
 pub fn matches_of(
     alloc: Global,
     known: &Known,
     body: &[Atom],
     asked: &[Term],
+    sides: &[Term],
     count: usize,
 ) -> Result<List<Way>, OutOfMemory>
+    requires among { (term : Term) → Contains sides.now term → Contains asked.now term }
     requires counts { AreOfCount count known.now }
-    ensures found { IfOk result (λ ways. AreFound known.now body.now asked.now ways) }
+    ensures found { IfOk result (λ ways. AreFound known.now body.now asked.now sides.now ways) }
     ensures counted { IfOk result (λ ways. AreCounted count ways) }
 {
     let mut ways = begun(alloc, count)?;
@@ -182,6 +193,7 @@ pub fn matches_of(
             known,
             atom,
             live.items(),
+            sides,
             count,
             &mut from,
             &mut ways,

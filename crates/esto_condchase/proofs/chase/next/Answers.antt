@@ -26,7 +26,7 @@ returns-clause-answered c =
     asked_follows_on (rules_of c.args.rules.now) c.args.count c.args.entries.now c.in_ok-asked.asked c.in_ok-asked.ensures.grows entry
     (subst (λ it. Contains it entry) c.items.ensures inside) in
     on_ok_weaker c.add_all.result
-    (λ grown atoms number rule at chosen matches claim asks. covered_grown (rules_of c.args.rules.now) c.args.count c.args.entries.now c.items.result.now
+    (λ grown atoms number rule at chosen matches claim asks. covered_grown (rules_of c.args.rules.now) c.args.entries.now c.items.result.now
     c.add_all.new.entries (grown (rules_of c.args.rules.now) follow) atoms claim
     (subst (λ it. IsCovered (InWorld (c.args.entries.now ++ it) atoms) claim) (sym c.items.ensures)
     (c.in_ok-asked.ensures.answered atoms number rule at chosen matches claim asks))) c.add_all.ensures.grown
@@ -37,7 +37,7 @@ returns-clause-joined c =
     asked_follows_on (rules_of c.args.rules.now) c.args.count c.args.entries.now c.in_ok-asked.asked c.in_ok-asked.ensures.grows entry
     (subst (λ it. Contains it entry) c.items.ensures inside) in
     on_ok_weaker c.add_all.result
-    (λ grown atoms term next other one two. covered_grown (rules_of c.args.rules.now) c.args.count c.args.entries.now c.items.result.now
+    (λ grown atoms term next other one two. covered_grown (rules_of c.args.rules.now) c.args.entries.now c.items.result.now
     c.add_all.new.entries (grown (rules_of c.args.rules.now) follow) atoms (Same term other)
     (subst (λ it. IsCovered (InWorld (c.args.entries.now ++ it) atoms) (Same term other)) (sym c.items.ensures)
     (c.in_ok-asked.ensures.joined atoms term next other one two))) c.add_all.ensures.grown

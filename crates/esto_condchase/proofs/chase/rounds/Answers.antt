@@ -28,21 +28,21 @@ next-requires-clause-before c =
 
 pub returns-then-len-before-clause-derived : goal.returns-then-len-before-clause-derived
 returns-then-len-before-clause-derived c =
-    let grown = grown_same c.args.atoms c.items-in-rounds.result.now c.args.rules.now c.rounds.entries c.next.new.entries c.items-in-rounds.ensures
+    let grown = grown_same c.items-in-rounds.result.now c.args.rules.now c.rounds.entries c.next.new.entries c.items-in-rounds.ensures
     c.in_ok-next.ensures.grown in
     subst (AreDerived c.args.facts.now (rules_of c.args.rules.now)) (sym c.into_list.ensures)
     (grown.1.derived c.args.facts.now c.rounds.invariant.derived)
 
 pub returns-then-len-before-clause-given : goal.returns-then-len-before-clause-given
 returns-then-len-before-clause-given c =
-    let grown = grown_same c.args.atoms c.items-in-rounds.result.now c.args.rules.now c.rounds.entries c.next.new.entries c.items-in-rounds.ensures
+    let grown = grown_same c.items-in-rounds.result.now c.args.rules.now c.rounds.entries c.next.new.entries c.items-in-rounds.ensures
     c.in_ok-next.ensures.grown in
     subst (AreGiven c.args.facts.now) (sym c.into_list.ensures)
     (turn_given c.args.facts.now (rules_of c.args.rules.now) c.args.atoms c.rounds.entries grown.0 c.next.new.entries grown.1 c.rounds.invariant.given)
 
 pub returns-then-len-before-clause-answered : goal.returns-then-len-before-clause-answered
 returns-then-len-before-clause-answered c =
-    let grown = grown_same c.args.atoms c.items-in-rounds.result.now c.args.rules.now c.rounds.entries c.next.new.entries c.items-in-rounds.ensures
+    let grown = grown_same c.items-in-rounds.result.now c.args.rules.now c.rounds.entries c.next.new.entries c.items-in-rounds.ensures
     c.in_ok-next.ensures.grown in
     subst (λ it. AreAnswered (rules_of c.args.rules.now) it it) (sym c.into_list.ensures)
     (end_answered (rules_of c.args.rules.now) c.rounds.entries c.next.new.entries (turn_same c.args.facts.now (rules_of c.args.rules.now) c.args.atoms c.rounds.entries grown.0 c.next.new.entries grown.1
@@ -51,7 +51,7 @@ returns-then-len-before-clause-answered c =
 
 pub returns-then-len-before-clause-joined : goal.returns-then-len-before-clause-joined
 returns-then-len-before-clause-joined c =
-    let grown = grown_same c.args.atoms c.items-in-rounds.result.now c.args.rules.now c.rounds.entries c.next.new.entries c.items-in-rounds.ensures
+    let grown = grown_same c.items-in-rounds.result.now c.args.rules.now c.rounds.entries c.next.new.entries c.items-in-rounds.ensures
     c.in_ok-next.ensures.grown in
     subst (λ it. AreJoined it it) (sym c.into_list.ensures)
     (end_joined c.rounds.entries c.next.new.entries (turn_same c.args.facts.now (rules_of c.args.rules.now) c.args.atoms c.rounds.entries grown.0 c.next.new.entries grown.1
@@ -59,7 +59,7 @@ returns-then-len-before-clause-joined c =
 
 pub rounds-smaller : goal.rounds-smaller
 rounds-smaller c =
-    let grown = grown_same c.args.atoms c.items-in-rounds.result.now c.args.rules.now c.rounds.entries c.next.new.entries c.items-in-rounds.ensures
+    let grown = grown_same c.items-in-rounds.result.now c.args.rules.now c.rounds.entries c.next.new.entries c.items-in-rounds.ensures
     c.in_ok-next.ensures.grown in
     let rules = rules_of c.args.rules.now in
     let ranks = c.args.ranks.now in
@@ -74,7 +74,7 @@ rounds-smaller c =
 
 pub rounds-preserved : goal.rounds-preserved
 rounds-preserved c =
-    let grown = grown_same c.args.atoms c.items-in-rounds.result.now c.args.rules.now c.rounds.entries c.next.new.entries c.items-in-rounds.ensures
+    let grown = grown_same c.items-in-rounds.result.now c.args.rules.now c.rounds.entries c.next.new.entries c.items-in-rounds.ensures
     c.in_ok-next.ensures.grown in
     let is = grown.1.more.1 in
     record {

@@ -5,7 +5,7 @@ use Rattle.esto_condchase.proofs.CoverLemmas.{grown_none, grown_turn, added_at_c
 use Rattle.esto_condchase.proofs.covering.add_in.Goals as goal
 
 pub turns-init : goal.turns-init
-turns-init c = record { counted = c.requires.counts; grown = λ rules _. grown_none rules c.args.count c.args.entries.now c.args.asked.now }
+turns-init c = record { counted = c.requires.counts; grown = λ rules _. grown_none rules c.args.entries.now c.args.asked.now }
 
 pub turns-preserved : goal.turns-preserved
 turns-preserved c = record {
@@ -16,5 +16,5 @@ turns-preserved c = record {
 }
 
 pub returns-clause-grown : goal.returns-clause-grown
-returns-clause-grown c rules follow = subst (λ it. IsGrownIn rules c.args.count c.args.entries.now c.args.asked.now it c.turns.entries)
+returns-clause-grown c rules follow = subst (λ it. IsGrownIn rules c.args.entries.now c.args.asked.now it c.turns.entries)
     (take_all c.turns.turn-index c.args.turns.now c.turns-test.false) (c.turns.invariant.grown rules follow)

@@ -9,5 +9,5 @@ abbrev pub invariant-turns : goal.invariant-turns
 invariant-turns l = record {
   counted : AreOfCount l.count l.entries;
   grown : (rules : List Rule) → ((entry : Entry) → Contains l.asked entry → IsFollowing rules l.count l.initial.entries entry)
-      → IsGrownIn rules l.count l.initial.entries l.asked (take l.turn-index l.turns) l.entries;
+      → IsGrownIn rules l.initial.entries l.asked (take l.turn-index l.turns) l.entries;
 }

@@ -5,7 +5,7 @@ use Rattle.esto_semantics.specs.Sets.{Within}
 use Rattle.esto_term.proofs.ListLemmas.{Contains-nil, each_more, each_seen}
 use Rattle.esto_world_laws.specs.Worlds.{SaysOne}
 use Rattle.esto_world_laws.specs.declared.entry.Entry.{Entry}
-use Rattle.esto_condchase.specs.Ways.{HasWay, HasSupport, IsLonger}
+use Rattle.esto_condchase.specs.Ways.{IsTold, HasSupport, IsLonger}
 use Rattle.esto_condchase.specs.declared.passing.Support.{Support}
 use Rattle.esto_condchase.proofs.StepLemmas.{grown_same, grown_then, support_kept, links_end, free_goes}
 use Rattle.esto_condchase.proofs.passing.longer.Goals as goal
@@ -28,7 +28,7 @@ links-preserved c =
     let Goes : List Support → ℕ → Type 0 = λ next place. (set : List Bool) (entry : Entry) → c.args.floor ≤ place
     → slice_get c.args.step.now.known.now place ≡ Some entry → SaysOne entry.claim c.args.own.now c.args.goal.now → Within c.args.before.now.product set
     → Within entry.product set → HasSupport next set
-    ⊎ HasWay c.args.step.now.places.now c.args.kept.now (c.args.step.now.to.now ++ c.args.step.now.owns.now) set in
+    ⊎ IsTold c.args.step.now.known.now c.args.step.now.sides c.args.step.now.places.now c.args.kept.now (c.args.step.now.to.now ++ c.args.step.now.owns.now) set in
     record {
       grown = grown_then (IsLonger c.args.step.now.known.now c.args.own.now c.args.goal.now c.args.before.now) c.args.next.now c.links.next c.longer_at-in-links.new.next
           c.links.invariant.grown c.in_ok-longer_at.ensures.grown;
@@ -46,6 +46,6 @@ returns-clause-goes c set within link =
     (λ place inside entry late at says its_within. each_seen (λ place. (entry : Entry) → c.args.floor ≤ place
     → slice_get c.args.step.now.known.now place ≡ Some entry → SaysOne entry.claim c.args.own.now c.args.goal.now → Within entry.product set
     → HasSupport c.links.next set
-    ⊎ HasWay c.args.step.now.places.now c.args.kept.now (c.args.step.now.to.now ++ c.args.step.now.owns.now) set) c.args.links.now c.links.place-index
+    ⊎ IsTold c.args.step.now.known.now c.args.step.now.sides c.args.step.now.places.now c.args.kept.now (c.args.step.now.to.now ++ c.args.step.now.owns.now) set) c.args.links.now c.links.place-index
     c.links-test.false (λ its its_inside its_entry its_late its_at its_says in_set. c.links.invariant.tried its its_inside set its_entry its_late its_at its_says within in_set) place inside entry
     late at says its_within) link

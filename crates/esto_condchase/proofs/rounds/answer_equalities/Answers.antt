@@ -1,4 +1,4 @@
-use Rattle.std.proofs.Common.{refl, ◌∙◌}
+use Rattle.std.proofs.Common.{Contains, refl, subst, sym, ◌∙◌}
 use Rattle.esto_semantics.specs.Rules.{equality}
 use Rattle.esto_constraint.specs.Constraints.{rules_of}
 use Rattle.esto_condchase.proofs.MeetLemmas.{item_inside}
@@ -16,11 +16,14 @@ found-preserved c =
     c.found.invariant.grows c.found.invariant.answered c.in_ok-answer_equality.ensures.grows c.in_ok-answer_equality.ensures.answered in
     record { grows = turn.0; answered = turn.1 }
 
+pub matches_since-requires-clause-among : goal.matches_since-requires-clause-among
+matches_since-requires-clause-among c term inside = subst (λ it. Contains it term) (c.items-4.ensures ∙ sym c.items-3.ensures) inside
+
 pub returns-clause-answered : goal.returns-clause-answered
 returns-clause-answered c =
     ways_all (rules_of c.args.rules.now) c.args.count c.args.entries.now c.args.number
     (equality c.args.rule.now.body c.args.rule.now.left c.args.rule.now.right) c.in_ok-found.found c.items-way-items.result.now c.items-way-items.ensures
     c.args.since c.found.way-index _ c.found-test.false
-    (found_of c.args.entries.now _ c.args.since c.args.rule.now.body _ _ _ c.in_ok-found.found refl c.items-2.ensures
-    (c.items-3.ensures ∙ c.in_ok-asked.ensures) c.in_ok-found.ensures.found) c.requires.before
+    (found_of c.args.entries.now _ c.args.since c.args.rule.now.body _ _ _ _ _ c.in_ok-found.found refl c.items-2.ensures
+    (c.items-3.ensures ∙ c.in_ok-sides.ensures) (c.items-4.ensures ∙ c.in_ok-sides.ensures) c.in_ok-found.ensures.found) c.requires.before
     c.found.invariant.answered

@@ -1,7 +1,8 @@
-use Rattle.std.proofs.Common.{ap, refl, ◌∙◌}
+use Rattle.std.proofs.Common.{[], ap, refl, ◌∙◌}
 use Rattle.esto_semantics.specs.Rules.{tuple}
 use Rattle.esto_semantics.specs.Facts.{terms_of}
 use Rattle.esto_constraint.specs.Constraints.{rules_of}
+use Rattle.esto_term.proofs.ListLemmas.{Contains-nil}
 use Rattle.esto_condchase.proofs.MeetLemmas.{item_inside}
 use Rattle.esto_condchase.proofs.RoundLemmas.{ways_turn, ways_all, found_of}
 use Rattle.esto_condchase.proofs.rounds.answer_tuples.Goals as goal
@@ -17,10 +18,13 @@ found-preserved c =
     c.found.invariant.grows c.found.invariant.answered c.in_ok-answer_tuple.ensures.grows c.in_ok-answer_tuple.ensures.answered in
     record { grows = turn.0; answered = turn.1 }
 
+pub matches_since-requires-clause-among : goal.matches_since-requires-clause-among
+matches_since-requires-clause-among c term inside = absurd (Contains-nil term inside)
+
 pub returns-clause-answered : goal.returns-clause-answered
 returns-clause-answered c =
     ways_all (rules_of c.args.rules.now) c.args.count c.args.entries.now c.args.number (tuple c.args.rule.now.body c.args.rule.now.head) c.in_ok-found.found
     c.items-way-items.result.now c.items-way-items.ensures c.args.since c.found.way-index _ c.found-test.false
-    (found_of c.args.entries.now _ c.args.since c.args.rule.now.body _ _ _ c.in_ok-found.found refl c.items-5.ensures
-    (c.items-6.ensures ∙ c.in_ok-asked.ensures ∙ ap terms_of c.items-4.ensures) c.in_ok-found.ensures.found) c.requires.before
+    (found_of c.args.entries.now _ c.args.since c.args.rule.now.body _ _ _ [] _ c.in_ok-found.found refl c.items-5.ensures
+    (c.items-6.ensures ∙ c.in_ok-asked.ensures ∙ ap terms_of c.items-4.ensures) refl c.in_ok-found.ensures.found) c.requires.before
     c.found.invariant.answered

@@ -1,6 +1,6 @@
-use Rattle.std.proofs.Common.{◌++◌, ap, ◌∙◌, sym, refl, subst}
+use Rattle.std.proofs.Common.{◌++◌, inl, ap, ◌∙◌, sym, refl, subst}
 use Rattle.std.proofs.lemmas.Result.{on_ok_weaker}
-use Rattle.esto_condchase.specs.Ways.{HasWay}
+use Rattle.esto_condchase.specs.Ways.{IsTold}
 use Rattle.esto_condchase.specs.declared.ways.Way.{Way}
 use Rattle.esto_condchase.proofs.StepLemmas.{grown_same, grown_push, way_pushed}
 use Rattle.esto_condchase.proofs.steps.keep.Goals as goal
@@ -15,7 +15,8 @@ pub returns-clause-grown : goal.returns-clause-grown
 returns-clause-grown c = on_ok_weaker c.push.result (λ grown. grown_push _ c.args.kept.now _ c.in_ok-way.way grown c.in_ok-way.ensures) c.push.ensures
 
 pub returns-clause-there : goal.returns-clause-there
-returns-clause-there c = on_ok_weaker c.push.result (λ grown. subst (HasWay c.args.step.now.places.now _ (c.args.step.now.to.now ++ c.args.step.now.owns.now))
+returns-clause-there c = on_ok_weaker c.push.result (λ grown. subst (IsTold c.args.step.now.known.now c.args.step.now.sides c.args.step.now.places.now _
+    (c.args.step.now.to.now ++ c.args.step.now.owns.now))
     (ap (λ (it : Way). it.product) c.in_ok-way.ensures)
-    (way_pushed c.args.step.now.places.now c.args.kept.now _ c.in_ok-way.way (c.args.step.now.to.now ++ c.args.step.now.owns.now) grown
-    (ap (λ (it : Way). it.to) c.in_ok-way.ensures ∙ ap (λ it. it ++ c.args.step.now.owns.now) (sym c.requires.to)))) c.push.ensures
+    (inl (way_pushed c.args.step.now.places.now c.args.kept.now _ c.in_ok-way.way (c.args.step.now.to.now ++ c.args.step.now.owns.now) grown
+    (ap (λ (it : Way). it.to) c.in_ok-way.ensures ∙ ap (λ it. it ++ c.args.step.now.owns.now) (sym c.requires.to))))) c.push.ensures

@@ -26,6 +26,7 @@ given-preserved c =
     let since = c.args.level.now.since in
     let from = c.args.level.now.from.now in
     let atom = c.args.level.now.atom.now in
+    let sides = c.args.level.now.sides in
     let places = c.args.level.now.places.now in
     let inside = Contains-read c.args.given.now c.given.before-index c.before-item.result c.given-test.true c.before-item.is in
     let All : Way → Type 0 = λ way. (before : Way) × Contains c.args.given.now before × Comes entries from atom before way in
@@ -33,13 +34,13 @@ given-preserved c =
       grown = grown_then All c.args.kept.now c.given.kept c.match_way.new.kept c.given.invariant.grown
           (grown_weaker (Comes entries from atom c.before-item.result) All c.given.kept c.match_way.new.kept
           (λ way comes. (c.before-item.result, inside, comes)) c.in_ok-match_way.ensures.grown);
-      tried = each_more (λ before. GoesOn entries since from atom places before c.match_way.new.kept) c.args.given.now c.given.before-index
+      tried = each_more (λ before. GoesOn entries since from atom sides places before c.match_way.new.kept) c.args.given.now c.given.before-index
           c.before-item.result c.given-test.true c.before-item.is c.in_ok-match_way.ensures.goes
-          (λ before its. goes_kept entries since from atom places before c.given.kept c.match_way.new.kept c.in_ok-match_way.ensures.grown.kept
+          (λ before its. goes_kept entries since from atom sides places before c.given.kept c.match_way.new.kept c.in_ok-match_way.ensures.grown.kept
           (c.given.invariant.tried before its));
       counted = c.in_ok-match_way.ensures.counted;
     }
 
 pub returns-clause-goes : goal.returns-clause-goes
 returns-clause-goes c = each_seen (λ before. GoesOn c.args.level.now.known.now c.args.level.now.since c.args.level.now.from.now c.args.level.now.atom.now
-    c.args.level.now.places.now before c.given.kept) c.args.given.now c.given.before-index c.given-test.false c.given.invariant.tried
+    c.args.level.now.sides c.args.level.now.places.now before c.given.kept) c.args.given.now c.given.before-index c.given-test.false c.given.invariant.tried

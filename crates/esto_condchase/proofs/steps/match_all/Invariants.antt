@@ -8,6 +8,6 @@ invariant-given l = record {
   grown : Grown (λ (way : Way). (before : Way) × Contains l.given before × Comes l.level.known.now l.level.from.now l.level.atom.now before way) l.fn.kept
       l.kept;
   tried : (before : Way) → Contains (take l.before-index l.given) before
-      → GoesOn l.level.known.now l.level.since l.level.from.now l.level.atom.now l.level.places.now before l.kept;
+      → GoesOn l.level.known.now l.level.since l.level.from.now l.level.atom.now l.level.sides l.level.places.now before l.kept;
   counted : AreCounted l.count l.kept;
 }

@@ -7,6 +7,6 @@ abbrev pub invariant-facts : goal.invariant-facts
 invariant-facts l = record {
   grown : Grown (Comes l.level.known.now l.level.from.now l.level.atom.now l.before) l.fn.kept l.kept;
   tried : (place : ℕ) → Contains (take l.place-index l.place-items) place
-      → GoesSince l.level.known.now l.level.since l.level.from.now l.level.atom.now l.level.places.now l.before l.kept place;
+      → GoesSince l.level.known.now l.level.since l.level.from.now l.level.atom.now l.level.sides l.level.places.now l.before l.kept place;
   counted : AreCounted l.count l.kept;
 }

@@ -24,7 +24,7 @@ pub returns-clause-there : goal.returns-clause-there
 returns-clause-there c set within passes =
     kept_there c.args.step.now.known.now (meets c.args.step.now.from.now c.args.step.now.terms.now c.args.step.now.to.now c.args.step.now.owns.now)
     c.args.step.now.terms.now c.args.step.now.owns.now (c.args.step.now.to.now ++ c.args.step.now.owns.now) c.args.at c.args.floor
-    (length c.args.step.now.owns.now) c.args.step.now.places.now c.args.kept.now _ c.in_ok-start.start c.in_ok-supports.supports c.items.result.now
+    (length c.args.step.now.owns.now) c.args.step.now.sides c.args.step.now.places.now c.args.kept.now _ c.in_ok-start.start c.in_ok-supports.supports c.items.result.now
     c.items.ensures c.in_ok-keep_all.ensures.grown.kept c.in_ok-supports.ensures c.in_ok-keep_all.ensures.there set
     (subst (λ it. Within it set) (sym (ap (λ (it : Support). it.product) c.in_ok-start.ensures)) within) passes
 

@@ -1,5 +1,5 @@
 use Rattle.std.proofs.Common.{◌++◌, ◌<◌, refl, sym, ap, ◌∙◌, subst}
-use Rattle.esto_condchase.specs.Ways.{meets, HasWay}
+use Rattle.esto_condchase.specs.Ways.{meets, IsTold}
 use Rattle.esto_condchase.proofs.StepLemmas.{grown_same, passed_equal, passed_one}
 use Rattle.esto_condchase.proofs.steps.pass_at.Goals as goal
 
@@ -18,4 +18,4 @@ returns-clause-grown c = c.in_ok-pass.ensures.grown
 pub returns-clause-there : goal.returns-clause-there
 returns-clause-there c = passed_one c.args.step.now.known.now (meets c.args.step.now.from.now c.args.step.now.terms.now c.args.step.now.to.now c.args.step.now.owns.now)
     c.args.step.now.terms.now c.args.step.now.owns.now c.args.at c.args.floor c.args.product.now
-    (HasWay c.args.step.now.places.now _ (c.args.step.now.to.now ++ c.args.step.now.owns.now)) c.in_ok-pass.ensures.there
+    (IsTold c.args.step.now.known.now c.args.step.now.sides c.args.step.now.places.now _ (c.args.step.now.to.now ++ c.args.step.now.owns.now)) c.in_ok-pass.ensures.there

@@ -10,5 +10,5 @@ pub match_next-requires-clause-given : goal.match_next-requires-clause-given
 match_next-requires-clause-given c = subst (AreCounted c.args.count) (sym c.items.ensures) c.requires.counted
 
 pub returns-clause-next : goal.returns-clause-next
-returns-clause-next c = next_items c.args.known.now 0 c.args.from.now c.args.atom.now c.args.live.now c.args.ways.now c.items.result.now _ c.items.ensures
+returns-clause-next c = next_items c.args.known.now 0 c.args.from.now c.args.atom.now c.args.live.now c.args.sides.now c.args.ways.now c.items.result.now _ c.items.ensures
     c.in_ok-ways.ensures.next

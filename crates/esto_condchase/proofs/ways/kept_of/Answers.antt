@@ -21,7 +21,7 @@ returns-clause-come c way inside = grown_all _ _ c.in_ok-kept.kept c.in_ok-kept.
 
 pub returns-clause-goes : goal.returns-clause-goes
 returns-clause-goes c before inside = subst (GoesOn c.args.level.now.known.now c.args.level.now.since c.args.level.now.from.now c.args.level.now.atom.now
-    c.args.level.now.places.now before) (sym c.into_list.ensures) (c.in_ok-match_all.ensures.goes before inside)
+    c.args.level.now.sides c.args.level.now.places.now before) (sym c.into_list.ensures) (c.in_ok-match_all.ensures.goes before inside)
 
 pub returns-clause-counted : goal.returns-clause-counted
 returns-clause-counted c = subst (AreCounted c.args.count) (sym c.into_list.ensures) c.in_ok-match_all.ensures.counted

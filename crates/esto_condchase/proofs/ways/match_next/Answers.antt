@@ -7,6 +7,6 @@ pub kept_of-requires-clause-lengths : goal.kept_of-requires-clause-lengths
 kept_of-requires-clause-lengths c way inside = subst (λ (it : List Term). length it ≡ length way.to) (sym c.items.ensures) (c.requires.lengths way inside)
 
 pub returns-clause-next : goal.returns-clause-next
-returns-clause-next c = next_level c.args.known.now c.args.since c.args.from.now c.items.result.now c.args.atom.now c.args.live.now c.in_ok-places.places
-    c.items-2.result.now c.args.given.now _ c.items.ensures c.items-2.ensures c.in_ok-places.ensures c.in_ok-ways.ensures.come c.requires.lengths
+returns-clause-next c = next_level c.args.known.now c.args.since c.args.from.now c.items.result.now c.args.atom.now c.args.live.now c.args.sides.now
+    _ _ c.items-2.result.now c.args.given.now _ c.items.ensures c.items-2.ensures c.in_ok-sides.ensures.met c.in_ok-sides.ensures.tells c.in_ok-ways.ensures.come c.requires.lengths
     c.in_ok-ways.ensures.goes

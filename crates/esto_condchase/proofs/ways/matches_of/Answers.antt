@@ -13,7 +13,7 @@ pub atoms-init : goal.atoms-init
 atoms-init c =
     let are = c.in_ok-ways.ensures in
     record {
-      found = found_none c.args.known.now (terms_of c.args.body.now ++ c.args.asked.now) c.in_ok-ways.ways (empty_way c.args.count) are refl refl refl
+      found = found_none c.args.known.now (terms_of c.args.body.now ++ c.args.asked.now) c.args.sides.now c.in_ok-ways.ways (empty_way c.args.count) are refl refl refl
           (λ number has. Has-replicate c.args.count number has);
       from_is = c.new-from.ensures;
       counted = counted_one c.args.count c.in_ok-ways.ways (empty_way c.args.count) are (length-replicate c.args.count false);
@@ -21,14 +21,14 @@ atoms-init c =
 
 pub go_on-requires-clause-lengths : goal.go_on-requires-clause-lengths
 go_on-requires-clause-lengths c =
-    found_lengths c.args.known.now _ _ c.atoms.ways c.atoms.ways c.atoms.from c.atoms.invariant.found refl c.atoms.invariant.from_is
+    found_lengths c.args.known.now _ _ _ c.atoms.ways c.atoms.ways c.atoms.from c.atoms.invariant.found refl c.atoms.invariant.from_is
 
 pub go_on-requires-clause-counted : goal.go_on-requires-clause-counted
 go_on-requires-clause-counted c = c.atoms.invariant.counted
 
 pub returns-clause-found : goal.returns-clause-found
 returns-clause-found c =
-    body_all c.args.known.now c.args.body.now c.args.asked.now c.atoms.place c.atoms.ways c.atoms-test.false c.atoms.invariant.found
+    body_all c.args.known.now c.args.body.now c.args.asked.now c.args.sides.now c.atoms.place c.atoms.ways c.atoms-test.false c.atoms.invariant.found
 
 pub returns-clause-counted : goal.returns-clause-counted
 returns-clause-counted c = c.atoms.invariant.counted
@@ -37,8 +37,8 @@ pub atoms-preserved : goal.atoms-preserved
 atoms-preserved c =
     let atom = c.index-body-place.result in
     record {
-      found = body_turn c.args.known.now c.args.body.now c.args.asked.now c.items.result.now c.atoms.place atom c.atoms.ways c.go_on.new.ways
-          c.atoms.from c.atoms-test.true c.index-body-place.is
+      found = body_turn c.args.known.now c.args.body.now c.args.asked.now c.args.sides.now c.items.result.now c.atoms.place atom c.atoms.ways
+          c.go_on.new.ways c.atoms.from c.requires.among c.atoms-test.true c.index-body-place.is
           (c.items.ensures ∙ c.in_ok-live.ensures ∙ ap (λ (it : List (Fact Term)). terms_of it ++ c.args.asked.now)
           (rest_after c.args.body.now c.atoms.place c.atoms-test.true))
           c.atoms.invariant.from_is c.atoms.invariant.found c.in_ok-go_on.ensures.next;

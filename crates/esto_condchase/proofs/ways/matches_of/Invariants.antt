@@ -5,7 +5,7 @@ use Rattle.esto_condchase.proofs.ways.matches_of.Given as goal
 
 abbrev pub invariant-atoms : goal.invariant-atoms
 invariant-atoms l = record {
-  found : AreFound l.known (take l.place l.body) (terms_of (drop l.place l.body) ++ l.asked) l.ways;
+  found : AreFound l.known (take l.place l.body) (terms_of (drop l.place l.body) ++ l.asked) l.sides l.ways;
   from_is : l.from ≡ terms_of (take l.place l.body);
   counted : AreCounted l.count l.ways;
 }
