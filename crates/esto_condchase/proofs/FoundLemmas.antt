@@ -30,9 +30,15 @@ meet_one : (entries : List Entry) (from sides to : List Term) (at : Option (ℕ 
 meet_one entries from sides to at set met l (left, right, is, own, other, at_own, at_other, touches) =
     let its : AreMetAt from sides (left, right) = subst (λ it. IfSome it (AreMetAt from sides)) is met in
     let left_is = its.3.1 to own l at_own in
-    let right_is = its.4.1 to other l at_other in
-    (its.0, its.1, its.2, its.3.0, its.4.0, subst (λ it. Touching (InWorld entries set) it (taken from to its.1)) left_is
-    (subst (Touching (InWorld entries set) own) right_is touches))
+    let right_is = its.4.1 to other l at_other in (
+      its.0,
+      its.1,
+      its.2,
+      its.3.0,
+      its.4.0,
+      subst (λ it. Touching (InWorld entries set) it (taken from to its.1)) left_is
+          (subst (Touching (InWorld entries set) own) right_is touches),
+    )
 
 -- further terms leave what the sides meet
 meet_longer : (entries : List Entry) (from sides to more owns : List Term) (set : List Bool) → length from ≡ length to → MeetOne entries sides from to set
@@ -52,9 +58,15 @@ meet_agree : (entries : List Entry) (from sides to others : List Term) (set : Li
     → MeetOne entries sides from others set
 meet_agree entries from sides to others set agree (left, right, is, in_left, in_right, touches) =
     let left_in : Contains sides left = subst (λ it. Contains it left) (sym is) (Contains-head left (right ∷ [])) in
-    let right_in : Contains sides right = subst (λ it. Contains it right) (sym is) (Contains-rest left (right ∷ []) right (Contains-head right [])) in
-    (left, right, is, in_left, in_right, subst (λ it. Touching (InWorld entries set) it (taken from others right)) (agree left left_in)
-    (subst (Touching (InWorld entries set) (taken from to left)) (agree right right_in) touches))
+    let right_in : Contains sides right = subst (λ it. Contains it right) (sym is) (Contains-rest left (right ∷ []) right (Contains-head right [])) in (
+      left,
+      right,
+      is,
+      in_left,
+      in_right,
+      subst (λ it. Touching (InWorld entries set) it (taken from others right)) (agree left left_in)
+          (subst (Touching (InWorld entries set) (taken from to left)) (agree right right_in) touches),
+    )
 
 pub next_is : (entries : List Entry) (since : ℕ) (from : List Term) (atom : Fact Term) (live sides : List Term) (at : Option (ℕ × ℕ)) (places : List ℕ)
     (given ways : List Way) → IfSome at (AreMetAt (from ++ atom.terms) sides)

@@ -707,6 +707,20 @@ passed_unlinked entries m terms owns at floor product Settled read d read_term e
     let above = it.3 in
     absurd (omega (arith, below, above, late))
 
+pub never_passed : (entries : List Entry) (m : Term → Term) (terms owns : List Term) (at : ℕ) (read d read_term e goal : Term) (links : List ℕ)
+    → at < length owns → at < length terms → read ≡ get_or owns at d → read_term ≡ get_or terms at e → goal ≡ m read_term → (read ≡ goal → ⊥)
+    → AreAllLive entries links (λ claim. SaysOne claim read goal) → length links ≡ 0 → (set : List Bool) → PassesIn entries m terms owns set → ⊥
+never_passed entries m terms owns at read d read_term e goal links within within_terms read_is read_term_is goal_is apart live none set passes =
+    let at_own = item_at owns at read within (read_is ∙ get_or_default owns at d read within) in
+    let at_term = item_at terms at read_term within_terms (read_term_is ∙ get_or_default terms at e read_term within_terms) in
+    let unlike : read ≡ m read_term → ⊥ = λ is. apart (is ∙ sym goal_is) in
+    elim (from_world entries set read (m read_term) (passes_at entries m terms owns set passes at read read_term at_own at_term)) [
+      | inl is ↦ unlike is
+      | inr link ↦ passed_unlinked entries m terms owns at 0 [] (λ _. ⊥) read d read_term e goal links within within_terms read_is read_term_is goal_is live
+          (λ place inside. absurd (let below = inside.1 in omega (arith, below, none))) set read read_term (λ number has. absurd (Has-replicate 0 number has))
+          passes at_own at_term unlike link
+    ]
+
 pub all_old : (entries : List Entry) (m : Term → Term) (terms owns : List Term) (floor few : ℕ) → length owns ≡ length terms → length owns ≤ few
     → ((at : ℕ) → at < few → IsPassedAt entries m terms owns floor [] (λ _. ⊥) at)
     → (set : List Bool) → PassesIn entries m terms owns set → PassesIn (take floor entries) m terms owns set

@@ -126,8 +126,6 @@ pub fn matches_since(
     }
     match body.split_last() {
         None => Ok(List::new(alloc)),
-        Some((last, others)) => anew(
-            alloc, entries, since, others, last, asked, sides, count,
-        ),
+        Some((last, others)) => anew(alloc, entries, since, others, last, asked, sides, count),
     }
 }

@@ -336,6 +336,40 @@ fn pass_term(
     Ok(())
 }
 
+/// Whether no equality makes the term at a place of the row one with what it has to meet: true comes only where the row passes in
+/// no world.
+fn is_stuck_at(step: &Step, at: usize) -> bool
+    requires lengths { length step.now.from.now ≡ length step.now.to.now }
+    requires rows { length step.now.owns.now ≡ length step.now.terms.now }
+    requires at { at < length step.now.owns.now }
+    ensures { IsTrue result → (set : List Bool) → ¬ (PassesIn step.now.known.now (meets
+        step.now.from.now step.now.terms.now step.now.to.now step.now.owns.now) step.now.terms.now
+        step.now.owns.now set) }
+{
+    let own = &step.owns[at];
+    let goal = met_first(step.from, step.to, step.terms, step.owns, &step.terms[at]);
+    if own.equal(goal) {
+        return false;
+    }
+    links_of(step.known, own, goal).is_empty()
+}
+
+/// Whether some term of the row is so: true comes only where the row passes in no world.
+fn is_stuck(step: &Step) -> bool
+    requires lengths { length step.now.from.now ≡ length step.now.to.now }
+    requires rows { length step.now.owns.now ≡ length step.now.terms.now }
+    ensures { IsTrue result → (set : List Bool) → ¬ (PassesIn step.now.known.now (meets
+        step.now.from.now step.now.terms.now step.now.to.now step.now.owns.now) step.now.terms.now
+        step.now.owns.now set) }
+{
+    'row: for at in 0..step.owns.len() {
+        if is_stuck_at(step, at) {
+            return true;
+        }
+    }
+    false
+}
+
 /// Whether the term at a place of the row may be one with what it has to meet by an equality from a place on.
 fn is_linked_at(step: &Step, at: usize, floor: usize) -> bool
     requires lengths { length step.now.from.now ≡ length step.now.to.now }
@@ -371,17 +405,20 @@ fn is_linked_anew(step: &Step, floor: usize) -> bool
     false
 }
 
-/// Whether a floor is given and no equality from there on lets the row pass: true comes only where the entries before it let it
-/// pass wherever it does.
+/// Whether the row passes in no world, or a floor is given and no equality from there on lets it pass: true comes only where the
+/// entries before a floor let it pass wherever it does.
 pub fn is_old(step: &Step, floor: usize) -> bool
     requires lengths { length step.now.from.now ≡ length step.now.to.now }
     requires rows { length step.now.owns.now ≡ length step.now.terms.now }
-    ensures { IsTrue result → (0 < floor) × ((set : List Bool) → PassesIn step.now.known.now (meets
+    ensures { IsTrue result → (set : List Bool) → PassesIn step.now.known.now (meets
         step.now.from.now step.now.terms.now step.now.to.now step.now.owns.now) step.now.terms.now
-        step.now.owns.now set → PassesIn (take floor step.now.known.now) (meets step.now.from.now
-        step.now.terms.now step.now.to.now step.now.owns.now) step.now.terms.now
-        step.now.owns.now set) }
+        step.now.owns.now set → (0 < floor) × PassesIn (take floor step.now.known.now) (meets
+        step.now.from.now step.now.terms.now step.now.to.now step.now.owns.now) step.now.terms.now
+        step.now.owns.now set }
 {
+    if is_stuck(step) {
+        return true;
+    }
     if floor == 0 {
         return false;
     }

@@ -2,7 +2,7 @@
 ghost use Rattle.std.specs.Prelude.{◌≡◌, ◌++◌, ◌∷◌, [], ◌<◌, length, Contains, IfOk, IfSome, OnOk};
 ghost use Rattle.esto_semantics.specs.Facts.{terms_of};
 ghost use Rattle.esto_world_laws.specs.Worlds.{AreOfCount};
-ghost use Rattle.esto_condchase.specs.Ways.{AreCounted, AreMetAt, empty_way, Comes, GoesOn, TellsOne, AreNext, AreFound};
+ghost use Rattle.esto_condchase.specs.Ways.{AreCounted, AreMetAt, empty_way, Comes, GoesOn, Grown, TellsOne, AreNext, AreFound};
 ghost use Rattle.esto_condchase.specs.declared.ways.Way.{Way};
 
 use crate::fresh::fresh_of;
@@ -48,6 +48,41 @@ fn begun(alloc: Global, count: usize) -> Result<List<Way>, OutOfMemory>
     Ok(ways)
 }
 
+/// Keeps the ways that go on from the given ones with any fact of the next atom's relation.
+fn match_facts(
+    alloc: Global,
+    level: &Level,
+    given: &[Way],
+    count: usize,
+    kept: &mut Kept,
+) -> Result<(), OutOfMemory>
+    requires lengths { (way : Way) → Contains given.now way
+        → length level.now.from.now ≡ length way.to }
+    requires given { AreCounted count given.now }
+    requires counts { AreOfCount count level.now.known.now }
+    requires counted { AreCounted count kept.old }
+    ensures grown { OnOk result (Grown (λ way. (before : Way) × Contains given.now before
+        × Comes level.now.known.now level.now.from.now level.now.atom.now before way)
+        kept.old kept.new) }
+    ensures goes { OnOk result ((before : Way) → Contains given.now before
+        → GoesOn level.now.known.now level.now.since level.now.from.now level.now.atom.now
+        level.now.sides level.now.places.now before kept.new) }
+    ensures counted { OnOk result (AreCounted count kept.new) }
+{
+    let facts = facts_of(alloc, level.known, level.atom.relation)?;
+    let fresh = fresh_of(alloc, level.known, facts.items(), level.since)?;
+    match_all(
+        alloc,
+        level,
+        given,
+        facts.items(),
+        fresh.items(),
+        count,
+        kept,
+    )?;
+    Ok(())
+}
+
 /// The ways that go on from the given ones by the next atom.
 fn kept_of(
     alloc: Global,
@@ -67,18 +102,8 @@ fn kept_of(
         level.now.sides level.now.places.now before ways) }
     ensures counted { IfOk result (AreCounted count) }
 {
-    let facts = facts_of(alloc, level.known, level.atom.relation)?;
     let mut kept = Kept::new(alloc, given.len().max(64))?;
-    let fresh = fresh_of(alloc, level.known, facts.items(), level.since)?;
-    match_all(
-        alloc,
-        level,
-        given,
-        facts.items(),
-        fresh.items(),
-        count,
-        &mut kept,
-    )?;
+    match_facts(alloc, level, given, count, &mut kept)?;
     Ok(kept.into_list())
 }
 
@@ -154,7 +179,17 @@ fn go_on(
     ensures counted { OnOk result (AreCounted count ways.new) }
     ensures from { OnOk result (from.new ≡ from.old ++ atom.now.terms) }
 {
-    *ways = match_next(alloc, known, 0, from, atom, live, sides, ways.items(), count)?;
+    *ways = match_next(
+        alloc,
+        known,
+        0,
+        from,
+        atom,
+        live,
+        sides,
+        ways.items(),
+        count,
+    )?;
     from.append(atom.terms.copy(alloc)?)?;
     Ok(())
 }

@@ -9,7 +9,7 @@ use Rattle.esto_condchase.proofs.StepLemmas.{told_wider, counted_union, union_co
 use Rattle.esto_condchase.proofs.steps.pass_from.Goals as goal
 
 pub returns-then-is_old-clause-there : goal.returns-then-is_old-clause-there
-returns-then-is_old-clause-there c set within its_within passes = let it = c.is_old.ensures c.if-is_old.true in inr (it.0, it.1 set passes)
+returns-then-is_old-clause-there c set within its_within passes = inr (c.is_old.ensures c.if-is_old.true set passes)
 
 pub union_of-requires : goal.union_of-requires
 union_of-requires c = c.requires.count ∙ sym (c.requires.counts c.args.entry.now (Contains-at c.args.step.now.known.now c.args.place c.args.entry.now c.requires.at))
