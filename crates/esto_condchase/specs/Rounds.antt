@@ -52,7 +52,7 @@ pub record IsGrown (rules : List Rule) (entries : List Entry) (IsSo : Entry → 
   pub derived : (expanded : List ExpandedFact) → AreDerived expanded rules entries → AreDerived expanded rules later
   pub there : (entry : Entry) → IsSo entry → IsThere later entry.claim entry.product
 
--- They have grown so by all that was asked for.
+-- The entries have grown so, and cover all that was asked for.
 abbrev pub IsGrownBy : List Rule → List Entry → List Entry → List Entry → Type 0
 IsGrownBy rules entries asked later = IsGrown rules entries (Contains asked) later
 
@@ -62,7 +62,7 @@ IsAddedAt entries asked place later =
     ((entry : Entry) × (slice_get asked place ≡ Some entry) × IsAdded entries entry.claim entry.product entry.reason later)
     ⊎ ((length asked ≤ place) × (later ≡ entries))
 
--- They have grown so by what was asked for in these turns.
+-- The entries have grown so, and cover what was asked for in these turns.
 abbrev pub IsGrownIn : List Rule → List Entry → List Entry → List Turn → List Entry → Type 0
 IsGrownIn rules entries asked turns later =
     IsGrown rules entries (λ entry. (turn : Turn) × Contains turns turn × (slice_get asked turn.place ≡ Some entry)) later

@@ -189,13 +189,13 @@ pub record IsSupport (entries : List Entry) (m : Term → Term) (terms owns : Li
   pub union : (facts : List ℕ) → IsUnion entries (facts ++ start.links) start.product → IsUnion entries (facts ++ support.links) support.product
   pub count : length support.product ≡ length start.product
 
--- The later supports go on from the given ones by what makes two terms one: in each set's world one of them does, or some way is there already.
+-- The later supports go on from the given ones by what makes two terms one: in each set's world one of them does, or it is settled already.
 pub record AreLonger (entries : List Entry) (own goal : Term) (floor : ℕ) (Settled : List Bool → Type 0) (given later : List Support) : Type 0 where
   pub come : (support : Support) → Contains later support → (before : Support) × Contains given before × IsLonger entries own goal before support
   pub go_on : (set : List Bool) (before : Support) → Contains given before → Within before.product set → TouchesFrom entries floor set own goal
       → HasSupport later set ⊎ Settled set
 
--- The supports go on from the start by the first few of a fact's terms: in each set's world one of them does, or some way is there already.
+-- The supports go on from the start by the first few of a fact's terms: in each set's world one of them does, or it is settled already.
 pub record AreSupports (entries : List Entry) (m : Term → Term) (terms owns : List Term) (at floor : ℕ) (Settled : List Bool → Type 0) (start : Support)
     (few : ℕ) (supports : List Support) : Type 0 where
   pub come : (support : Support) → Contains supports support → IsSupport entries m terms owns start few support
@@ -244,8 +244,8 @@ pub record IsFound (entries : List Entry) (body : List (Fact Term)) (way : Way) 
   pub alike : AllZip IsLike body chosen
   pub is_way : IsWay entries way.facts (terms_of body) (terms_of chosen) way
 
--- The ways are direct matches of the body, and in each world each direct match agrees with one of them on the live terms, or makes no more of the two sides
--- one.
+-- The ways are direct matches of the body, and in each world each direct match agrees with one of them on the live terms, or the two sides meet terms that are
+-- one already.
 pub record AreFound (entries : List Entry) (body : List (Fact Term)) (live sides : List Term) (ways : List Way) : Type 0 where
   pub sound : (way : Way) → Contains ways way → IsFound entries body way
   pub complete : (atoms : List Bool) (chosen : List (Fact Term)) → IsDirectMatch (InWorld entries atoms) body chosen
