@@ -44,7 +44,8 @@ use Rattle.esto_data.specs.Answer.{IsUnionAnswerOfFacts, answer_course, answers_
 use Rattle.esto_data.specs.Audit.{AuditsFiles, all_fragments, audit_course, audit_text, audits_catalogue, audits_facts, compares, judges_views}
 use Rattle.esto_data.specs.Datasets.{IsAny, Names, OneNames, loads}
 use Rattle.esto_data.specs.DataLaws.{DataLaws}
-use Rattle.esto_data.specs.Fill.{IsFirstOf, fill_course, fill_status, fills_file, fills_fragment, fills_named, finds_fragment, names_of}
+use Rattle.esto_data.specs.Fill.{IsFilled, IsFirstOf, IsMade, fill_course, fill_status, finds_fragment, gives_course, gives_file, gives_fragment, gives_named, make_course}
+use Rattle.esto_data.specs.Fill.{names_of}
 use Rattle.esto_data.proofs.AlikeLemmas.{audits_over, first_one, fragments_long, texts_one, same_stored, same_view}
 use Rattle.esto_data.proofs.LoadLemmas.{loads_agree, loads_flat}
 use Rattle.esto_data.proofs.UnionLemmas.{same_queries, same_union_text}
@@ -168,37 +169,50 @@ module _ (laws : DataLaws) where
           (subst (λ (it : ConjunctiveQuery). Fills other_stored.store.shape (IsAnswer it (database_of facts)) other_result)
           (sym (same_view catalogue other alike number stored other_stored are.here are.there)) there)
 
-      file_agree : (facts : List (Fact Term)) → AgreeCalmly ◌≡◌ (fills_file stored facts) (fills_file other_stored facts)
-      file_agree facts = judges_agree _ _ _ _ _ _
-          (λ text other_text here there. ok_same text other_text (one_filled facts (Ok text) (Ok other_text) here.filled there.filled
+    -- whatever is asked of the text, where it is made of the rows of the view
+    module _ (Is : Stored → List (Fact Term) → List ℕ → Type 0)
+        (made : (stored : Stored) (facts : List (Fact Term)) (text : List ℕ) → Is stored facts text → IsMade stored facts text) where
+      file_agree : (number : ℕ) (stored other_stored : Stored) → BothStored number stored other_stored → (facts : List (Fact Term))
+          → AgreeCalmly ◌≡◌ (gives_file Is stored facts) (gives_file Is other_stored facts)
+      file_agree number stored other_stored are facts = judges_agree _ _ _ _ _ _
+          (λ text other_text here there. ok_same text other_text
+          (one (Ok text) (Ok other_text) (made stored facts text here) (made other_stored facts other_text there)
           (λ wanting. ok_not_err text filled.OutOfMemory wanting) (λ wanting. ok_not_err other_text filled.OutOfMemory wanting)))
           (λ said other_said caused other_caused here there.
-          here.2 ∙ ap fill_status (err_same here.0 there.0 (one_filled facts (Err here.0) (Err there.0) here.1 there.1
-          (no_want said here.0 caused here.2) (no_want other_said there.0 other_caused there.2))) ∙ sym there.2)
-          (λ text said caused here there. ok_not_err text there.0 (one_filled facts (Ok text) (Err there.0) here.filled there.1
-          (λ wanting. ok_not_err text filled.OutOfMemory wanting) (no_want said there.0 caused there.2)))
-          (λ text said caused here there. ok_not_err text there.0 (sym (one_filled facts (Err there.0) (Ok text) there.1 here.filled
-          (no_want said there.0 caused there.2) (λ wanting. ok_not_err text filled.OutOfMemory wanting))))
+          here.2 ∙ ap fill_status (err_same here.0 there.0 (one (Err here.0) (Err there.0) here.1 there.1
+          (no_want number stored other_stored are said here.0 caused here.2)
+          (no_want number stored other_stored are other_said there.0 other_caused there.2))) ∙ sym there.2)
+          (λ text said caused here there. ok_not_err text there.0 (one (Ok text) (Err there.0) (made stored facts text here) there.1
+          (λ wanting. ok_not_err text filled.OutOfMemory wanting) (no_want number stored other_stored are said there.0 caused there.2)))
+          (λ text said caused here there. ok_not_err text there.0 (sym (one (Err there.0) (Ok text) there.1 (made other_stored facts text here)
+          (no_want number stored other_stored are said there.0 caused there.2) (λ wanting. ok_not_err text filled.OutOfMemory wanting))))
+        where
+          one : (result other_result : Result (List ℕ) FillError)
+              → Fills stored.store.shape (IsAnswer (query_of stored.definition.view) (database_of facts)) result
+              → Fills other_stored.store.shape (IsAnswer (query_of other_stored.definition.view) (database_of facts)) other_result
+              → result ≢ Err filled.OutOfMemory → other_result ≢ Err filled.OutOfMemory → result ≡ other_result
+          one = one_filled number stored other_stored are facts
 
-    fragment_agree : (number : ℕ) → AgreeCalmly ◌≡◌ (fills_fragment (Some files) catalogue number) (fills_fragment (Some files) other number)
-    fragment_agree number =
-        then_agree _ (BothStored number) ◌≡◌ _ _ _ _
-        (judges_agree _ _ _ _ _ _ (λ stored other_stored here there. record { here = here; there = there })
-        (λ said other_said caused other_caused here there. absurd here) (λ value said caused here there. there) (λ value said caused here there. there))
-        (λ stored other_stored goes are.
-        then_agree _ ◌≡◌ ◌≡◌ _ _ _ _
-        (named_agree (query_of stored.definition.view).body (query_of other_stored.definition.view).body
-        (ap (λ (it : ConjunctiveQuery). it.body) (same_view catalogue other alike number stored other_stored are.here are.there)))
-        (λ facts others goes1 one.
-        then_agree _ ◌≡◌ ◌≡◌ _ _ _ _
-        (subst (λ (it : List (Fact Term)). AgreeCalmly ◌≡◌ (fills_file stored facts) (fills_file other_stored it)) one
-        (file_agree number stored other_stored are facts))
-        (λ text other_text goes2 one2. gives_agree _ (Done text) (Done other_text) (ap Done one2))))
+      fragment_agree : (number : ℕ) → AgreeCalmly ◌≡◌ (gives_fragment Is (Some files) catalogue number) (gives_fragment Is (Some files) other number)
+      fragment_agree number =
+          then_agree _ (BothStored number) ◌≡◌ _ _ _ _
+          (judges_agree _ _ _ _ _ _ (λ stored other_stored here there. record { here = here; there = there })
+          (λ said other_said caused other_caused here there. absurd here) (λ value said caused here there. there) (λ value said caused here there. there))
+          (λ stored other_stored goes are.
+          then_agree _ ◌≡◌ ◌≡◌ _ _ _ _
+          (named_agree (query_of stored.definition.view).body (query_of other_stored.definition.view).body
+          (ap (λ (it : ConjunctiveQuery). it.body) (same_view catalogue other alike number stored other_stored are.here are.there)))
+          (λ facts others goes1 one.
+          then_agree _ ◌≡◌ ◌≡◌ _ _ _ _
+          (subst (λ (it : List (Fact Term)). AgreeCalmly ◌≡◌ (gives_file Is stored facts) (gives_file Is other_stored it)) one
+          (file_agree number stored other_stored are facts))
+          (λ text other_text goes2 one2. gives_agree _ (Done text) (Done other_text) (ap Done one2))))
 
-    pub fills_agree : (name : List ℕ) → AgreeCalmly ◌≡◌ (fills_named (Some files) name catalogue) (fills_named (Some files) name other)
-    fills_agree name =
-        then_agree _ ◌≡◌ ◌≡◌ _ _ _ _ (found_agree name) (λ number other_number goes same.
-        subst (λ (it : ℕ). AgreeCalmly ◌≡◌ (fills_fragment (Some files) catalogue number) (fills_fragment (Some files) other it)) same (fragment_agree number))
+      pub fills_agree : (name : List ℕ) → AgreeCalmly ◌≡◌ (gives_named Is (Some files) name catalogue) (gives_named Is (Some files) name other)
+      fills_agree name =
+          then_agree _ ◌≡◌ ◌≡◌ _ _ _ _ (found_agree name) (λ number other_number goes same.
+          subst (λ (it : ℕ). AgreeCalmly ◌≡◌ (gives_fragment Is (Some files) catalogue number) (gives_fragment Is (Some files) other it)) same
+          (fragment_agree number))
 
     -- ---- `audit`
 
@@ -269,9 +283,17 @@ module _ (laws : DataLaws) where
   -- ---- the commands
 
   module _ (files : Files) where
+    pub gives_one : (Is : Stored → List (Fact Term) → List ℕ → Type 0)
+        → ((stored : Stored) (facts : List (Fact Term)) (text : List ℕ) → Is stored facts text → IsMade stored facts text)
+        → (catalogue_name name : List ℕ) → IsOne (gives_course Is (Some files) catalogue_name name)
+    gives_one Is made catalogue_name name = then_agree _ AreSame ◌≡◌ _ _ _ _ (laws.catalogues files catalogue_name)
+        (λ catalogue other goes alike. fills_agree files catalogue other alike Is made name)
+
     pub fills_one : (catalogue_name name : List ℕ) → IsOne (fill_course (Some files) catalogue_name name)
-    fills_one catalogue_name name = then_agree _ AreSame ◌≡◌ _ _ _ _ (laws.catalogues files catalogue_name)
-        (λ catalogue other goes alike. fills_agree files catalogue other alike name)
+    fills_one = gives_one IsFilled (λ stored facts text is. is.filled)
+
+    pub makes_one : (catalogue_name name : List ℕ) → IsOne (make_course (Some files) catalogue_name name)
+    makes_one = gives_one IsMade (λ stored facts text is. is)
 
     pub answers_one : (catalogue_name query_name : List ℕ) → IsOne (answer_course (Some files) catalogue_name query_name)
     answers_one catalogue_name query_name = then_agree _ AreSame ◌≡◌ _ _ _ _ (laws.catalogues files catalogue_name)

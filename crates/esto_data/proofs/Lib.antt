@@ -14,3 +14,4 @@ pub mod MovedLemmas
 pub mod ExactLemmas
 pub mod AuditedLemmas
 pub mod RefusalLemmas
+pub mod WeakerLemmas

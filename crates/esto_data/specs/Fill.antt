@@ -52,24 +52,53 @@ pub record IsFilled (stored : Stored) (facts : List (Fact Term)) (text : List �
   pub filled : Fills stored.store.shape (IsRowOfView stored.definition facts) (Ok text)
   pub opened : IsOpenedAs stored.store.shape (length stored.definition.view.head) (IsRowOfView stored.definition facts) (without_mark text)
 
--- The file is filled; or there is a cause for which it is not.
-abbrev pub fills_file : Stored → List (Fact Term) → Course Status (List ℕ)
-fills_file stored facts =
-    judges (IsFilled stored facts)
+-- The text of the file is made of the rows of the fragment's view.
+abbrev pub IsMade : Stored → List (Fact Term) → List ℕ → Type 0
+IsMade stored facts text = Fills stored.store.shape (IsRowOfView stored.definition facts) (Ok text)
+
+-- A text is given for the file, of which this is so; or there is a cause for which there is none.
+abbrev pub gives_file : (Stored → List (Fact Term) → List ℕ → Type 0) → Stored → List (Fact Term) → Course Status (List ℕ)
+gives_file Is stored facts =
+    judges (Is stored facts)
     (λ refusal. (cause : FillError) × Fills stored.store.shape (IsRowOfView stored.definition facts) (Err cause) × (refusal ≡ fill_status cause))
 
 -- The datasets that the view of the fragment of the number names are loaded, and the text of the fragment's file is the reply.
-abbrev pub fills_fragment : Option Files → Catalogue → ℕ → Course Status Reply
-fills_fragment files catalogue number =
+abbrev pub gives_fragment : (Stored → List (Fact Term) → List ℕ → Type 0) → Option Files → Catalogue → ℕ → Course Status Reply
+gives_fragment Is files catalogue number =
     and_then (judges (IsStoredAt catalogue number) (λ _. ⊥)) (λ stored.
     and_then (loads files catalogue.datasets (Names (query_of stored.definition.view).body)) (λ facts.
-    and_then (fills_file stored facts) (λ text.
+    and_then (gives_file Is stored facts) (λ text.
     gives (Done text))))
+
+-- The fragment is found, and the text of its file is the reply.
+abbrev pub gives_named : (Stored → List (Fact Term) → List ℕ → Type 0) → Option Files → List ℕ → Catalogue → Course Status Reply
+gives_named Is files name catalogue = and_then (finds_fragment catalogue name) (gives_fragment Is files catalogue)
+
+-- The catalogue is fetched and read, and the text of the fragment's file is the reply.
+abbrev pub gives_course : (Stored → List (Fact Term) → List ℕ → Type 0) → Option Files → List ℕ → List ℕ → Course Status Reply
+gives_course Is files catalogue_name name = and_then (opens_catalogue files catalogue_name) (gives_named Is files name)
+
+-- ---- the command's course
+
+-- The catalogue is fetched and read, and a text that is made of the rows of the fragment's view is the reply. That such a text says these rows when it is read
+-- is no step of the course, but follows of what is put.
+abbrev pub make_course : Option Files → List ℕ → List ℕ → Course Status Reply
+make_course files catalogue_name name = gives_course IsMade files catalogue_name name
+
+-- ---- what the command does
+
+-- The file is filled; or there is a cause for which it is not.
+abbrev pub fills_file : Stored → List (Fact Term) → Course Status (List ℕ)
+fills_file stored facts = gives_file IsFilled stored facts
+
+-- The datasets that the view of the fragment of the number names are loaded, and the fragment's file is filled.
+abbrev pub fills_fragment : Option Files → Catalogue → ℕ → Course Status Reply
+fills_fragment files catalogue number = gives_fragment IsFilled files catalogue number
 
 -- The fragment is found, and its file filled.
 abbrev pub fills_named : Option Files → List ℕ → Catalogue → Course Status Reply
-fills_named files name catalogue = and_then (finds_fragment catalogue name) (fills_fragment files catalogue)
+fills_named files name catalogue = gives_named IsFilled files name catalogue
 
 -- The catalogue is fetched and read, and the fragment's file is filled.
 abbrev pub fill_course : Option Files → List ℕ → List ℕ → Course Status Reply
-fill_course files catalogue_name name = and_then (opens_catalogue files catalogue_name) (fills_named files name)
+fill_course files catalogue_name name = gives_course IsFilled files catalogue_name name

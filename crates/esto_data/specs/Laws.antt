@@ -23,13 +23,17 @@ use Rattle.esto_opening.specs.declared.status.Status.TheVariants as status
 use Rattle.esto_data.specs.Answer.{IsAnswerOfFacts, IsUnionAnswerOfFacts, answer_course}
 use Rattle.esto_data.specs.Audit.{audit_course}
 use Rattle.esto_data.specs.Exact.{IsExactAnswer, IsExactAudit, IsExactFill, IsExactUnionAnswer, PrintsAnswersOfFacts, PrintsRows}
-use Rattle.esto_data.specs.Fill.{fill_course}
+use Rattle.esto_data.specs.Fill.{fill_course, make_course}
 
 -- ---- one outcome
 
 -- The course of `fill` over the same files has one reply or one refusal, where no fetch is at a fault.
 abbrev pub FillsAreOne : Type 0
 FillsAreOne = (files : Files) (catalogue_name name : List ℕ) → IsOne (fill_course (Some files) catalogue_name name)
+
+-- So it is with a text that is made of the rows of the fragment's view.
+abbrev pub MakesAreOne : Type 0
+MakesAreOne = (files : Files) (catalogue_name name : List ℕ) → IsOne (make_course (Some files) catalogue_name name)
 
 -- So has the course of `answer`.
 abbrev pub AnswersAreOne : Type 0

@@ -4,7 +4,7 @@ ghost use Rattle.esto_opening.specs.Fragments.{Stored};
 ghost use Rattle.esto_ports.specs.Faults.{Rises};
 ghost use Rattle.esto_opening.specs.Answers.{Answers};
 ghost use Rattle.esto_opening.specs.Asked.{AsksIn};
-ghost use Rattle.esto_data.specs.Fill.{fill_course, fill_status, fills_file, fills_fragment, fills_named, finds_fragment};
+ghost use Rattle.esto_data.specs.Fill.{fill_course, fill_status, fills_file, fills_fragment, fills_named, finds_fragment, make_course};
 ghost use Rattle.esto_opening.specs.Fragments.{IsStoredAt};
 
 use crate::datasets::load_named;
@@ -116,6 +116,11 @@ pub fn fill<S: Shelf>(
         (Rises S.faults shelf.old shelf.new) result }
     ensures asked { AsksIn (S.asked shelf.old) (S.asked shelf.new)
         (fill_course (S.files shelf.old) catalogue.now name.now) result }
+    // So it does where it is not asked what the text says when it is read.
+    ensures made { Answers (make_course (S.files shelf.old) catalogue.now name.now)
+        (Rises S.faults shelf.old shelf.new) result }
+    ensures made_asked { AsksIn (S.asked shelf.old) (S.asked shelf.new)
+        (make_course (S.files shelf.old) catalogue.now name.now) result }
     ensures files { S.files shelf.new ≡ S.files shelf.old }
     ensures later { S.faults shelf.old ≤ S.faults shelf.new }
 {

@@ -1,7 +1,7 @@
 //! Laws of the commands on data.
 ghost use Rattle.esto_data.specs.DataLaws.{DataLaws};
 ghost use Rattle.esto_data.specs.Laws.{AnswersAreExact, AnswersAreOne, AuditsAreExact, AuditsAreOne, AuditsRefuse, FillsAreExact, FillsAreOne};
-ghost use Rattle.esto_data.specs.Laws.{RepliesAreAudited, UnionAnswersAreExact};
+ghost use Rattle.esto_data.specs.Laws.{MakesAreOne, RepliesAreAudited, UnionAnswersAreExact};
 
 use esto_catalog::catalogues_are_sound;
 use esto_constraint::rules_are_sound;
@@ -17,9 +17,11 @@ fn data_laws_hold()
     rules_are_sound();
 }
 
-/// A law: over the same files `fill`, `answer` and `audit` have one reply or one refusal each, where no fetch is at a fault.
+/// A law: over the same files `fill`, `answer` and `audit` have one reply or one refusal each, where no fetch is at a fault; so
+/// has `fill` where it is not asked what the text says when it is read.
 pub fn data_outcomes_are_one()
     ensures fills { FillsAreOne }
+    ensures makes { MakesAreOne }
     ensures answers { AnswersAreOne }
     ensures audits { AuditsAreOne }
 {

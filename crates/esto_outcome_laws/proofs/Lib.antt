@@ -13,6 +13,7 @@ pub mod UnionLemmas
 pub mod TextLemmas
 pub mod DataLemmas
 pub mod AnswerCourse
+pub mod FillLemmas
 pub mod AuditLemmas
 pub mod ReasoningLemmas
 pub mod LinkLemmas

@@ -6,6 +6,7 @@ use Rattle.esto_catalog.specs.declared.catalogue.Catalogue.{Catalogue}
 use Rattle.esto_certify.specs.Verify.{verify_course}
 use Rattle.esto_data.specs.Answer.{answer_course}
 use Rattle.esto_data.specs.Audit.{audit_course}
+use Rattle.esto_data.specs.Fill.{make_course}
 use Rattle.esto_disjuncts.specs.List.{lists_union}
 use Rattle.esto_disjuncts.specs.Run.{runs_union}
 use Rattle.esto_list.specs.declared.listing.Listed.{Listed}
@@ -105,6 +106,10 @@ UnionsAreRun =
 -- `answer` comes to an end, or asks for a file that is not there.
 abbrev pub AnswersEnd : Type 0
 AnswersEnd = (files : Files) (catalogue_name query_name : List ℕ) → EndsOrLacks (answer_course (Some files) catalogue_name query_name)
+
+-- So does `fill`: it has a text that is made of the rows of the fragment's view, or a cause for which there is none.
+abbrev pub FillsEnd : Type 0
+FillsEnd = (files : Files) (catalogue_name name : List ℕ) → EndsOrLacks (make_course (Some files) catalogue_name name)
 
 -- So does `audit`.
 abbrev pub AuditsEnd : Type 0

@@ -1,6 +1,6 @@
 //! Laws of steps that come to an end.
 ghost use Rattle.esto_outcome_laws.specs.Steps.{AnswersEnd, AuditsEnd, CasesHaveSummaries, CataloguesOpen, ContainmentsEnd};
-ghost use Rattle.esto_outcome_laws.specs.Steps.{ItemsAreChosen, MinimisationsEnd, PlansHaveLists, PlansHaveTexts, QueriesArePlanned};
+ghost use Rattle.esto_outcome_laws.specs.Steps.{FillsEnd, ItemsAreChosen, MinimisationsEnd, PlansHaveLists, PlansHaveTexts, QueriesArePlanned};
 ghost use Rattle.esto_outcome_laws.specs.Steps.{QueriesHaveEnds, QueriesOpen, SetsHaveRows, SetsOpen, SetsUseFragments, UnionsAreListed};
 ghost use Rattle.esto_outcome_laws.specs.Steps.{UnionsAreRun, UnionsOpen, VerificationsEnd};
 
@@ -56,10 +56,11 @@ pub fn unions_are_listed_and_run()
     laws_below_hold();
 }
 
-/// A law: over whatever files, `answer`, `audit`, `contains`, `minimise` and `verify` come to an end, or ask for a file that is
-/// not there.
+/// A law: over whatever files, `answer`, `fill`, `audit`, `contains`, `minimise` and `verify` come to an end, or ask for a file
+/// that is not there.
 pub fn commands_come_to_an_end()
     ensures answer { AnswersEnd }
+    ensures fill { FillsEnd }
     ensures audit { AuditsEnd }
     ensures contains { ContainmentsEnd }
     ensures minimise { MinimisationsEnd }

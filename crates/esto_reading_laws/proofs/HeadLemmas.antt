@@ -22,7 +22,7 @@ use Rattle.esto_read.specs.declared.read.Form.TheVariants.{Query, View}
 use Rattle.esto_reading_laws.proofs.DecisionLemmas.{same_bytes}
 
 -- of a property that is decided at each thing of a list: the first place at which it holds, or it holds nowhere
-first_at : {A : Type 0} (P : ℕ → A → Type 0) → ((place : ℕ) (thing : A) → Decided (P place thing)) → (things : List A)
+pub first_at : {A : Type 0} (P : ℕ → A → Type 0) → ((place : ℕ) (thing : A) → Decided (P place thing)) → (things : List A)
     → ((place : ℕ) × (thing : A) × (slice_get things place ≡ Some thing) × P place thing
     × ((before : ℕ) (other : A) → before < place → slice_get things before ≡ Some other → ¬ P before other))
     ⊎ ((place : ℕ) (thing : A) → slice_get things place ≡ Some thing → ¬ P place thing)

@@ -1,21 +1,23 @@
 -- What `fill`, `answer` and `audit` answer where nothing is wrong with the files.
-use Rattle.std.proofs.Common.{ℕ, List, Option, Some, None, sym, ap, subst, ◌∙◌, inl, inr}
+use Rattle.std.proofs.Common.{ℕ, List, Option, Some, None, Result, sym, ap, subst, ◌∙◌, inl, inr}
 use Rattle.esto_course.specs.Course.{Course}
 use Rattle.esto_data.specs.Answer.{answer_course}
 use Rattle.esto_data.specs.Audit.{audit_course}
 use Rattle.esto_data.specs.Exact.{IsExactAnswer, IsExactAudit, IsExactFill, IsExactUnionAnswer}
 use Rattle.esto_data.specs.Fill.{fill_course}
+use Rattle.esto_opening.specs.Answers.{Answers}
 use Rattle.esto_opening.specs.Calm.{SaysAlways}
 use Rattle.esto_data.specs.Laws.{AnswersAreExact, AuditsAreExact, FillsAreExact, UnionAnswersAreExact}
 use Rattle.esto_ports.specs.Files.{Files}
 use Rattle.esto_opening.specs.declared.reply.Reply.{Reply}
 use Rattle.esto_opening.specs.declared.status.Status.{Status}
-use Rattle.esto_top.specs.DataOutcomes.{AnswersWhereTold, AuditsWhereTold, FillsWhereTold, OutcomesAreAnswers, OutcomesAreAudits, OutcomesAreFills}
+use Rattle.esto_top.specs.DataOutcomes.{AnswersFill, AnswersWhereTold, AuditsWhereTold, FillsWhereTold, OutcomesAreAnswers, OutcomesAreAudits}
 use Rattle.esto_top.specs.DataOutcomes.{OutcomesAreUnionAnswers, UnionAnswersWhereTold}
-use Rattle.esto_top.specs.Grammar.{course_of}
+use Rattle.esto_top.specs.Grammar.{course_of, request_of}
 use Rattle.esto_opening.specs.Replies.{reply_status, reply_text}
-use Rattle.esto_top.specs.Outcome.{CompleteWhereTold, Says}
+use Rattle.esto_top.specs.Outcome.{CompleteWhereTold, Finishes, Says}
 use Rattle.esto_top.specs.Outcome.Says.{replies, refuses}
+use Rattle.esto_top.proofs.Mediation.{mediates, whole_or_wanting}
 
 -- what holds of the replies and refusals of a course holds of what it says
 pub says_fact : (course : Course Status Reply) (Fact : Status → List ℕ → Type 0) (said : Status) (text : List ℕ) → SaysAlways course Fact
@@ -25,11 +27,6 @@ says_fact course Fact said text always (replies reply goes said_is text_is) =
     subst (λ (it : List ℕ). Fact said it) (sym (text_is ∙ ap reply_text found.1))
     (subst (λ (it : Status). Fact it found.0) (sym (said_is ∙ ap reply_status found.1)) found.2)
 says_fact course Fact said text always (refuses caused stops text_is) = subst (Fact said) (sym text_is) (always.stops said caused stops)
-
-pub outcomes_are_fills : FillsAreExact → OutcomesAreFills
-outcomes_are_fills exact words files catalogue_name name catalogue said text is say outcome =
-    says_fact (fill_course (Some files) catalogue_name name) (IsExactFill files catalogue name) said text (exact files catalogue_name name catalogue say)
-    (subst (λ (it : List (List ℕ)). Says (course_of it (Some files)) ⊥ said text) is outcome)
 
 pub outcomes_are_answers : AnswersAreExact → OutcomesAreAnswers
 outcomes_are_answers exact words files catalogue_name query_name catalogue query said text is say outcome =
@@ -51,13 +48,21 @@ outcomes_are_audits exact words files name catalogue said text is say outcome =
 -- ---- where the files are told
 
 module _ (words : List (List ℕ)) (rose sink_rose : Type 0) (old new : Option (List ℕ)) (result : Status) where
-  pub fills_where_told : OutcomesAreFills → (files : Option Files) → CompleteWhereTold words files rose sink_rose old new result
-      → FillsWhereTold words files rose sink_rose old new result
-  fills_where_told are None complete = tt
-  fills_where_told are (Some files) complete = λ calm sink_calm catalogue_name name catalogue is say. elim (complete calm sink_calm) [
-    | inl whole ↦ inl (whole.0, are words files catalogue_name name catalogue result whole.0 is say whole.1, whole.2)
-    | inr wanting ↦ inr wanting
-  ]
+  pub fills_where_told : FillsAreExact → (files : Option Files) (answer : Result Reply Status) → AnswersFill (request_of words) files rose answer
+      → Finishes answer old new sink_rose result → FillsWhereTold words files rose sink_rose old new result
+  fills_where_told exact None answer fills finishes = tt
+  fills_where_told exact (Some files) answer fills finishes = λ calm sink_calm catalogue_name name catalogue is say.
+      let course = fill_course (Some files) catalogue_name name in
+      let answers : Answers (fill_course (Some files) catalogue_name name) rose answer =
+      subst (λ (it : List (List ℕ)). AnswersFill (request_of it) (Some files) rose answer) is fills in
+      elim (whole_or_wanting course rose sink_rose old new result (mediates course rose answer old new sink_rose result answers finishes) calm sink_calm) [
+        | inl whole ↦ inl (
+          whole.0,
+          says_fact course (IsExactFill files catalogue name) result whole.0 (exact files catalogue_name name catalogue say) whole.1,
+          whole.2,
+        )
+        | inr wanting ↦ inr wanting
+      ]
 
   pub answers_where_told : OutcomesAreAnswers → (files : Option Files) → CompleteWhereTold words files rose sink_rose old new result
       → AnswersWhereTold words files rose sink_rose old new result

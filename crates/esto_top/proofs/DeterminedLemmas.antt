@@ -10,7 +10,7 @@ use Rattle.esto_query.specs.declared.query.Query.{Query}
 use Rattle.esto_views.specs.declared.plan.Plan.{Plan}
 use Rattle.esto_top.specs.Check.{check_text, check_course, count_lines, rank_lines}
 use Rattle.esto_course.proofs.Determined.{then_agree, gives_agree, refuses_agree, judges_agree}
-use Rattle.esto_data.specs.Laws.{AnswersAreOne, AuditsAreOne, FillsAreOne}
+use Rattle.esto_data.specs.Laws.{AnswersAreOne, AuditsAreOne, MakesAreOne}
 use Rattle.esto_certify.specs.Laws.{ExplainHasOneStatus, VerifyIsOne}
 use Rattle.esto_bench.specs.Summary.{SummariesAreOne}
 use Rattle.esto_reasoning.specs.Laws.{ContainsIsOne, MinimiseIsOne}
@@ -60,7 +60,7 @@ pub record UnionLaws : Type 0 where
 
 -- the laws by which the commands on data, on queries and on certificates have one outcome
 pub record OneLaws : Type 0 where
-  pub fills : FillsAreOne
+  pub fills : MakesAreOne
   pub answers : AnswersAreOne
   pub audits : AuditsAreOne
   pub contains : ContainsIsOne

@@ -229,7 +229,7 @@ module _ (laws : StepLaws) where
     asked_ends (Some (ContainsFor catalogue left right)) covered sized = laws.contains files catalogue left right
     asked_ends (Some (MinimiseFor catalogue query)) covered sized = laws.minimise files catalogue query
     asked_ends (Some (BenchOf size)) covered sized = benches_end size sized
-    asked_ends (Some (FillFor catalogue fragment)) covered sized = absurd (covered tt)
+    asked_ends (Some (FillFor catalogue fragment)) covered sized = laws.fill files catalogue fragment
     asked_ends (Some (ExplainFor catalogue query number)) covered sized = absurd (covered tt)
     asked_ends (Some (VerifyFor catalogue query atoms file)) covered sized = named_ends catalogue query atoms file
 

@@ -1,5 +1,5 @@
 -- What the top call answers, from what a command answers and what the one put does.
-use Rattle.std.proofs.Common.{◌≡◌, ℕ, List, Option, Some, None, Result, Ok, Err, refl, sym, ap, subst, ◌∙◌, inl, inr}
+use Rattle.std.proofs.Common.{◌≡◌, ◌⊎◌, ℕ, List, Option, Some, None, Result, Ok, Err, refl, sym, ap, subst, ◌∙◌, inl, inr}
 use Rattle.esto_ports.specs.Files.{Files}
 use Rattle.esto_course.specs.Course.{Course, Stops, refuses as course_refuses}
 use Rattle.esto_opening.specs.Answers.{IsWant, IsCaused, Answers}
@@ -14,7 +14,7 @@ use Rattle.esto_opening.specs.declared.reply.Reply.{Reply}
 use Rattle.esto_opening.specs.declared.reply.Reply.TheVariants as reply
 use Rattle.esto_opening.specs.declared.status.Status.{Status}
 use Rattle.esto_opening.specs.declared.status.Status.TheVariants as status
-use Rattle.std.specs.Io.KnownBytes.{Appends}
+use Rattle.std.specs.Io.KnownBytes.{Appends, Keeps}
 use Rattle.esto_opening.specs.Line.{line_of}
 
 says : (course : Course Status Reply) (rose : Type 0) (answer : Result Reply Status) (said : Status) (text : List ℕ) → Answers course rose answer
@@ -36,12 +36,18 @@ calm : (course : Course Status Reply) (rose : Type 0) (said : Status) (text : Li
 calm course rose said text none (replies reply goes e f) = replies reply goes e f
 calm course rose said text none (refuses caused stops e) = refuses (caused_weaker none said caused) stops e
 
+-- where neither count rose, the whole text was put, or memory was refused
+pub whole_or_wanting : (course : Course Status Reply) (rose sink_rose : Type 0) (old new : Option (List ℕ)) (result : Status)
+    → Mediates course rose old new sink_rose result → ¬ rose → ¬ sink_rose
+    → ((text : List ℕ) × Says course ⊥ result text × Appends old new text) ⊎ ((result ≡ status.OutOfMemory) × Keeps old new)
+whole_or_wanting course rose sink_rose old new result (whole text said appends) none sink_none = inl (text, calm course rose result text none said, appends)
+whole_or_wanting course rose sink_rose old new result (cut status text kept said risen appends e) none sink_none = absurd (sink_none risen)
+whole_or_wanting course rose sink_rose old new result (nothing keeps e) none sink_none = inr (e, keeps)
+
 pub complete : (words : List (List ℕ)) (files : Option Files) (rose sink_rose : Type 0) (old new : Option (List ℕ)) (result : Status)
     → Mediates (course_of words files) rose old new sink_rose result → CompleteWhereTold words files rose sink_rose old new result
 complete words None rose sink_rose old new result m = tt
-complete words (Some files) rose sink_rose old new result (whole text said appends) = λ none sink_none. inl (text, calm _ rose result text none said, appends)
-complete words (Some files) rose sink_rose old new result (cut status text kept said risen appends e) = λ none sink_none. absurd (sink_none risen)
-complete words (Some files) rose sink_rose old new result (nothing keeps e) = λ none sink_none. inr (e, keeps)
+complete words (Some files) rose sink_rose old new result m = whole_or_wanting (course_of words (Some files)) rose sink_rose old new result m
 
 -- no command says that a write failed
 never_said : (course : Course Status Reply) (rose : Type 0) (said : Status) (text : List ℕ) → Says course rose said text → said ≡ status.WriteFault → ⊥

@@ -1,12 +1,17 @@
 -- What `fill`, `answer` and `audit` answer where nothing is wrong with the files.
-use Rattle.std.specs.Prelude.{◌≡◌, ℕ, List, [], ◌∷◌, Option, Some, None, codes}
+use Rattle.std.specs.Prelude.{◌≡◌, ℕ, List, [], ◌∷◌, Option, Some, None, Result, codes}
 use Rattle.esto_catalog.specs.declared.catalogue.Catalogue.{Catalogue}
 use Rattle.esto_data.specs.Exact.{IsExactAnswer, IsExactAudit, IsExactFill, IsExactUnionAnswer}
+use Rattle.esto_data.specs.Fill.{fill_course}
+use Rattle.esto_opening.specs.Answers.{Answers}
 use Rattle.esto_opening.specs.Opening.{FilesSayCatalogue, FilesSayUnion}
 use Rattle.esto_ports.specs.Files.{Files}
 use Rattle.esto_query.specs.declared.query.Query.{Query}
+use Rattle.esto_opening.specs.declared.reply.Reply.{Reply}
 use Rattle.esto_opening.specs.declared.status.Status.{Status}
 use Rattle.esto_opening.specs.declared.status.Status.TheVariants as status
+use Rattle.esto_top.specs.Grammar.{Request}
+use Rattle.esto_top.specs.Grammar.Request.{FillFor}
 use Rattle.esto_top.specs.Headline.{FilesSay, HoldsOfPut}
 use Rattle.esto_top.specs.Outcome.{Outcome}
 use Rattle.esto_top.specs.Runs.{AsksRun}
@@ -26,13 +31,6 @@ OutcomesAreUnionAnswers =
     (words : List (List ℕ)) (files : Files) (catalogue_name query_name : List ℕ) (catalogue : Catalogue) (queries : List Query) (said : Status)
     (text : List ℕ) → words ≡ codes "answer" ∷ catalogue_name ∷ query_name ∷ [] → FilesSayCatalogue files catalogue_name catalogue
     → FilesSayUnion files query_name catalogue queries → Outcome words files said text → IsExactUnionAnswer files catalogue queries said text
-
--- Each outcome of `fill C F` is exact, where the files say a catalogue.
-abbrev pub OutcomesAreFills : Type 0
-OutcomesAreFills =
-    (words : List (List ℕ)) (files : Files) (catalogue_name name : List ℕ) (catalogue : Catalogue) (said : Status) (text : List ℕ)
-    → words ≡ codes "fill" ∷ catalogue_name ∷ name ∷ [] → FilesSayCatalogue files catalogue_name catalogue → Outcome words files said text
-    → IsExactFill files catalogue name said text
 
 -- Each outcome of `audit C` is exact, where the files say a catalogue.
 abbrev pub OutcomesAreAudits : Type 0
@@ -60,6 +58,11 @@ UnionAnswersWhereTold words (Some files) rose sink_rose old new result =
     ¬ rose → ¬ sink_rose → (catalogue_name query_name : List ℕ) (catalogue : Catalogue) (queries : List Query)
     → words ≡ codes "answer" ∷ catalogue_name ∷ query_name ∷ [] → FilesSayCatalogue files catalogue_name catalogue
     → FilesSayUnion files query_name catalogue queries → HoldsOfPut (IsExactUnionAnswer files catalogue queries) old new result
+
+-- What is answered where a filled file is asked for is what the command does: its text says the rows of the fragment's view when it is read.
+abbrev pub AnswersFill : Option Request → Option Files → Type 0 → Result Reply Status → Type 0
+AnswersFill (Some (FillFor catalogue_name name)) files rose result = Answers (fill_course files catalogue_name name) rose result
+AnswersFill _ files rose result = Unit {0}
 
 -- What `fill C F` puts is exact, or memory was refused and nothing put, where the files are told and say a catalogue, and neither count rose.
 abbrev pub FillsWhereTold : List (List ℕ) → Option Files → Type 0 → Type 0 → Option (List ℕ) → Option (List ℕ) → Status → Type 0

@@ -10,7 +10,7 @@ use Rattle.esto_opening.specs.declared.status.Status.{Status}
 use Rattle.esto_opening.specs.declared.status.Status.TheVariants as status
 use Rattle.esto_top.specs.Determined.{FixesText}
 use Rattle.esto_top.specs.Grammar.{Request, course_of, request_of}
-use Rattle.esto_top.specs.Grammar.Request.{ExplainFor, FillFor}
+use Rattle.esto_top.specs.Grammar.Request.{ExplainFor}
 use Rattle.esto_top.specs.Outcome.{Outcome}
 
 -- The words over the files have an outcome.
@@ -29,19 +29,18 @@ AreAmong files names = (name : List ℕ) → Contains names name → (file : Lis
 abbrev pub HaveFetched : List (List ℕ) → Files → Type 0
 HaveFetched words files = (names : Names) → Fetches (course_of words (Some files)) names → AreAmong files names
 
--- What is asked for is a filled file, or a certificate.
+-- What is asked for is a certificate.
 abbrev pub IsLeftOut : Option Request → Type 0
-IsLeftOut (Some (FillFor catalogue fragment)) = Unit {0}
 IsLeftOut (Some (ExplainFor catalogue query number)) = Unit {0}
 IsLeftOut _ = ⊥
 
--- The words ask neither for a filled file nor for a certificate.
+-- The words don't ask for a certificate.
 abbrev pub AreCovered : List (List ℕ) → Type 0
 AreCovered words = ¬ (IsLeftOut (request_of words))
 
 -- ---- laws
 
--- Whatever the words are, but for a filled file and a certificate, they have an outcome over whatever files, or they ask for a file that is not there.
+-- Whatever the words are, but for a certificate, they have an outcome over whatever files, or they ask for a file that is not there.
 abbrev pub OutcomesExist : Type 0
 OutcomesExist = (words : List (List ℕ)) (files : Files) → AreCovered words → HasOutcome words files ⊎ LacksFile words files
 
@@ -55,7 +54,7 @@ OutcomesHaveFiles =
 abbrev pub OutcomesLackNone : Type 0
 OutcomesLackNone = (words : List (List ℕ)) (files : Files) → HasOutcome words files → LacksFile words files → ⊥
 
--- Whatever the words are, but for a filled file and a certificate, they have an outcome exactly where each file that they fetch is there.
+-- Whatever the words are, but for a certificate, they have an outcome exactly where each file that they fetch is there.
 abbrev pub OutcomesAreWhereFilesAre : Type 0
 OutcomesAreWhereFilesAre = (words : List (List ℕ)) (files : Files) → AreCovered words → HasOutcome words files ↔ HaveFetched words files
 
@@ -69,7 +68,7 @@ IsTheOutcome words files old new result =
     × (((result ≡ said) × (FixesText words said → Appends old new text)) ⊎ ((result ≡ status.OutOfMemory) × Keeps old new))
 
 -- Where the shelf tells its files, each that the words fetch is there, and neither count rose, there is an outcome, and it is what was answered, or memory was
--- refused. Of a filled file and of a certificate this is not said.
+-- refused. Of a certificate this is not said.
 abbrev pub AnsweredWhereTold : List (List ℕ) → Option Files → Type 0 → Type 0 → Option (List ℕ) → Option (List ℕ) → Status → Type 0
 AnsweredWhereTold words None rose sink_rose old new result = Unit {0}
 AnsweredWhereTold words (Some files) rose sink_rose old new result =

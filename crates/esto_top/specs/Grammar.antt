@@ -9,7 +9,7 @@ use Rattle.esto_certify.specs.Explain.{explain_course}
 use Rattle.esto_certify.specs.Verify.{verify_course}
 use Rattle.esto_data.specs.Answer.{answer_course}
 use Rattle.esto_data.specs.Audit.{audit_course}
-use Rattle.esto_data.specs.Fill.{fill_course}
+use Rattle.esto_data.specs.Fill.{make_course}
 use Rattle.esto_reasoning.specs.Contains.{contains_course}
 use Rattle.esto_reasoning.specs.Minimise.{minimise_course}
 use Rattle.esto_top.specs.Bench.{bench_course}
@@ -178,7 +178,7 @@ course_of_request files (Request.CheckOf catalogue) = check_course files catalog
 course_of_request files (Request.ListFor catalogue query) = list_course files catalogue query
 course_of_request files (Request.RunFor catalogue query number) = run_course files catalogue query number
 course_of_request files (Request.BenchOf size) = bench_course size
-course_of_request files (Request.FillFor catalogue fragment) = fill_course files catalogue fragment
+course_of_request files (Request.FillFor catalogue fragment) = make_course files catalogue fragment
 course_of_request files (Request.AnswerFor catalogue query) = answer_course files catalogue query
 course_of_request files (Request.AuditOf catalogue) = audit_course files catalogue
 course_of_request files (Request.ContainsFor catalogue left right) = contains_course files catalogue left right

@@ -5,7 +5,7 @@ use Rattle.esto_opening.specs.Alike.{CataloguesOpenAlike, FragmentOpensAlike, Fr
 use Rattle.esto_opening.specs.Unions.{OpenedFormUnions, UnionsOfOneAreQueries}
 use Rattle.esto_outcome_laws.specs.Steps.{AnswersEnd, AuditsEnd, CasesHaveSummaries, CataloguesOpen, ContainmentsEnd, ItemsAreChosen, MinimisationsEnd}
 use Rattle.esto_outcome_laws.specs.Steps.{PlansHaveLists, PlansHaveTexts, QueriesArePlanned, QueriesHaveEnds, SetsHaveRows, SetsOpen, SetsUseFragments}
-use Rattle.esto_outcome_laws.specs.Steps.{UnionsAreListed, UnionsAreRun, UnionsOpen, VerificationsEnd}
+use Rattle.esto_outcome_laws.specs.Steps.{FillsEnd, UnionsAreListed, UnionsAreRun, UnionsOpen, VerificationsEnd}
 use Rattle.esto_planning.specs.Alike.{ChoiceIsOne, ClashIsMoved, EndIsOne, ListIsMoved, ListIsOne, ListingIsMoved, ListingIsOne, PlanIsMoved, PlanIsOne}
 use Rattle.esto_planning.specs.Laws.{ClashExcludesAnswers, CoreHasNoRetract, CoreIsOnly, ItemIsListed, PlaceIsWithin, PlanHasForm, PlanIsUniversal}
 use Rattle.esto_planning.specs.Laws.{PlanTellsAnswers}
@@ -63,6 +63,7 @@ pub record StepLaws : Type 0 where
   pub union_list : UnionsAreListed
   pub union_run : UnionsAreRun
   pub answer : AnswersEnd
+  pub fill : FillsEnd
   pub audit : AuditsEnd
   pub contains : ContainmentsEnd
   pub minimise : MinimisationsEnd

@@ -4,6 +4,7 @@ ghost use Rattle.std.specs.List.{list_all};
 ghost use Rattle.esto_ports.specs.Faults.{Rises};
 ghost use Rattle.esto_opening.specs.Answers.{Answers};
 ghost use Rattle.esto_opening.specs.Asked.{AsksIn};
+ghost use Rattle.esto_top.specs.DataOutcomes.{AnswersFill};
 ghost use Rattle.esto_top.specs.Grammar.{is_word, is_digit, is_leading_digit, is_list_number, is_made_size, value_of, request_of_one, request_of_two};
 ghost use Rattle.esto_top.specs.Grammar.{request_of_three, request_of_four, request_of, asked, IsSized, course_of_request, number_above, numbers_above};
 ghost use Rattle.esto_top.specs.Grammar.{names_atoms, verifies_named};
@@ -293,6 +294,8 @@ pub fn obey<S: Shelf>(alloc: Global, shelf: &mut S, command: Command<'_>) -> Res
         (Rises S.faults shelf.old shelf.new) result }
     ensures asked { AsksIn (S.asked shelf.old) (S.asked shelf.new)
         (course_of_request (S.files shelf.old) (asked command.entry)) result }
+    ensures filled { AnswersFill (Some (asked command.entry)) (S.files shelf.old)
+        (Rises S.faults shelf.old shelf.new) result }
     ensures files { S.files shelf.new ≡ S.files shelf.old }
     ensures later { S.faults shelf.old ≤ S.faults shelf.new }
 {

@@ -1,8 +1,9 @@
 //! Laws of outcomes.
+ghost use Rattle.esto_data.specs.Laws.{FillsAreExact};
 ghost use Rattle.esto_top.specs.CertificateOutcomes.{OutcomesAreExplained, OutcomesAreVerified};
 ghost use Rattle.esto_top.specs.CertificateOutcomes.{OutcomesOfExplainAreAccepted};
 ghost use Rattle.esto_top.specs.DataOutcomes.{OutcomesAgree, OutcomesAreAnswers};
-ghost use Rattle.esto_top.specs.DataOutcomes.{OutcomesAreAudits, OutcomesAreFills};
+ghost use Rattle.esto_top.specs.DataOutcomes.{OutcomesAreAudits};
 ghost use Rattle.esto_top.specs.DataOutcomes.{OutcomesAreUnionAnswers};
 ghost use Rattle.esto_top.specs.Determined.{AskedBeginsFetches, CoursesAreOne};
 ghost use Rattle.esto_top.specs.Determined.{FetchesAreDetermined, OutcomesAreDetermined};
@@ -159,7 +160,7 @@ fn steps_hold()
     cases_have_summaries();
 }
 
-/// A law: whatever the words are, also those outside the grammar, but for `fill` and `explain`, they have an outcome over
+/// A law: whatever the words are, also those outside the grammar, but for `explain`, they have an outcome over
 /// whatever files, or they ask for a file that is not there.
 pub fn outcomes_exist()
     ensures { OutcomesExist }
@@ -168,7 +169,7 @@ pub fn outcomes_exist()
 }
 
 /// A law: whatever the words are, each file that they fetch is there where they have an outcome, so that they have none where
-/// they ask for a file that is not there. But for `fill` and `explain`, they have one exactly where each is there.
+/// they ask for a file that is not there. But for `explain`, they have one exactly where each is there.
 pub fn outcomes_are_where_files_are()
     ensures files { OutcomesHaveFiles }
     ensures lacks { OutcomesLackNone }
@@ -178,11 +179,11 @@ pub fn outcomes_are_where_files_are()
     outcomes_are_determined();
 }
 
-/// A law: where the files say what a command on data needs, each outcome of `fill` is the file of the fragment's view rows,
-/// of `answer` the answers of the query, or of the union, over the datasets' files, and of `audit` that all agrees, or the
-/// first cause that there is.
+/// A law: where the files say what a command on data needs, what `fill` does is the file of the fragment's view rows, each
+/// outcome of `answer` is the answers of the query, or of the union, over the datasets' files, and of `audit` that all agrees,
+/// or the first cause that there is.
 pub(crate) fn data_outcomes_hold()
-    ensures fills { OutcomesAreFills }
+    ensures fills { FillsAreExact }
     ensures answers { OutcomesAreAnswers }
     ensures unions { OutcomesAreUnionAnswers }
     ensures audits { OutcomesAreAudits }

@@ -5,10 +5,10 @@ ghost use Rattle.esto_opening.specs.Answers.{Answers};
 ghost use Rattle.esto_opening.specs.Asked.{AsksIn, AsksAsTold};
 ghost use Rattle.esto_top.specs.Benches.{BenchesAlways};
 ghost use Rattle.esto_top.specs.CertificateOutcomes.{ExplainsWhereTold, VerifiesWhereTold};
-ghost use Rattle.esto_top.specs.DataOutcomes.{AnswersWhereTold, AuditsWhereTold, FillsWhereTold, UnionAnswersWhereTold};
+ghost use Rattle.esto_top.specs.DataOutcomes.{AnswersFill, AnswersWhereTold, AuditsWhereTold, FillsWhereTold, UnionAnswersWhereTold};
 ghost use Rattle.esto_top.specs.Determined.{ExactWhereTold};
 ghost use Rattle.esto_top.specs.Existing.{AnsweredWhereTold};
-ghost use Rattle.esto_top.specs.Grammar.{course_of};
+ghost use Rattle.esto_top.specs.Grammar.{course_of, request_of};
 ghost use Rattle.esto_top.specs.Headline.{ListsWhereTold, RefusesWhereTold};
 ghost use Rattle.esto_top.specs.ReasoningOutcomes.{ContainsWhereTold, MinimisesWhereTold};
 ghost use Rattle.esto_top.specs.Runs.{RunsWhereTold};
@@ -32,6 +32,8 @@ fn answer<S: Shelf>(alloc: Global, words: &[Text], shelf: &mut S) -> Result<Repl
         (Rises S.faults shelf.old shelf.new) result }
     ensures asked { AsksIn (S.asked shelf.old) (S.asked shelf.new)
         (course_of words.now (S.files shelf.old)) result }
+    ensures filled { AnswersFill (request_of words.now) (S.files shelf.old)
+        (Rises S.faults shelf.old shelf.new) result }
     ensures files { S.files shelf.new ≡ S.files shelf.old }
     ensures later { S.faults shelf.old ≤ S.faults shelf.new }
 {
@@ -65,8 +67,8 @@ pub fn mediate<S: Shelf, O: Sink>(
         (Rises S.faults shelf.old shelf.new) (Rises O.faults out.old out.new) (O.written out.old)
         (O.written out.new) result }
 
-    // And there is one, wherever each file that the words fetch is there: want of memory is the only way out of it. Of `fill`
-    // and `explain` this is not said.
+    // And there is one, wherever each file that the words fetch is there: want of memory is the only way out of it. Of
+    // `explain` this is not said.
     ensures answered { AnsweredWhereTold words.now (S.files shelf.old)
         (Rises S.faults shelf.old shelf.new) (Rises O.faults out.old out.new) (O.written out.old)
         (O.written out.new) result }

@@ -1,9 +1,13 @@
 use Rattle.esto_outcome_laws.proofs.CommandLemmas.{answer_ends, audit_ends, contains_ends, minimise_ends, verify_ends}
+use Rattle.esto_outcome_laws.proofs.FillLemmas.{make_ends}
 use Rattle.esto_outcome_laws.proofs.steps.commands_come_to_an_end.Goals as goal
 
 pub returns-clause-answer : goal.returns-clause-answer
 returns-clause-answer c = λ files catalogue_name query_name.
     answer_ends c.reading_laws_hold.ensures c.laws_below_hold.ensures files catalogue_name query_name
+
+pub returns-clause-fill : goal.returns-clause-fill
+returns-clause-fill c = λ files catalogue_name name. make_ends c.laws_below_hold.ensures c.reading_laws_hold.ensures files catalogue_name name
 
 pub returns-clause-audit : goal.returns-clause-audit
 returns-clause-audit c = λ files catalogue_name.

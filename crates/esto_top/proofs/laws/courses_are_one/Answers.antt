@@ -12,7 +12,7 @@ returns c =
     })
     (record { lists = c.union_lists_are_one.ensures; runs = c.union_runs_are_one.ensures }) c.summaries_are_one.ensures
     (record {
-      fills = c.data_outcomes_are_one.ensures.fills;
+      fills = c.data_outcomes_are_one.ensures.makes;
       answers = c.data_outcomes_are_one.ensures.answers;
       audits = c.data_outcomes_are_one.ensures.audits;
       contains = c.reasoning_outcomes_are_one.ensures.contains;

@@ -18,6 +18,7 @@ returns c = record {
   union_list = c.unions_are_listed_and_run.ensures.list;
   union_run = c.unions_are_listed_and_run.ensures.run;
   answer = c.commands_come_to_an_end.ensures.answer;
+  fill = c.commands_come_to_an_end.ensures.fill;
   audit = c.commands_come_to_an_end.ensures.audit;
   contains = c.commands_come_to_an_end.ensures.contains;
   minimise = c.commands_come_to_an_end.ensures.minimise;

@@ -13,3 +13,9 @@ returns-in-Some-clause-answer g c = rw c.in-Some.ensures.command c.obey.ensures.
 
 pub returns-in-Some-clause-asked : goal.returns-in-Some-clause-asked
 returns-in-Some-clause-asked g c = rw c.in-Some.ensures.command c.obey.ensures.asked
+
+pub returns-in-None-clause-filled : goal.returns-in-None-clause-filled
+returns-in-None-clause-filled g c = rw c.in-None.ensures.command tt
+
+pub returns-in-Some-clause-filled : goal.returns-in-Some-clause-filled
+returns-in-Some-clause-filled g c = rw c.in-Some.ensures.command c.obey.ensures.filled

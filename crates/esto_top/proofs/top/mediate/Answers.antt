@@ -76,8 +76,7 @@ returns-clause-answer_union g c =
 
 pub returns-clause-fill : goal.returns-clause-fill
 returns-clause-fill g c =
-    fills_where_told c.args.words.now _ _ _ _ _ c.data_outcomes_hold.ensures.fills _
-    (complete c.args.words.now _ _ _ _ _ _ (mediates _ _ _ _ _ _ _ c.answer-answer.ensures.answer c.finish.ensures.put))
+    fills_where_told c.args.words.now _ _ _ _ _ c.data_outcomes_hold.ensures.fills _ _ c.answer-answer.ensures.filled c.finish.ensures.put
 
 pub returns-clause-audit : goal.returns-clause-audit
 returns-clause-audit g c =
