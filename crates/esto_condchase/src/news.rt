@@ -105,8 +105,9 @@ fn anew(
     Ok(ways)
 }
 
-/// The direct matches of a body among the entries, as far as they tell what the terms asked for meet, each with what it uses, but
-/// for those that use the entries before a place alone, and for those by which the two sides, if there are two, are one already.
+/// The direct matches of a body among the entries, as far as they tell what the terms asked for meet, each with what
+/// it uses, but for those that use the entries before a place alone, and for those by which the two sides, if there
+/// are two, are one already.
 pub fn matches_since(
     alloc: Global,
     entries: &Known,

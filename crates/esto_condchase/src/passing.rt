@@ -24,9 +24,9 @@ pub struct Support {
     pub product: RowBits,
 }
 
-/// A fact that goes on from a way: `from` are the terms of the atoms so far, which meet `to`; `terms` and `owns` are those of the
-/// next atom and of the fact. What stands at the places tells all that is asked for later, and has this key. Nothing is owed where
-/// what stands at the two sides' places is one already.
+/// A fact that goes on from a way: `from` are the terms of the atoms so far, which meet `to`; `terms` and `owns` are
+/// those of the next atom and of the fact. What stands at the places tells all that is asked for later, and has this
+/// key. Nothing is owed where what stands at the two sides' places is one already.
 #[derive(Clone, Copy)]
 pub struct Step<'a> {
     pub known: &'a Known,
@@ -56,7 +56,8 @@ pub fn met_first<'a>(
     taken_term(terms, owns, term)
 }
 
-/// Whether what stands at the two sides' places is one already, by an entry whose product is within the set if not by itself.
+/// Whether what stands at the two sides' places is one already, by an entry whose product is within the set if not by
+/// itself.
 fn are_one(step: &Step, product: &RowBits) -> bool
     requires { AreOfCount (length product.now) step.now.known.now }
     ensures { IsTrue result → AreOneAt step.now.known.now step.now.sides
@@ -114,7 +115,8 @@ pub fn union_of(alloc: Global, one: &RowBits, other: &RowBits) -> Result<RowBits
     Ok(product)
 }
 
-/// Adds the support with an equality more, unless a kept way tells the same with a product within its own, or nothing is owed.
+/// Adds the support with an equality more, unless a kept way tells the same with a product within its own, or nothing
+/// is owed.
 fn add_longer(
     alloc: Global,
     step: &Step,
@@ -336,8 +338,8 @@ fn pass_term(
     Ok(())
 }
 
-/// Whether no equality makes the term at a place of the row one with what it has to meet: true comes only where the row passes in
-/// no world.
+/// Whether no equality makes the term at a place of the row one with what it has to meet: true comes only where the
+/// row passes in no world.
 fn is_stuck_at(step: &Step, at: usize) -> bool
     requires lengths { length step.now.from.now ≡ length step.now.to.now }
     requires rows { length step.now.owns.now ≡ length step.now.terms.now }
@@ -405,8 +407,8 @@ fn is_linked_anew(step: &Step, floor: usize) -> bool
     false
 }
 
-/// Whether the row passes in no world, or a floor is given and no equality from there on lets it pass: true comes only where the
-/// entries before a floor let it pass wherever it does.
+/// Whether the row passes in no world, or a floor is given and no equality from there on lets it pass: true comes
+/// only where the entries before a floor let it pass wherever it does.
 pub fn is_old(step: &Step, floor: usize) -> bool
     requires lengths { length step.now.from.now ≡ length step.now.to.now }
     requires rows { length step.now.owns.now ≡ length step.now.terms.now }

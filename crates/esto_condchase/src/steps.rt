@@ -290,9 +290,9 @@ fn pass_from(
     Ok(())
 }
 
-/// What a search goes on by: the entries, the terms of the atoms so far, the next atom, the places of the two sides, and those of
-/// what tells all that is asked for later. A way that uses nothing from a place on is not looked for, unless that is 0, and neither
-/// is one by which what stands at the two sides' places is one already.
+/// What a search goes on by: the entries, the terms of the atoms so far, the next atom, the places of the two sides,
+/// and those of what tells all that is asked for later. A way that uses nothing from a place on is not looked for,
+/// unless that is 0, and neither is one by which what stands at the two sides' places is one already.
 #[derive(Clone, Copy)]
 pub struct Level<'a> {
     pub known: &'a Known,

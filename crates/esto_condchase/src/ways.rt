@@ -107,8 +107,8 @@ fn kept_of(
     Ok(kept.into_list())
 }
 
-/// The places among the terms so far and those of the atom that tell what the two sides meet, if there are two, and what the live
-/// terms meet.
+/// The places among the terms so far and those of the atom that tell what the two sides meet, if there are two, and
+/// what the live terms meet.
 fn places_for(
     alloc: Global,
     from: &Terms,
@@ -126,9 +126,9 @@ fn places_for(
     Ok((places_met(terms.items(), sides), places))
 }
 
-/// The ways that go on from the given ones by one atom, as far as they tell what the live terms meet: the terms of the atoms that
-/// are still to come, and those that are asked for in the end. Those that use nothing from a place on are left out, unless that is 0,
-/// and so are those by which the two sides are one already.
+/// The ways that go on from the given ones by one atom, as far as they tell what the live terms meet: the terms of
+/// the atoms that are still to come, and those that are asked for in the end. Those that use nothing from a place on
+/// are left out, unless that is 0, and so are those by which the two sides are one already.
 pub fn match_next(
     alloc: Global,
     known: &Known,
@@ -203,9 +203,9 @@ fn live_terms(alloc: Global, atoms: &[Atom], asked: &[Term]) -> Result<Terms, Ou
     Ok(live)
 }
 
-/// The direct matches of a body among the entries, each with what it uses, as far as they tell what the terms meet that are
-/// asked for: in each world, each direct match agrees on these with one of them, whose product is within the world's set, or the two
-/// sides meet terms that are one already.
+/// The direct matches of a body among the entries, each with what it uses, as far as they tell what the terms meet
+/// that are asked for: in each world, each direct match agrees on these with one of them, whose product is within the
+/// world's set, or the two sides meet terms that are one already.
 pub fn matches_of(
     alloc: Global,
     known: &Known,
