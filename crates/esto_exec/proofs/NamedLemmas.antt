@@ -74,10 +74,11 @@ filters_early get width links more link early among grown cells row wide follows
       subst (IsMet cells row) (sym new.1) (met.0, met.1, sym (early_code width link.source cells row new.0 wide) ∙ met.2)
 ]
 
--- the early links name one list of codes in the cells and in each row that follows
-pub early_names : (get : Get) (width : ℕ) (links : List Link) (sources columns : List Source) (cells : List ℕ) → width ≤ length cells
-    → AreEarly get width links → sources ≡ map (λ (link : Link). link.source) links → columns ≡ map (λ (link : Link). Cell link.column) links
-    → (row : List ℕ) → Follows get cells row → (codes : List ℕ) × NamesCodes cells sources codes × NamesCodes row columns codes
-early_names get width links sources columns cells wide early sources_are columns_are row follows =
-    let names = met_names cells row links (early cells row wide follows) in
+-- links that are met name one list of codes, by their sources in the cells and by their columns in the row
+pub links_name : (links : List Link) (sources columns : List Source) (cells row : List ℕ)
+    → sources ≡ map (λ (link : Link). link.source) links → columns ≡ map (λ (link : Link). Cell link.column) links
+    → ((link : Link) → Contains links link → IsMet cells row link)
+    → (codes : List ℕ) × NamesCodes cells sources codes × NamesCodes row columns codes
+links_name links sources columns cells row sources_are columns_are met =
+    let names = met_names cells row links met in
     (names.0, subst (λ it. NamesCodes cells it names.0) (sym sources_are) names.1, subst (λ it. NamesCodes row it names.0) (sym columns_are) names.2)

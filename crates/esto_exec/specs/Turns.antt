@@ -13,6 +13,7 @@ use Rattle.esto_exec.specs.declared.slots.Side.{Side}
 use Rattle.esto_exec.specs.declared.slots.Side.TheVariants.{Constant, Held, Nothing}
 use Rattle.esto_exec.specs.declared.slots.Equation.{Equation}
 
+-- Whether the two are one slot: of the same get, and of the same column.
 abbrev pub same_slot : Slot → Slot → Bool
 same_slot slot other = (slot.get == other.get) && (slot.column == other.column)
 
@@ -21,10 +22,12 @@ abbrev pub place_in : List Slot → Slot → ℕ
 place_in [] slot = 0
 place_in (first ∷ rest) slot = cond (same_slot first slot) 0 (place_in rest slot + 1)
 
+-- Whether the number is one of these.
 abbrev pub is_in : List ℕ → ℕ → Bool
 is_in [] number = false
 is_in (first ∷ rest) number = (first == number) || is_in rest number
 
+-- Whether the side is known where the gets of the numbers are done: a slot is where its get is one of these; what is no slot always is.
 abbrev pub is_known : List ℕ → Side → Bool
 is_known done (Constant code) = true
 is_known done (Held slot) = is_in done slot.get
@@ -92,6 +95,7 @@ head_slots arities head = flat_map (λ source. side_slots (side_of arities sourc
 abbrev pub needed_slots : List ℕ → List Get → List Equation → List Source → List ℕ → List Slot
 needed_slots arities gets equations head done = (equation_slots done equations ++ input_slots arities done 0 gets) ++ head_slots arities head
 
+-- Whether the slot is one of these.
 abbrev pub is_among : List Slot → Slot → Bool
 is_among [] slot = false
 is_among (first ∷ rest) slot = same_slot first slot || is_among rest slot

@@ -1,6 +1,7 @@
 //! Rows so far joined with rows of a fragment.
 ghost use Rattle.std.specs.Prelude.{◌≡◌, ◌↔◌, ◌++◌, ◌<◌, [], List, ℕ, Some, slice_get, length, drop, map, Contains, IfOk, OnOk, IsTrue};
-ghost use Rattle.esto_plan.specs.Meaning.{Follows};
+ghost use Rattle.esto_plan.specs.Meaning.{IsMet, Follows};
+ghost use Rattle.esto_plan.specs.declared.steps.Link.{Link};
 ghost use Rattle.esto_plan.specs.declared.steps.Source.{Source};
 ghost use Rattle.esto_plan.specs.declared.steps.Source.TheVariants.{Cell};
 ghost use Rattle.esto_columns.specs.Indexed.{AreChains, bucket_of};
@@ -18,10 +19,10 @@ use esto_term::{OutOfMemory, Values};
 use std::alloc::Global;
 
 /// A get that is joined, and what names the codes that are kept of its joined rows.
-#[derive(Drop)]
-pub(crate) struct Join {
-    pub get: Get,
-    pub kept: Sources,
+#[derive(Clone, Copy)]
+pub(crate) struct Join<'a> {
+    pub get: &'a Get,
+    pub kept: &'a Sources,
 }
 
 /// Lists that are filled anew for each row: the cells of a row so far and its key, the cells with those of a row of the
@@ -93,11 +94,11 @@ fn push_follower(
     buffers: &mut Buffers,
     into: &mut Seen,
 ) -> Result<(), OutOfMemory>
-    requires { into.old.arity ≡ length join.now.kept }
+    requires { into.old.arity ≡ length join.now.kept.now }
     ensures cells { buffers.new.cells ≡ buffers.old.cells }
     ensures arity { OnOk result (into.new.arity ≡ into.old.arity) }
-    ensures rows { OnOk result (GainsOnly into.old.rows into.new.rows (IsKept join.now.kept
-        (IsFollowerAt join.now.get buffers.old.cells rows.now.rows place))) }
+    ensures rows { OnOk result (GainsOnly into.old.rows into.new.rows (IsKept join.now.kept.now
+        (IsFollowerAt join.now.get.now buffers.old.cells rows.now.rows place))) }
 {
     if place >= rows.len() {
         return Ok(());
@@ -105,10 +106,10 @@ fn push_follower(
     append_row(buffers.cells.items(), rows, place, &mut buffers.both)?;
     let cells = buffers.cells.items();
     let both = buffers.both.items();
-    if !follows(&join.get, cells, both, past(both, cells.len())) {
+    if !follows(join.get, cells, both, past(both, cells.len())) {
         return Ok(());
     }
-    if !name_codes(both, &join.kept, &mut buffers.kept)? {
+    if !name_codes(both, join.kept, &mut buffers.kept)? {
         return Ok(());
     }
     put_unseen(alloc, into, buffers.kept.items())
@@ -124,13 +125,13 @@ fn push_followers(
     buffers: &mut Buffers,
     into: &mut Seen,
 ) -> Result<(), OutOfMemory>
-    requires { into.old.arity ≡ length join.now.kept }
+    requires { into.old.arity ≡ length join.now.kept.now }
     ensures arity { OnOk result (into.new.arity ≡ into.old.arity) }
     ensures rows { OnOk result ((buckets : List ℕ) → AreChains index.now buckets
         → GainsOnly into.old.rows into.new.rows (λ it. (place : ℕ)
         × (slice_get buckets place ≡ Some (bucket_of (length index.now.last) buffers.old.key))
-        × IsKept join.now.kept
-        (IsFollowerAt join.now.get buffers.old.cells rows.now.rows place) it)) }
+        × IsKept join.now.kept.now
+        (IsFollowerAt join.now.get.now buffers.old.cells rows.now.rows place) it)) }
 {
     let mut next = index.last_of(buffers.key.items());
     'places: while next > 0 {
@@ -154,14 +155,14 @@ fn push_joined(
     into: &mut Seen,
 ) -> Result<(), OutOfMemory>
     requires there { at < length so_far.now.rows }
-    requires arity { into.old.arity ≡ length join.now.kept }
+    requires arity { into.old.arity ≡ length join.now.kept.now }
     requires found { (columns : List Source) × FindsRows rows.now.rows columns index.now
-        × ((cells row : List ℕ) → Contains so_far.now.rows cells → Follows join.now.get cells row
+        × ((cells row : List ℕ) → Contains so_far.now.rows cells → Follows join.now.get.now cells row
         → (codes : List ℕ) × NamesCodes cells sources.now codes × NamesCodes row columns codes) }
     ensures arity { OnOk result (into.new.arity ≡ into.old.arity) }
     ensures rows { OnOk result ((cells : List ℕ) → slice_get so_far.now.rows at ≡ Some cells
         → GainsOnly into.old.rows into.new.rows
-        (IsKept join.now.kept (IsFollower join.now.get cells rows.now.rows))) }
+        (IsKept join.now.kept.now (IsFollower join.now.get.now cells rows.now.rows))) }
 {
     read_row(so_far, at, &mut buffers.cells)?;
     if !name_codes(buffers.cells.items(), sources, &mut buffers.key)? {
@@ -181,12 +182,12 @@ fn push_each_joined(
     into: &mut Seen,
 ) -> Result<(), OutOfMemory>
     requires none { into.old.rows ≡ [] }
-    requires arity { into.old.arity ≡ length join.now.kept }
+    requires arity { into.old.arity ≡ length join.now.kept.now }
     requires found { (columns : List Source) × FindsRows rows.now.rows columns index.now
-        × ((cells row : List ℕ) → Contains so_far.now.rows cells → Follows join.now.get cells row
+        × ((cells row : List ℕ) → Contains so_far.now.rows cells → Follows join.now.get.now cells row
         → (codes : List ℕ) × NamesCodes cells sources.now codes × NamesCodes row columns codes) }
     ensures { OnOk result ((row : List ℕ) → Contains into.new.rows row
-        ↔ IsKept join.now.kept (IsJoin join.now.get so_far.now.rows rows.now.rows) row) }
+        ↔ IsKept join.now.kept.now (IsJoin join.now.get.now so_far.now.rows rows.now.rows) row) }
 {
     let mut buffers = Buffers::new(alloc);
     'rows: for at in 0..so_far.len() {
@@ -206,7 +207,7 @@ fn push_each_joined(
 }
 
 /// An index of the rows by the columns of the links.
-pub(crate) fn index_by(alloc: Global, rows: &Rows, links: &Links) -> Result<Index, OutOfMemory>
+fn index_by(alloc: Global, rows: &Rows, links: &Links) -> Result<Index, OutOfMemory>
     ensures { IfOk result
         (FindsRows rows.now.rows (map (λ link. Cell link.column) links.now)) }
 {
@@ -216,7 +217,29 @@ pub(crate) fn index_by(alloc: Global, rows: &Rows, links: &Links) -> Result<Inde
 }
 
 /// Puts what is kept of each of the rows so far with every one of the rows that follows it at the end, by an index of
-/// these.
+/// these. The links are ones that each row meets which follows one so far.
+fn push_joined_by(
+    alloc: Global,
+    join: &Join,
+    so_far: &Rows,
+    rows: &Rows,
+    links: &Links,
+    into: &mut Seen,
+) -> Result<(), OutOfMemory>
+    requires none { into.old.rows ≡ [] }
+    requires arity { into.old.arity ≡ length join.now.kept.now }
+    requires early { (cells row : List ℕ) → Contains so_far.now.rows cells
+        → Follows join.now.get.now cells row
+        → (link : Link) → Contains links.now link → IsMet cells row link }
+    ensures { OnOk result ((row : List ℕ) → Contains into.new.rows row
+        ↔ IsKept join.now.kept.now (IsJoin join.now.get.now so_far.now.rows rows.now.rows) row) }
+{
+    let sources = sources_of(alloc, links)?;
+    let index = index_by(alloc, rows, links)?;
+    push_each_joined(alloc, join, so_far, rows, &sources, &index, into)
+}
+
+/// Puts what is kept of each of the rows so far with every one of the rows that follows it at the end.
 fn push_all_joined(
     alloc: Global,
     join: &Join,
@@ -225,15 +248,13 @@ fn push_all_joined(
     into: &mut Seen,
 ) -> Result<(), OutOfMemory>
     requires none { into.old.rows ≡ [] }
-    requires arity { into.old.arity ≡ length join.now.kept }
+    requires arity { into.old.arity ≡ length join.now.kept.now }
     ensures { OnOk result ((row : List ℕ) → Contains into.new.rows row
-        ↔ IsKept join.now.kept (IsJoin join.now.get so_far.now.rows rows.now.rows) row) }
+        ↔ IsKept join.now.kept.now (IsJoin join.now.get.now so_far.now.rows rows.now.rows) row) }
 {
     let width = so_far.arity();
-    let links = early_links(alloc, &join.get, width)?;
-    let sources = sources_of(alloc, &links)?;
-    let index = index_by(alloc, rows, &links)?;
-    push_each_joined(alloc, join, so_far, rows, &sources, &index, into)
+    let links = early_links(alloc, join.get, width)?;
+    push_joined_by(alloc, join, so_far, rows, &links, into)
 }
 
 /// What is kept of the rows so far, each with every one of the rows that follows it after it.
@@ -244,7 +265,7 @@ pub(crate) fn joined(
     rows: &Rows,
 ) -> Result<Rows, OutOfMemory>
     ensures { IfOk result (λ it. (row : List ℕ) → Contains it.rows row
-        ↔ IsKept join.now.kept (IsJoin join.now.get so_far.now.rows rows.now.rows) row) }
+        ↔ IsKept join.now.kept.now (IsJoin join.now.get.now so_far.now.rows rows.now.rows) row) }
 {
     let mut joined = Seen::new(alloc, join.kept.len(), so_far.len())?;
     push_all_joined(alloc, join, so_far, rows, &mut joined)?;

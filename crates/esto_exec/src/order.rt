@@ -1,12 +1,9 @@
 //! Which get is joined next. Nothing rests on it but speed, so nothing here has a contract.
-use crate::codes::{name_codes, read_row};
-use crate::join::index_by;
-use crate::links::{early_links, sources_of};
-use crate::slots::{Equation, Equations, Side, first_of, is_in, is_known, side_of};
-use crate::turns::{Prepared, SoFar, links_at};
-use esto_columns::{Index, Rows};
-use esto_plan::{Get, Links, Sources};
-use esto_term::{List, OutOfMemory, Places, Replicate, Values};
+use crate::guess::rows_after;
+use crate::slots::{Equation, Side, first_of, is_in, is_known, side_of};
+use crate::turns::{Prepared, SoFar};
+use esto_plan::Get;
+use esto_term::{OutOfMemory, Places, Replicate, Values};
 use std::alloc::Global;
 
 /// Whether the inputs of the get are known.
@@ -81,96 +78,86 @@ fn linked_gets(
     Ok(linked)
 }
 
-/// The links of the get of the number that constants and cells of the rows so far decide.
-fn links_so_far(
-    alloc: Global,
-    number: usize,
-    equations: &Equations,
-    so_far: &SoFar,
-) -> Result<Links, OutOfMemory> {
-    let mut done = so_far.done.copy(alloc)?;
-    done.push(number)?;
-    let get = Get {
-        fragment: 0,
-        inputs: List::new(alloc),
-        filters: links_at(alloc, number, &done, &so_far.places, equations)?,
-    };
-    early_links(alloc, &get, so_far.rows.arity())
-}
-
-/// How many places the bucket of the key has, or the limit where these are more.
-fn bucket_size(index: &Index, key: &[u64], limit: usize) -> usize {
-    let mut size: usize = 0;
-    let mut next = index.last_of(key);
-    'places: while next > 0 {
-        if size >= limit {
-            return size;
-        }
-        size += 1;
-        next = index.before(next - 1);
+/// Puts the numbers at the end.
+fn push_all(numbers: &mut Places, more: &Places) -> Result<(), OutOfMemory> {
+    'numbers: for number in more.items() {
+        numbers.push(*number)?;
     }
-    size
+    Ok(())
 }
 
-/// How many rows there are at most whose keys are those of the rows so far, or some number past the limit.
-fn joined_rows(
-    alloc: Global,
-    so_far: &Rows,
-    sources: &Sources,
-    index: &Index,
-    limit: usize,
-) -> Result<usize, OutOfMemory> {
-    let mut cells = Values::new(alloc);
-    let mut key = Values::new(alloc);
-    let mut count: usize = 0;
-    'rows: for at in 0..so_far.len() {
-        read_row(so_far, at, &mut cells)?;
-        if name_codes(cells.items(), sources, &mut key)? {
-            count = count.saturating_add(bucket_size(index, key.items(), limit));
-        }
-        if count > limit {
-            return Ok(count);
-        }
-    }
-    Ok(count)
+/// Puts the gets that are linked to these and whose inputs these tell after them.
+fn reach_more(alloc: Global, steps: &Prepared, reached: &mut Places) -> Result<(), OutOfMemory> {
+    let ready = ready_gets(alloc, steps, reached)?;
+    let linked = linked_gets(alloc, steps, reached, &ready)?;
+    push_all(reached, &linked)
 }
 
-/// How many rows there are at most once the table's rows are joined by the links, or some number past the limit.
-fn rows_by(
-    alloc: Global,
-    links: &Links,
-    table: &Rows,
-    so_far: &Rows,
-    limit: usize,
-) -> Result<usize, OutOfMemory> {
-    if links.is_empty() {
-        return Ok(so_far.len().saturating_mul(table.len()));
-    }
-    let sources = sources_of(alloc, links)?;
-    let index = index_by(alloc, table, links)?;
-    joined_rows(alloc, so_far, &sources, &index, limit)
-}
-
-/// How many rows there are at most once the get of the number is joined, or some number past the limit. A get with inputs
-/// is taken to give one row for each so far.
-fn rows_after(
+/// How many gets are done or led to once the get of the number is done: links lead from one to the next.
+fn reach(
     alloc: Global,
     steps: &Prepared,
+    done: &Places,
     number: usize,
-    so_far: &SoFar,
-    limit: usize,
 ) -> Result<usize, OutOfMemory> {
-    let (Some(get), Some(table)) = (
-        steps.gets.items().get(number),
-        steps.tables.items().get(number),
-    ) else {
-        return Ok(usize::MAX);
-    };
-    if !get.inputs.is_empty() {
-        return Ok(so_far.rows.len());
+    let mut reached = done.copy(alloc)?;
+    reached.push(number)?;
+    let mut before = 0;
+    'rounds: for _round in 0..steps.gets.len() {
+        if reached.len() == before {
+            return Ok(before);
+        }
+        before = reached.len();
+        reach_more(alloc, steps, &mut reached)?;
     }
-    let links = links_so_far(alloc, number, steps.equations, so_far)?;
-    rows_by(alloc, &links, table, &so_far.rows, limit)
+    Ok(reached.len())
+}
+
+/// Those of the gets from which the most are led to.
+fn leading_gets(
+    alloc: Global,
+    steps: &Prepared,
+    done: &Places,
+    ready: &Places,
+) -> Result<Places, OutOfMemory> {
+    let mut leading = Values::new(alloc);
+    let mut most: usize = 0;
+    'gets: for number in ready.items() {
+        let reached = reach(alloc, steps, done, *number)?;
+        if reached > most {
+            leading.truncate(0);
+            most = reached;
+        }
+        if reached == most {
+            leading.push(*number)?;
+        }
+    }
+    Ok(leading)
+}
+
+/// Those of the gets whose inputs are known that are to be thought of: the ones that are linked to the gets that are done,
+/// if there are some. Else a step goes to where nothing is linked, so the ones are taken that lead on to the most others,
+/// unless no get is left that has to be led to.
+fn candidates_of(
+    alloc: Global,
+    steps: &Prepared,
+    done: &Places,
+    ready: &Places,
+) -> Result<Places, OutOfMemory> {
+    let linked = linked_gets(alloc, steps, done, ready)?;
+    if !linked.is_empty() {
+        return Ok(linked);
+    }
+    if done.len().saturating_add(ready.len()) >= steps.gets.len() {
+        return ready.copy(alloc);
+    }
+    leading_gets(alloc, steps, done, ready)
+}
+
+/// The gets that are to be thought of where those of the numbers are done.
+fn candidates(alloc: Global, steps: &Prepared, done: &Places) -> Result<Places, OutOfMemory> {
+    let ready = ready_gets(alloc, steps, done)?;
+    candidates_of(alloc, steps, done, &ready)
 }
 
 /// The one of the gets after which there are the fewest rows, as far as that is known.
@@ -183,7 +170,7 @@ fn fewest(
     let mut best: Option<usize> = None;
     let mut least = usize::MAX;
     'gets: for number in candidates.items() {
-        let rows = rows_after(alloc, steps, *number, so_far, least)?;
+        let rows = rows_after(alloc, steps, *number, so_far)?;
         if best.is_none() || rows < least {
             best = Some(*number);
             least = rows;
@@ -193,17 +180,13 @@ fn fewest(
 }
 
 /// The get that is joined next, of those whose inputs are known: one that is linked to the gets that are done, if there is
-/// one, and of these the one after which there are the fewest rows.
+/// one, else one that leads on to the most others, and of these the one after which there are the fewest rows.
 pub(crate) fn next_get(
     alloc: Global,
     steps: &Prepared,
     so_far: &SoFar,
 ) -> Result<Option<usize>, OutOfMemory> {
-    let mut candidates = ready_gets(alloc, steps, &so_far.done)?;
-    let linked = linked_gets(alloc, steps, &so_far.done, &candidates)?;
-    if !linked.is_empty() {
-        candidates = linked;
-    }
+    let candidates = candidates(alloc, steps, &so_far.done)?;
     if candidates.len() < 2 || so_far.rows.len() == 0 {
         return Ok(candidates.items().first().copied());
     }

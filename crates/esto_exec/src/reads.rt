@@ -67,12 +67,12 @@ fn push_kept(cells: &mut Sources, width: usize, kept: &Sources) -> Result<(), Ou
 
 /// The cells of the fragment's row that the join reads, where rows so far have so many.
 fn cells_read(alloc: Global, join: &Join, width: usize) -> Result<Sources, OutOfMemory>
-    ensures { IfOk result (λ it. it ≡ read_cells width join.now.get join.now.kept) }
+    ensures { IfOk result (λ it. it ≡ read_cells width join.now.get.now join.now.kept.now) }
 {
     let mut cells = List::new(alloc);
     push_columns(&mut cells, &join.get.inputs)?;
     push_filters(&mut cells, width, &join.get.filters)?;
-    push_kept(&mut cells, width, &join.kept)?;
+    push_kept(&mut cells, width, join.kept)?;
     Ok(cells)
 }
 
@@ -157,14 +157,44 @@ fn push_firsts(
     Ok(())
 }
 
+/// Puts some of the rows, which stand for all where only the cells are read, after the few.
+fn push_few(
+    alloc: Global,
+    rows: &Rows,
+    cells: &Sources,
+    few: &mut Rows,
+) -> Result<(), OutOfMemory>
+    requires { few.old ≡ record { arity = rows.now.arity; rows = [] } }
+    ensures { OnOk result (StandFor cells.now rows.now.rows few.new.rows) }
+{
+    let mut seen = Seen::new(alloc, cells.len(), rows.len())?;
+    push_firsts(alloc, rows, cells, &mut seen, few)
+}
+
 /// Some of the rows, which stand for all where only the cells are read.
 fn firsts(alloc: Global, rows: &Rows, cells: &Sources) -> Result<Rows, OutOfMemory>
     ensures { IfOk result (λ it. StandFor cells.now rows.now.rows it.rows) }
 {
     let mut few = Rows::new(alloc, rows.arity())?;
-    let mut seen = Seen::new(alloc, cells.len(), rows.len())?;
-    push_firsts(alloc, rows, cells, &mut seen, &mut few)?;
+    push_few(alloc, rows, cells, &mut few)?;
     Ok(few)
+}
+
+/// The same as `joined`, where the cells are those of the rows that the join reads.
+fn joined_by(
+    alloc: Global,
+    join: &Join,
+    so_far: &Rows,
+    rows: &Rows,
+    cells: &Sources,
+) -> Result<Rows, OutOfMemory>
+    requires { cells.now ≡ read_cells so_far.now.arity join.now.get.now join.now.kept.now }
+    ensures { IfOk result (λ it. (row : List ℕ) → Contains it.rows row
+        ↔ IsKept join.now.kept.now (IsJoin join.now.get.now so_far.now.rows rows.now.rows) row) }
+{
+    let _arity = so_far.arity();
+    let few = firsts(alloc, rows, cells)?;
+    joined(alloc, join, so_far, &few)
 }
 
 /// What is kept of the rows so far, each with every one of the rows that follows it after it. Where a cell of the rows is
@@ -176,12 +206,11 @@ pub(crate) fn joined_firsts(
     rows: &Rows,
 ) -> Result<Rows, OutOfMemory>
     ensures { IfOk result (λ it. (row : List ℕ) → Contains it.rows row
-        ↔ IsKept join.now.kept (IsJoin join.now.get so_far.now.rows rows.now.rows) row) }
+        ↔ IsKept join.now.kept.now (IsJoin join.now.get.now so_far.now.rows rows.now.rows) row) }
 {
     let cells = cells_read(alloc, join, so_far.arity())?;
     if has_all(&cells, rows.arity()) {
         return joined(alloc, join, so_far, rows);
     }
-    let few = firsts(alloc, rows, &cells)?;
-    joined(alloc, join, so_far, &few)
+    joined_by(alloc, join, so_far, rows, &cells)
 }

@@ -112,6 +112,19 @@ impl Seen {
         self.rows.add(row)
     }
 
+    /// Puts the row at the end, unless it was seen or has another arity.
+    pub(crate) fn put_new(&mut self, alloc: Global, row: &[u64]) -> Result<(), OutOfMemory> {
+        if row.len() != self.rows.arity() || self.has(row) {
+            return Ok(());
+        }
+        self.put(alloc, row)
+    }
+
+    /// How many rows were seen.
+    pub(crate) fn len(&self) -> usize {
+        self.rows.len()
+    }
+
     /// The rows.
     pub(crate) fn into_rows(self) -> Rows
         ensures { result ≡ self }

@@ -1,5 +1,5 @@
 //! Turns: one get after another is joined, in an order of our own.
-ghost use Rattle.std.specs.Prelude.{◌≡◌, ◌↔◌, ◌<◌, ◌+◌, ◌++◌, ◌∷◌, [], List, ℕ, length, map, flat_map, slice_get, Some, Contains, IfOk, OnOk, IsTrue};
+ghost use Rattle.std.specs.Prelude.{◌≡◌, ◌↔◌, ◌<◌, ◌+◌, ◌++◌, ◌∷◌, [], List, ℕ, length, map, flat_map, take, slice_get, Some, Contains, IfOk, OnOk, IsTrue};
 ghost use Rattle.esto_plan.specs.declared.steps.Get.{Get};
 ghost use Rattle.esto_plan.specs.declared.steps.Link.{Link};
 ghost use Rattle.esto_plan.specs.Rows.{IsRowOf, held_by};
@@ -9,7 +9,7 @@ ghost use Rattle.esto_exec.specs.declared.slots.Side.TheVariants.{Held};
 ghost use Rattle.esto_exec.specs.Runnable.{AreRunnable};
 ghost use Rattle.esto_exec.specs.Slots.{side_of, IsKnown};
 ghost use Rattle.esto_exec.specs.SoFar.{IsSoFar};
-ghost use Rattle.esto_exec.specs.Turns.{source_in, link_in, links_of, slots_from, IsReady, AreArities, IsPrepared, kept_slots};
+ghost use Rattle.esto_exec.specs.Turns.{source_in, link_in, links_of, slots_from, IsReady, AreArities, IsPrepared, kept_slots, needed_slots};
 
 use crate::asked::asked_rows;
 use crate::join::Join;
@@ -166,53 +166,76 @@ pub(crate) fn head_in(
     Ok(sources)
 }
 
-/// Joins the rows so far with those of the fragment, and keeps of them what the join says. Where nothing is asked by, the
-/// fragment's rows are those of the table.
-fn join_fragment<F: Fragment>(
+/// What is kept of the rows so far joined with those of the fragment. Where nothing is asked by, the fragment's rows are
+/// those of the table.
+fn joined_fragment<F: Fragment>(
     alloc: Global,
     join: &Join,
     fragment: &F,
     table: &Rows,
-    so_far: &mut Rows,
-) -> Result<(), OutOfMemory>
-    requires table { length join.now.get.inputs ≡ 0 → (row : List ℕ)
+    so_far: &Rows,
+) -> Result<Rows, OutOfMemory>
+    requires table { length join.now.get.now.inputs ≡ 0 → (row : List ℕ)
         → Contains table.now.rows row ↔ Contains (F.rows fragment.now) row }
     requires allowed { IsAllowed (F.shape fragment.now)
-        (map (λ link. link.column) join.now.get.inputs) }
-    ensures { OnOk result ((row : List ℕ) → Contains so_far.new.rows row
-        ↔ IsKept join.now.kept (IsJoin join.now.get so_far.old.rows (F.rows fragment.now)) row) }
+        (map (λ link. link.column) join.now.get.now.inputs) }
+    ensures { IfOk result (λ it. (row : List ℕ) → Contains it.rows row
+        ↔ IsKept join.now.kept.now
+        (IsJoin join.now.get.now so_far.now.rows (F.rows fragment.now)) row) }
 {
     if join.get.inputs.is_empty() {
-        *so_far = joined_firsts(alloc, join, so_far, table)?;
-        return Ok(());
+        return joined_firsts(alloc, join, so_far, table);
     }
-    let asked = asked_rows(alloc, &join.get, fragment, so_far)?;
-    *so_far = joined_firsts(alloc, join, so_far, &asked)?;
-    Ok(())
+    let asked = asked_rows(alloc, join.get, fragment, so_far)?;
+    joined_firsts(alloc, join, so_far, &asked)
+}
+
+/// The codes of the kept slots in the rows so far joined with those of the fragment, where the cells are those of the
+/// slots at the places.
+fn joined_slots<F: Fragment>(
+    alloc: Global,
+    get: &Get,
+    fragment: &F,
+    table: &Rows,
+    places: &Slots,
+    kept: &Slots,
+    so_far: &Rows,
+) -> Result<Rows, OutOfMemory>
+    requires table { length get.now.inputs ≡ 0 → (row : List ℕ)
+        → Contains table.now.rows row ↔ Contains (F.rows fragment.now) row }
+    requires allowed { IsAllowed (F.shape fragment.now) (map (λ link. link.column) get.now.inputs) }
+    ensures { IfOk result (λ it. (row : List ℕ) → Contains it.rows row
+        ↔ IsKept (map (λ slot. source_in places.now (Held slot)) kept.now)
+        (IsJoin get.now so_far.now.rows (F.rows fragment.now)) row) }
+{
+    let sources = slot_sources(alloc, places, kept)?;
+    let join = Join {
+        get,
+        kept: &sources,
+    };
+    joined_fragment(alloc, &join, fragment, table, so_far)
 }
 
 /// Joins the rows so far with those of the fragment, and keeps of their slots those that are needed.
 fn follow<F: Fragment>(
     alloc: Global,
-    get: Get,
+    get: &Get,
     fragment: &F,
     table: &Rows,
     needed: &Slots,
     places: &mut Slots,
     so_far: &mut Rows,
 ) -> Result<(), OutOfMemory>
-    requires table { length get.inputs ≡ 0 → (row : List ℕ)
+    requires table { length get.now.inputs ≡ 0 → (row : List ℕ)
         → Contains table.now.rows row ↔ Contains (F.rows fragment.now) row }
-    requires allowed { IsAllowed (F.shape fragment.now) (map (λ link. link.column) get.inputs) }
+    requires allowed { IsAllowed (F.shape fragment.now) (map (λ link. link.column) get.now.inputs) }
     ensures { OnOk result ((places.new ≡ kept_slots needed.now places.old)
         × ((row : List ℕ) → Contains so_far.new.rows row
         ↔ IsKept (map (λ slot. source_in places.old (Held slot)) places.new)
-        (IsJoin get so_far.old.rows (F.rows fragment.now)) row)) }
+        (IsJoin get.now so_far.old.rows (F.rows fragment.now)) row)) }
 {
     let kept = kept_slots(alloc, needed, places)?;
-    let sources = slot_sources(alloc, places, &kept)?;
-    let join = Join { get, kept: sources };
-    join_fragment(alloc, &join, fragment, table, so_far)?;
+    *so_far = joined_slots(alloc, get, fragment, table, places, &kept, so_far)?;
     *places = kept;
     Ok(())
 }
@@ -249,6 +272,81 @@ fn nothing_done(alloc: Global) -> Result<SoFar, OutOfMemory>
     })
 }
 
+/// The get of the number as rows so far have it, which is done then: its inputs are told by the slots so far, its filters
+/// are the equations that it decides, and the slots of its row are put after those so far.
+fn own_get(
+    alloc: Global,
+    steps: &Prepared,
+    number: usize,
+    get: &Get,
+    done: &mut Places,
+    places: &mut Slots,
+) -> Result<Get, OutOfMemory>
+    requires { number < length steps.now.arities.now }
+    ensures done { OnOk result (done.new ≡ done.old ++ number ∷ []) }
+    ensures places { OnOk result ((arity : ℕ)
+        × (slice_get steps.now.arities.now number ≡ Some arity)
+        × (places.new ≡ places.old ++ slots_from number 0 arity)) }
+    ensures inputs { IfOk result (λ it. it.inputs
+        ≡ map (link_in places.old (take number steps.now.arities.now)) get.now.inputs) }
+    ensures filters { IfOk result (λ it. it.filters
+        ≡ flat_map (links_of number done.new places.new) steps.now.equations.now) }
+{
+    let inputs = links_in(
+        alloc,
+        places,
+        first_of(steps.arities, number),
+        &get.inputs,
+    )?;
+    done.push(number)?;
+    push_slots(places, number, steps.arities.item(number))?;
+    let filters = links_at(alloc, number, done, places, steps.equations)?;
+    Ok(Get {
+        fragment: get.fragment,
+        inputs,
+        filters,
+    })
+}
+
+/// Joins the rows so far with those of the fragment, and keeps of their slots those that the steps still need.
+fn follow_on<F: Fragment>(
+    alloc: Global,
+    steps: &Prepared,
+    get: &Get,
+    fragment: &F,
+    table: &Rows,
+    so_far: &mut SoFar,
+) -> Result<(), OutOfMemory>
+    requires table { length get.now.inputs ≡ 0 → (row : List ℕ)
+        → Contains table.now.rows row ↔ Contains (F.rows fragment.now) row }
+    requires allowed { IsAllowed (F.shape fragment.now) (map (λ link. link.column) get.now.inputs) }
+    ensures done { so_far.new.done ≡ so_far.old.done }
+    ensures rows { OnOk result ((so_far.new.places
+        ≡ kept_slots (needed_slots steps.now.arities.now steps.now.gets.now steps.now.equations.now
+        steps.now.head.now so_far.old.done) so_far.old.places)
+        × ((row : List ℕ) → Contains so_far.new.rows.rows row
+        ↔ IsKept (map (λ slot. source_in so_far.old.places (Held slot)) so_far.new.places)
+        (IsJoin get.now so_far.old.rows.rows (F.rows fragment.now)) row)) }
+{
+    let needed = needed_slots(
+        alloc,
+        steps.arities,
+        steps.gets,
+        steps.equations,
+        steps.head,
+        &so_far.done,
+    )?;
+    follow(
+        alloc,
+        get,
+        fragment,
+        table,
+        &needed,
+        &mut so_far.places,
+        &mut so_far.rows,
+    )
+}
+
 /// Joins the get of the number, which is not done and whose inputs are known.
 fn take_turn<F: Fragment>(
     alloc: Global,
@@ -271,37 +369,17 @@ fn take_turn<F: Fragment>(
         steps.now so_far.new) }
 {
     let get = steps.gets.item(number);
-    let inputs = links_in(
+    let own = own_get(
         alloc,
-        &so_far.places,
-        first_of(steps.arities, number),
-        &get.inputs,
-    )?;
-    so_far.done.push(number)?;
-    push_slots(&mut so_far.places, number, steps.arities.item(number))?;
-    let filters = links_at(alloc, number, &so_far.done, &so_far.places, steps.equations)?;
-    let own = Get {
-        fragment: get.fragment,
-        inputs,
-        filters,
-    };
-    let needed = needed_slots(
-        alloc,
-        steps.arities,
-        steps.gets,
-        steps.equations,
-        steps.head,
-        &so_far.done,
-    )?;
-    follow(
-        alloc,
-        own,
-        &fragments[get.fragment],
-        steps.tables.item(number),
-        &needed,
+        steps,
+        number,
+        get,
+        &mut so_far.done,
         &mut so_far.places,
-        &mut so_far.rows,
-    )
+    )?;
+    let fragment = &fragments[get.fragment];
+    let table = steps.tables.item(number);
+    follow_on(alloc, steps, &own, fragment, table, so_far)
 }
 
 /// Joins the get of the number, if there is one that is not done and whose inputs are known.

@@ -11,5 +11,5 @@ push_all_joined-requires-clause-arity c = ap (λ (it : CodedRows). it.arity) c.i
 
 pub returns : goal.returns
 returns c = λ row. subst
-    (λ (it : CodedRows). Contains it.rows row ↔ IsKept c.args.join.now.kept (IsJoin c.args.join.now.get c.args.so_far.now.rows c.args.rows.now.rows) row)
+    (λ (it : CodedRows). Contains it.rows row ↔ IsKept c.args.join.now.kept.now (IsJoin c.args.join.now.get.now c.args.so_far.now.rows c.args.rows.now.rows) row)
     (sym c.into_rows.ensures) (c.in_ok-push_all_joined.ensures row)

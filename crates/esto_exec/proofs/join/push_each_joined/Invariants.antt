@@ -4,5 +4,5 @@ use Rattle.esto_exec.proofs.join.push_each_joined.Given as goal
 
 abbrev pub invariant-rows : goal.invariant-rows
 invariant-rows l =
-    ((row : List ℕ) → Contains l.into.rows row ↔ IsKept l.join.kept (IsJoin l.join.get (take l.at l.so_far.rows) l.rows.rows) row)
+    ((row : List ℕ) → Contains l.into.rows row ↔ IsKept l.join.kept.now (IsJoin l.join.get.now (take l.at l.so_far.rows) l.rows.rows) row)
     × (l.into.arity ≡ l.initial.into.arity)

@@ -16,12 +16,12 @@ returns-clause-rows c =
     let row_is : c.past.result.now ≡ found.0 =
     c.past.ensures ∙ (λ i. drop (length (cells_are i)) (both_are i)) ∙ drop-append_seam c.args.buffers.now.cells found.0 in
     on_ok_weaker c.put_unseen.result
-    (follower_kept c.args.join.now.get c.args.join.now.kept c.args.buffers.now.cells c.args.rows.now.rows c.args.into.now.rows c.put_unseen.new.seen.rows
+    (follower_kept c.args.join.now.get.now c.args.join.now.kept.now c.args.buffers.now.cells c.args.rows.now.rows c.args.into.now.rows c.put_unseen.new.seen.rows
     c.args.place found.0 c.items-both.result.now c.items-2.result.now found.1
-    (subst (λ cells. Follows c.args.join.now.get cells found.0) cells_are
-    (subst (Follows c.args.join.now.get c.items-cells.result.now) row_is (c.follows.ensures.0 c.if-not-follows.false)))
+    (subst (λ cells. Follows c.args.join.now.get.now cells found.0) cells_are
+    (subst (Follows c.args.join.now.get.now c.items-cells.result.now) row_is (c.follows.ensures.0 c.if-not-follows.false)))
     both_are
-    (subst (NamesCodes c.items-both.result.now c.args.join.now.kept) (sym c.items-2.ensures)
-    (names_true c.items-both.result.now c.args.join.now.kept c.name_codes.new.codes c.in_ok-name_codes.field-0 c.in_ok-name_codes.ensures
+    (subst (NamesCodes c.items-both.result.now c.args.join.now.kept.now) (sym c.items-2.ensures)
+    (names_true c.items-both.result.now c.args.join.now.kept.now c.name_codes.new.codes c.in_ok-name_codes.field-0 c.in_ok-name_codes.ensures
     c.if-not-branch.false)))
     c.put_unseen.ensures.rows

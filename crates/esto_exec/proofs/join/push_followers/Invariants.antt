@@ -6,7 +6,7 @@ use Rattle.esto_exec.proofs.join.push_followers.Given as goal
 
 abbrev pub invariant-places : goal.invariant-places
 invariant-places l = ((buckets : List ℕ) → AreChains l.index buckets
-    → Walked (λ place. IsKept l.join.kept (IsFollowerAt l.join.get l.initial.buffers.cells l.rows.rows place)) buckets
+    → Walked (λ place. IsKept l.join.kept.now (IsFollowerAt l.join.get.now l.initial.buffers.cells l.rows.rows place)) buckets
     (bucket_of (length l.index.last) l.initial.buffers.key) l.next l.initial.into.rows l.into.rows)
     × (l.into.arity ≡ l.initial.into.arity)
     × (l.buffers.cells ≡ l.initial.buffers.cells)

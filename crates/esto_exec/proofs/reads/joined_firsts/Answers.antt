@@ -1,10 +1,7 @@
-use Rattle.std.proofs.Common.{sym, ◌∙◌}
-use Rattle.std.proofs.lemmas.Result.{IfOk-weaker}
-use Rattle.esto_exec.proofs.ReadLemmas.{join_few}
+use Rattle.std.proofs.Common.{ap, ◌∙◌}
+use Rattle.esto_exec.specs.Reads.{read_cells}
 use Rattle.esto_exec.proofs.reads.joined_firsts.Goals as goal
 
-pub returns : goal.returns
-returns c = IfOk-weaker c.joined-2.result _ _
-    (λ it. join_few c.arity.result c.args.join.now.get c.args.join.now.kept c.in_ok-cells.cells c.args.so_far.now.rows c.args.rows.now.rows
-    c.in_ok-few.few.rows it.rows (λ row inside. c.arity.ensures.fits row inside ∙ sym c.arity.ensures.value) c.in_ok-cells.ensures c.in_ok-few.ensures)
-    c.joined-2.ensures
+pub joined_by-requires : goal.joined_by-requires
+joined_by-requires c = c.in_ok-cells.ensures
+    ∙ ap (λ width. read_cells width c.args.join.now.get.now c.args.join.now.kept.now) c.arity.ensures.value

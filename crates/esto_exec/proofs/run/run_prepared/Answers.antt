@@ -1,0 +1,18 @@
+use Rattle.std.proofs.Common.{[], map, get_or, refl, subst}
+use Rattle.std.proofs.lemmas.Result.{IfOk-weaker}
+use Rattle.esto_plan.specs.Rows.{IsRowOf}
+use Rattle.esto_exec.specs.Turns.{IsUnderWay}
+use Rattle.esto_exec.proofs.UnderWayLemmas.{results_told}
+use Rattle.esto_exec.proofs.run.run_prepared.Goals as goal
+
+pub returns-clause-rows : goal.returns-clause-rows
+returns-clause-rows g c =
+    IfOk-weaker c.head_rows.result _ _
+    (λ it. results_told (IsRowOf (λ number. get_or (map g.F.Fragment.rows c.args.fragments.now) number [])) c.args.steps.now c.args.arities.now
+    c.in_ok-so_far.so_far.done c.in_ok-so_far.so_far.places c.in_ok-so_far.so_far.rows.rows it.rows _ c.requires.prepared.widths
+    c.in_ok-so_far.ensures.all
+    (subst (λ equations. IsUnderWay (IsRowOf (λ number. get_or (map g.F.Fragment.rows c.args.fragments.now) number [])) c.args.arities.now
+    c.args.steps.now.gets equations c.args.steps.now.head c.in_ok-so_far.so_far.done c.in_ok-so_far.so_far.places c.in_ok-so_far.so_far.rows.rows)
+    c.requires.equations c.in_ok-so_far.ensures.under_way)
+    refl)
+    c.head_rows.ensures.rows
