@@ -51,49 +51,42 @@ fn is_linked(done: &Places, steps: &Prepared, number: usize) -> bool {
     false
 }
 
-/// The gets that are not done and whose inputs are known.
+/// Whether the get of the number is not done and its inputs are known.
+fn can_come(done: &Places, steps: &Prepared, number: usize) -> bool {
+    match steps.gets.items().get(number) {
+        Some(get) => !is_in(done, number) && is_ready(done, first_of(steps.arities, number), get),
+        None => false,
+    }
+}
+
+/// The gets that can come next.
 fn ready_gets(alloc: Global, steps: &Prepared, done: &Places) -> Result<Places, OutOfMemory> {
     let mut ready = Values::new(alloc);
-    'gets: for (number, get) in steps.gets.items().iter().enumerate() {
-        if !is_in(done, number) && is_ready(done, first_of(steps.arities, number), get) {
+    'gets: for number in 0..steps.gets.len() {
+        if can_come(done, steps, number) {
             ready.push(number)?;
         }
     }
     Ok(ready)
 }
 
-/// Those of the gets that are linked to the ones that are done.
-fn linked_gets(
-    alloc: Global,
-    steps: &Prepared,
-    done: &Places,
-    ready: &Places,
-) -> Result<Places, OutOfMemory> {
-    let mut linked = Values::new(alloc);
-    'gets: for number in ready.items() {
-        if is_linked(done, steps, *number) {
-            linked.push(*number)?;
+/// Puts the gets that can come next and are linked to the done ones at the end.
+fn push_linked(steps: &Prepared, done: &Places, linked: &mut Places) -> Result<(), OutOfMemory> {
+    'gets: for number in 0..steps.gets.len() {
+        if can_come(done, steps, number) && is_linked(done, steps, number) {
+            linked.push(number)?;
         }
-    }
-    Ok(linked)
-}
-
-/// Puts the numbers at the end.
-fn push_all(numbers: &mut Places, more: &Places) -> Result<(), OutOfMemory> {
-    'numbers: for number in more.items() {
-        numbers.push(*number)?;
     }
     Ok(())
 }
 
-/// Puts the gets that are linked to these and whose inputs these tell after them.
-fn reach_more(alloc: Global, steps: &Prepared, reached: &mut Places) -> Result<(), OutOfMemory> {
-    let ready = ready_gets(alloc, steps, reached)?;
-    let linked = linked_gets(alloc, steps, reached, &ready)?;
-    push_all(reached, &linked)
+/// Takes the gets that can come next and are linked to the done ones as done.
+fn reach_more(alloc: Global, steps: &Prepared, done: &mut Places) -> Result<(), OutOfMemory> {
+    let before = done.copy(alloc)?;
+    push_linked(steps, &before, done)
 }
 
-/// How many gets are done or led to once the get of the number is done: links lead from one to the next.
+/// How many gets are done once the get of the number is, and after it all that links lead to.
 fn reach(
     alloc: Global,
     steps: &Prepared,
@@ -102,7 +95,7 @@ fn reach(
 ) -> Result<usize, OutOfMemory> {
     let mut reached = done.copy(alloc)?;
     reached.push(number)?;
-    let mut before = 0;
+    let mut before: usize = 0;
     'rounds: for _round in 0..steps.gets.len() {
         if reached.len() == before {
             return Ok(before);
@@ -113,7 +106,7 @@ fn reach(
     Ok(reached.len())
 }
 
-/// Those of the gets from which the most are led to.
+/// Those of the gets that lead to the most others.
 fn leading_gets(
     alloc: Global,
     steps: &Prepared,
@@ -135,29 +128,24 @@ fn leading_gets(
     Ok(leading)
 }
 
-/// Those of the gets whose inputs are known that are to be thought of: the ones that are linked to the gets that are done,
-/// if there are some. Else a step goes to where nothing is linked, so the ones are taken that lead on to the most others,
-/// unless no get is left that has to be led to.
-fn candidates_of(
-    alloc: Global,
-    steps: &Prepared,
-    done: &Places,
-    ready: &Places,
-) -> Result<Places, OutOfMemory> {
-    let linked = linked_gets(alloc, steps, done, ready)?;
-    if !linked.is_empty() {
-        return Ok(linked);
-    }
+/// The gets that can come next, where none is linked to the done ones: those that lead to the most others, or all where no
+/// others are left.
+fn unlinked_gets(alloc: Global, steps: &Prepared, done: &Places) -> Result<Places, OutOfMemory> {
+    let ready = ready_gets(alloc, steps, done)?;
     if done.len().saturating_add(ready.len()) >= steps.gets.len() {
-        return ready.copy(alloc);
+        return Ok(ready);
     }
-    leading_gets(alloc, steps, done, ready)
+    leading_gets(alloc, steps, done, &ready)
 }
 
-/// The gets that are to be thought of where those of the numbers are done.
+/// The gets that are thought of as the next one: those that are linked to the done ones, if there are some.
 fn candidates(alloc: Global, steps: &Prepared, done: &Places) -> Result<Places, OutOfMemory> {
-    let ready = ready_gets(alloc, steps, done)?;
-    candidates_of(alloc, steps, done, &ready)
+    let mut linked = Values::new(alloc);
+    push_linked(steps, done, &mut linked)?;
+    if linked.is_empty() {
+        return unlinked_gets(alloc, steps, done);
+    }
+    Ok(linked)
 }
 
 /// The one of the gets after which there are the fewest rows, as far as that is known.

@@ -158,12 +158,7 @@ fn push_firsts(
 }
 
 /// Puts some of the rows, which stand for all where only the cells are read, after the few.
-fn push_few(
-    alloc: Global,
-    rows: &Rows,
-    cells: &Sources,
-    few: &mut Rows,
-) -> Result<(), OutOfMemory>
+fn push_few(alloc: Global, rows: &Rows, cells: &Sources, few: &mut Rows) -> Result<(), OutOfMemory>
     requires { few.old ≡ record { arity = rows.now.arity; rows = [] } }
     ensures { OnOk result (StandFor cells.now rows.now.rows few.new.rows) }
 {

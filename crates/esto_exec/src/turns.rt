@@ -292,12 +292,7 @@ fn own_get(
     ensures filters { IfOk result (λ it. it.filters
         ≡ flat_map (links_of number done.new places.new) steps.now.equations.now) }
 {
-    let inputs = links_in(
-        alloc,
-        places,
-        first_of(steps.arities, number),
-        &get.inputs,
-    )?;
+    let inputs = links_in(alloc, places, first_of(steps.arities, number), &get.inputs)?;
     done.push(number)?;
     push_slots(places, number, steps.arities.item(number))?;
     let filters = links_at(alloc, number, done, places, steps.equations)?;

@@ -3,7 +3,7 @@ use Rattle.std.proofs.lemmas.List.{length-map}
 use Rattle.std.proofs.lemmas.Result.{on_ok_weaker}
 use Rattle.esto_columns.specs.Asked.{IsAllowed}
 use Rattle.esto_plan.specs.Rows.{IsRowOf}
-use Rattle.esto_exec.specs.Turns.{link_in}
+use Rattle.esto_exec.specs.Turns.{link_in, IsUnderWay}
 use Rattle.esto_exec.proofs.RunLemmas.{fragment_there, fragment_allows, fragment_rows}
 use Rattle.esto_exec.proofs.UnderWayLemmas.{under_way_more, links_in_columns}
 use Rattle.esto_exec.proofs.turns.take_turn.Goals as goal
@@ -21,9 +21,6 @@ offset_bounds-fragments-get g c =
 
 pub own_get-requires : goal.own_get-requires
 own_get-requires g c = let long = c.requires.prepared.widths.long in let there = c.requires.there in omega (arith, long, there)
-
-pub item-requires-2 : goal.item-requires-2
-item-requires-2 g c = let long = c.requires.prepared.whole.0 in let there = c.requires.there in omega (arith, long, there)
 
 pub follow_on-requires-clause-allowed : goal.follow_on-requires-clause-allowed
 follow_on-requires-clause-allowed g c = subst (IsAllowed (g.F.Fragment.shape c.index-fragments-get.result))
@@ -49,7 +46,9 @@ pub returns-clause-under_way : goal.returns-clause-under_way
 returns-clause-under_way g c =
     let arity = c.in_ok-own.ensures.places in
     on_ok_weaker c.follow_on.result
-    (λ kept. under_way_more (IsRowOf (λ number. get_or (map g.F.Fragment.rows c.args.fragments.now) number [])) c.args.steps.now.arities.now
+    (λ kept. subst (λ done. IsUnderWay (IsRowOf (λ number. get_or (map g.F.Fragment.rows c.args.fragments.now) number [])) c.args.steps.now.arities.now
+    c.args.steps.now.gets.now c.args.steps.now.equations.now c.args.steps.now.head.now done c.follow_on.new.so_far.places c.follow_on.new.so_far.rows.rows)
+    (sym c.follow_on.ensures.done) (under_way_more (IsRowOf (λ number. get_or (map g.F.Fragment.rows c.args.fragments.now) number [])) c.args.steps.now.arities.now
     c.args.steps.now.gets.now
     c.args.steps.now.equations.now c.args.steps.now.head.now c.args.so_far.now.done c.own_get.new.done c.args.so_far.now.places c.own_get.new.places
     c.follow_on.new.so_far.places
@@ -62,5 +61,5 @@ returns-clause-under_way g c =
     c.requires.runnable)
     c.index-fragments-get.is)
     c.in_ok-own.ensures.done arity.0 arity.1 arity.2
-    c.in_ok-own.ensures.inputs c.in_ok-own.ensures.filters refl kept.0 kept.1)
+    c.in_ok-own.ensures.inputs c.in_ok-own.ensures.filters refl kept.0 kept.1))
     c.follow_on.ensures.rows
