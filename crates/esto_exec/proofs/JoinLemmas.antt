@@ -1,9 +1,9 @@
 -- Joins, row by row.
 use Rattle.std.proofs.Common.{◌≡◌, ◌⊎◌, ◌↔◌, inl, inr, ℕ, ◌+◌, ◌<◌, ◌≤◌, List, [], ◌∷◌, ◌++◌, length, get_or, take, Some, slice_get, Contains, refl, sym, ap}
-use Rattle.std.proofs.Common.{◌∙◌, subst}
+use Rattle.std.proofs.Common.{◌∙◌, subst, arith}
 use Rattle.std.proofs.lemmas.List.{take_all}
 use Rattle.std.proofs.lemmas.List.Elements.{Contains-append_left, Contains-push, Contains-push_cases}
-use Rattle.std.proofs.lemmas.Option.{same_Some}
+use Rattle.std.proofs.lemmas.Option.{same_Some, slice_get_within}
 use Rattle.esto_term.proofs.ListLemmas.{Contains-nil}
 use Rattle.esto_term.proofs.PlaceLemmas.{take-item}
 use Rattle.esto_plan.specs.declared.steps.Get.{Get}
@@ -91,6 +91,26 @@ follower_none get kept cells rows old place none it = (
     | inr (both, (row, at, follows, is), names) ↦ absurd (none row at follows (it, subst (λ them. NamesCodes them kept it) is names))
   ],
 )
+
+-- nothing is gained at a place past the rows
+pub gains_past : (get : Get) (kept : List Source) (cells : List ℕ) (rows old : List (List ℕ)) (place : ℕ) → length rows ≤ place
+    → GainsOnly old old (IsKept kept (IsFollowerAt get cells rows place))
+gains_past get kept cells rows old place past = follower_none get kept cells rows old place
+    (λ row at _ _. let within = slice_get_within rows place row at in omega (arith, within, past))
+
+-- nothing is gained where the row at the place doesn't follow
+pub gains_unless : (get : Get) (kept : List Source) (cells : List ℕ) (rows old : List (List ℕ)) (place : ℕ) (row : List ℕ)
+    → slice_get rows place ≡ Some row → (Follows get cells row → ⊥) → GainsOnly old old (IsKept kept (IsFollowerAt get cells rows place))
+gains_unless get kept cells rows old place row there differs = follower_none get kept cells rows old place
+    (λ other at follows _. differs (subst (Follows get cells) (same_Some other row (sym at ∙ there)) follows))
+
+-- nothing is gained where what is kept of the cells with the row at the place is not named
+pub gains_unnamed : (get : Get) (kept : List Source) (cells : List ℕ) (rows old : List (List ℕ)) (place : ℕ) (row both : List ℕ)
+    → slice_get rows place ≡ Some row → both ≡ cells ++ row → ((given : List ℕ) × NamesCodes both kept given → ⊥)
+    → GainsOnly old old (IsKept kept (IsFollowerAt get cells rows place))
+gains_unnamed get kept cells rows old place row both there is none = follower_none get kept cells rows old place
+    (λ other at _ named. none (named.0,
+    subst (λ them. NamesCodes them kept named.0) (ap (λ it. cells ++ it) (same_Some other row (sym at ∙ there)) ∙ sym is) named.1))
 
 -- ---- joins
 

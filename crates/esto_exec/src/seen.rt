@@ -16,7 +16,6 @@ pub(crate) struct Seen {
     rows: Rows,
     index: Index,
     room: usize,
-    read: Values<u64>,
 }
 
 impl Model for Seen {
@@ -59,10 +58,11 @@ fn is_among(rows: &Rows, index: &Index, row: &[u64]) -> bool
 }
 
 /// Puts each of the rows into the index.
-fn index_rows(rows: &Rows, index: &mut Index, read: &mut Values<u64>) -> Result<(), OutOfMemory> {
+fn index_rows(alloc: Global, rows: &Rows, index: &mut Index) -> Result<(), OutOfMemory> {
+    let mut row = Values::new(alloc);
     'rows: for at in 0..rows.len() {
-        read_row(rows, at, read)?;
-        index.add(read.items())?;
+        read_row(rows, at, &mut row)?;
+        index.add(row.items())?;
     }
     Ok(())
 }
@@ -74,12 +74,7 @@ impl Seen {
     {
         let rows = Rows::new(alloc, arity)?;
         let index = Index::new(alloc, room)?;
-        Ok(Seen {
-            rows,
-            index,
-            room,
-            read: Values::new(alloc),
-        })
+        Ok(Seen { rows, index, room })
     }
 
     /// Whether the row was seen, as far as a look at those of its bucket tells.
@@ -98,7 +93,7 @@ impl Seen {
         }
         self.room = self.rows.len().saturating_mul(2).saturating_add(1);
         self.index = Index::new(alloc, self.room)?;
-        index_rows(&self.rows, &mut self.index, &mut self.read)
+        index_rows(alloc, &self.rows, &mut self.index)
     }
 
     /// Puts the row at the end.

@@ -1,4 +1,4 @@
-use Rattle.std.proofs.Common.{inr, ℕ, List, [], ◌∷◌, ◌++◌, refl, sym, subst, ap, ◌∙◌}
+use Rattle.std.proofs.Common.{inl, inr, ℕ, List, [], ◌∷◌, ◌++◌, refl, sym, subst, ap, ◌∙◌}
 use Rattle.std.proofs.lemmas.Option.{MatchOption-at_none, MatchOption-at_some}
 use Rattle.std.proofs.lemmas.Result.{on_ok_weaker}
 use Rattle.std.specs.List.{filter}
@@ -9,11 +9,29 @@ use Rattle.esto_exec.specs.Named.{NamesCodes}
 use Rattle.esto_exec.proofs.AskedLemmas.{named_by, seen_complete, named_length, ask_kept, ask_sound, ask_answered, ask_complete}
 use Rattle.esto_exec.proofs.asked.ask.Goals as goal
 
+pub returns-in_default-clause-kept : goal.returns-in_default-clause-kept
+returns-in_default-clause-kept g c = λ row has. has
+
+pub returns-in_default-clause-sound : goal.returns-in_default-clause-sound
+returns-in_default-clause-sound g c = λ row has. inl has
+
+pub returns-in_default-clause-answered : goal.returns-in_default-clause-answered
+returns-in_default-clause-answered g c = λ answered. answered
+
 pub returns-in_default-clause-complete : goal.returns-in_default-clause-complete
 returns-in_default-clause-complete g c = λ answered row among follows.
     absurd (MatchOption-at_none (¬ ((codes : List ℕ) × NamesCodes c.args.cells.now c.args.sources.now codes))
     (NamesCodes c.args.cells.now c.args.sources.now) c.in_default.is c.in_ok-key.ensures
     (named_by c.args.get.now (g.F.Fragment.rows c.args.fragment.now) c.args.cells.now c.args.sources.now c.requires.sources row follows))
+
+pub returns-then-has-clause-kept : goal.returns-then-has-clause-kept
+returns-then-has-clause-kept g c = λ row has. has
+
+pub returns-then-has-clause-sound : goal.returns-then-has-clause-sound
+returns-then-has-clause-sound g c = λ row has. inl has
+
+pub returns-then-has-clause-answered : goal.returns-then-has-clause-answered
+returns-then-has-clause-answered g c = λ answered. answered
 
 pub returns-then-has-clause-complete : goal.returns-then-has-clause-complete
 returns-then-has-clause-complete g c =
@@ -22,6 +40,14 @@ returns-then-has-clause-complete g c =
     (MatchOption-at_some (¬ ((codes : List ℕ) × NamesCodes c.args.cells.now c.args.sources.now codes))
     (NamesCodes c.args.cells.now c.args.sources.now) c.in-Some.key c.in-Some.is c.in_ok-key.ensures))
     c.args.seen.now.rows c.args.asked.now.rows (c.has.ensures c.if-has.true)
+
+pub put-requires : goal.put-requires
+put-requires g c =
+    named_length c.args.get.now.inputs c.args.cells.now c.args.sources.now c.requires.sources c.items-2.result.now
+    (subst (NamesCodes c.args.cells.now c.args.sources.now) (sym c.items-2.ensures)
+    (MatchOption-at_some (¬ ((codes : List ℕ) × NamesCodes c.args.cells.now c.args.sources.now codes))
+    (NamesCodes c.args.cells.now c.args.sources.now) c.in-Some.key c.in-Some.is c.in_ok-key.ensures))
+    ∙ sym c.requires.width
 
 pub push_asked-requires-clause-key : goal.push_asked-requires-clause-key
 push_asked-requires-clause-key g c =

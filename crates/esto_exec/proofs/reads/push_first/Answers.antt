@@ -5,7 +5,7 @@ use Rattle.std.proofs.lemmas.Result.{on_ok_weaker}
 use Rattle.esto_term.proofs.ListLemmas.{Contains-at}
 use Rattle.esto_columns.specs.CodedRows.{CodedRows}
 use Rattle.esto_exec.specs.Named.{NamesCodes}
-use Rattle.esto_exec.proofs.NamedLemmas.{names_true}
+use Rattle.esto_exec.proofs.NamedLemmas.{names_true, length-named}
 use Rattle.esto_exec.proofs.ReadLemmas.{stood_seen, stood_pushed}
 use Rattle.esto_exec.proofs.reads.push_first.Goals as goal
 
@@ -25,6 +25,17 @@ returns-then-has-clause-stand c = λ before.
     (subst (λ it. NamesCodes it c.args.cells.now c.name_codes.new.codes) c.items.ensures
     (names_true c.items.result.now c.args.cells.now c.name_codes.new.codes c.in_ok-name_codes.field-0 c.in_ok-name_codes.ensures c.if-not-branch.false))
     (subst (Contains c.args.seen.now.rows) c.items-2.ensures (c.has.ensures c.if-has.true))
+
+pub put-requires : goal.put-requires
+put-requires c = ap length c.items-3.ensures
+    ∙ length-named c.items.result.now c.args.cells.now c.name_codes.new.codes
+    (names_true c.items.result.now c.args.cells.now c.name_codes.new.codes c.in_ok-name_codes.field-0 c.in_ok-name_codes.ensures c.if-not-branch.false)
+    ∙ sym c.requires.width
+
+pub add-requires : goal.add-requires
+add-requires c = ap length c.items-then-not-branch.ensures
+    ∙ c.arity-arity.ensures.fits c.read_row.new.codes
+    (Contains-at c.args.rows.now.rows c.args.at c.read_row.new.codes c.in_ok-read_row.ensures) ∙ sym c.requires.arity
 
 pub add-requires-2 : goal.add-requires-2
 add-requires-2 c = ap length c.items-4.ensures
