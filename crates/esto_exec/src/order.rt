@@ -86,6 +86,19 @@ fn reach_more(alloc: Global, steps: &Prepared, done: &mut Places) -> Result<(), 
     push_linked(steps, &before, done)
 }
 
+/// Takes all gets that links lead to as done.
+fn reach_all(alloc: Global, steps: &Prepared, done: &mut Places) -> Result<(), OutOfMemory> {
+    let mut before: usize = 0;
+    'rounds: for _round in 0..steps.gets.len() {
+        if done.len() == before {
+            return Ok(());
+        }
+        before = done.len();
+        reach_more(alloc, steps, done)?;
+    }
+    Ok(())
+}
+
 /// How many gets are done once the get of the number is, and after it all that links lead to.
 fn reach(
     alloc: Global,
@@ -95,14 +108,7 @@ fn reach(
 ) -> Result<usize, OutOfMemory> {
     let mut reached = done.copy(alloc)?;
     reached.push(number)?;
-    let mut before: usize = 0;
-    'rounds: for _round in 0..steps.gets.len() {
-        if reached.len() == before {
-            return Ok(before);
-        }
-        before = reached.len();
-        reach_more(alloc, steps, &mut reached)?;
-    }
+    reach_all(alloc, steps, &mut reached)?;
     Ok(reached.len())
 }
 
@@ -167,6 +173,19 @@ fn fewest(
     Ok(best)
 }
 
+/// The one of the gets to join next: the one after which there are the fewest rows, where there is a choice and a row.
+fn best_of(
+    alloc: Global,
+    steps: &Prepared,
+    so_far: &SoFar,
+    candidates: &Places,
+) -> Result<Option<usize>, OutOfMemory> {
+    if candidates.len() < 2 || so_far.rows.len() == 0 {
+        return Ok(candidates.items().first().copied());
+    }
+    fewest(alloc, steps, so_far, candidates)
+}
+
 /// The get that is joined next, of those whose inputs are known: one that is linked to the gets that are done, if there is
 /// one, else one that leads on to the most others, and of these the one after which there are the fewest rows.
 pub(crate) fn next_get(
@@ -175,8 +194,5 @@ pub(crate) fn next_get(
     so_far: &SoFar,
 ) -> Result<Option<usize>, OutOfMemory> {
     let candidates = candidates(alloc, steps, &so_far.done)?;
-    if candidates.len() < 2 || so_far.rows.len() == 0 {
-        return Ok(candidates.items().first().copied());
-    }
-    fewest(alloc, steps, so_far, &candidates)
+    best_of(alloc, steps, so_far, &candidates)
 }

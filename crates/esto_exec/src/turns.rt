@@ -216,6 +216,27 @@ fn joined_slots<F: Fragment>(
     joined_fragment(alloc, &join, fragment, table, so_far)
 }
 
+/// Joins the rows so far with those of the fragment, and keeps the codes of the kept slots.
+fn join_slots<F: Fragment>(
+    alloc: Global,
+    get: &Get,
+    fragment: &F,
+    table: &Rows,
+    places: &Slots,
+    kept: &Slots,
+    so_far: &mut Rows,
+) -> Result<(), OutOfMemory>
+    requires table { length get.now.inputs ≡ 0 → (row : List ℕ)
+        → Contains table.now.rows row ↔ Contains (F.rows fragment.now) row }
+    requires allowed { IsAllowed (F.shape fragment.now) (map (λ link. link.column) get.now.inputs) }
+    ensures { OnOk result ((row : List ℕ) → Contains so_far.new.rows row
+        ↔ IsKept (map (λ slot. source_in places.now (Held slot)) kept.now)
+        (IsJoin get.now so_far.old.rows (F.rows fragment.now)) row) }
+{
+    *so_far = joined_slots(alloc, get, fragment, table, places, kept, so_far)?;
+    Ok(())
+}
+
 /// Joins the rows so far with those of the fragment, and keeps of their slots those that are needed.
 fn follow<F: Fragment>(
     alloc: Global,
@@ -235,7 +256,7 @@ fn follow<F: Fragment>(
         (IsJoin get.now so_far.old.rows (F.rows fragment.now)) row)) }
 {
     let kept = kept_slots(alloc, needed, places)?;
-    *so_far = joined_slots(alloc, get, fragment, table, places, &kept, so_far)?;
+    join_slots(alloc, get, fragment, table, places, &kept, so_far)?;
     *places = kept;
     Ok(())
 }
@@ -272,6 +293,23 @@ fn nothing_done(alloc: Global) -> Result<SoFar, OutOfMemory>
     })
 }
 
+/// Puts the get of the number and the slots of its row after those that are done.
+fn push_done(
+    steps: &Prepared,
+    number: usize,
+    done: &mut Places,
+    places: &mut Slots,
+) -> Result<(), OutOfMemory>
+    requires { number < length steps.now.arities.now }
+    ensures done { OnOk result (done.new ≡ done.old ++ number ∷ []) }
+    ensures places { OnOk result ((arity : ℕ)
+        × (slice_get steps.now.arities.now number ≡ Some arity)
+        × (places.new ≡ places.old ++ slots_from number 0 arity)) }
+{
+    done.push(number)?;
+    push_slots(places, number, steps.arities.item(number))
+}
+
 /// The get of the number as rows so far have it, which is done then: its inputs are told by the slots so far, its filters
 /// are the equations that it decides, and the slots of its row are put after those so far.
 fn own_get(
@@ -293,8 +331,7 @@ fn own_get(
         ≡ flat_map (links_of number done.new places.new) steps.now.equations.now) }
 {
     let inputs = links_in(alloc, places, first_of(steps.arities, number), &get.inputs)?;
-    done.push(number)?;
-    push_slots(places, number, steps.arities.item(number))?;
+    push_done(steps, number, done, places)?;
     let filters = links_at(alloc, number, done, places, steps.equations)?;
     Ok(Get {
         fragment: get.fragment,

@@ -1,4 +1,4 @@
 use Rattle.esto_exec.proofs.turns.follow.Goals as goal
 
 pub returns : goal.returns
-returns g c = (c.in_ok-kept.ensures, c.in_ok-so_far.ensures)
+returns g c = (c.in_ok-kept.ensures, c.in_ok-join_slots.ensures)
