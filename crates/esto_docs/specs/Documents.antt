@@ -41,13 +41,14 @@ later_steps (step ∷ path) = path
 abbrev pub begun : List Step → Data → Members → Data
 begun path first rest = if begins_with_field path then object (put (first_name path) first rest) else array (item first no_items)
 
--- The document of a row: a column is the cell as a string, and what stands at the end of a path is written with the steps of the path round it.
 abbrev mutual
+  -- The document of a row: a column is the cell as a string, and what stands at the end of a path is written with the steps of the path round it.
   pub document : Entries → Row → Data
   document done row = object no_members
   document (holds path term rest) row = begun path (path_data (later_steps path) (string (text_in row term))) (members rest row)
   document (group path inner rest) row = begun path (path_data (later_steps path) (document inner row)) (members rest row)
 
+  -- The fields of an object that the entries write, one for each of them.
   pub members : Entries → Row → Members
   members done row = no_members
   members (holds path term rest) row = put (first_name path) (path_data (later_steps path) (string (text_in row term))) (members rest row)

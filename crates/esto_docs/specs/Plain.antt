@@ -4,8 +4,8 @@ use Rattle.serde_json.specs.Data.{Data, null, boolean, number, string, array, ob
 use Rattle.serde_json.specs.Written.{compact_text}
 use Rattle.esto_docs.specs.Files.{json_of}
 
--- The value is made of texts, objects and arrays alone.
 abbrev mutual
+  -- The value is made of texts, objects and arrays alone.
   pub HasTextsOnly : Data → Type 0
   HasTextsOnly null = ⊥
   HasTextsOnly (boolean b) = ⊥
@@ -14,10 +14,12 @@ abbrev mutual
   HasTextsOnly (array ds) = ItemsHaveTextsOnly ds
   HasTextsOnly (object ms) = MembersHaveTextsOnly ms
 
+  -- Each of the items is made of these alone.
   pub ItemsHaveTextsOnly : Items → Type 0
   ItemsHaveTextsOnly no_items = ⊤
   ItemsHaveTextsOnly (item d ds) = HasTextsOnly d × ItemsHaveTextsOnly ds
 
+  -- The value of each member is made of these alone.
   pub MembersHaveTextsOnly : Members → Type 0
   MembersHaveTextsOnly no_members = ⊤
   MembersHaveTextsOnly (member k d ms) = HasTextsOnly d × MembersHaveTextsOnly ms
