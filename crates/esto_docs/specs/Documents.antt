@@ -18,7 +18,7 @@ path_data (Name k ∷ path) d = object (member k (path_data path d) no_members)
 path_data (Item ∷ path) d = array (item (path_data path d) no_items)
 path_data (Below ∷ path) d = path_data path d
 
--- Whether a path begins with a field, the name of that field, and the steps after the first.
+-- Whether a path begins with a field.
 abbrev pub begins_with_field : List Step → Bool
 begins_with_field [] = false
 begins_with_field (Name k ∷ path) = true

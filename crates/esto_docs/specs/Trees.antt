@@ -22,8 +22,8 @@ number_tree (float x) = Nothing
 abbrev pub field_of : List ℕ → Tree → FieldOf Tree
 field_of name tree = record { name = name; tree = tree }
 
--- The tree of a value: its fields in order of their names, its items in order.
 abbrev mutual
+  -- The tree of a value: its fields in order of their names, its items in order.
   pub tree_of : Data → Tree
   tree_of null = Nothing
   tree_of (boolean b) = Value (word b)
@@ -32,10 +32,12 @@ abbrev mutual
   tree_of (array ds) = Items (trees_of ds)
   tree_of (object ms) = Fields (fields_of ms)
 
+  -- The trees of items, in order.
   pub trees_of : json.Items → List Tree
   trees_of no_items = []
   trees_of (item d ds) = tree_of d ∷ trees_of ds
 
+  -- The fields of an object, each with the tree of its value.
   pub fields_of : json.Members → List (FieldOf Tree)
   fields_of no_members = []
   fields_of (member k d ms) = field_of k (tree_of d) ∷ fields_of ms
