@@ -241,9 +241,11 @@ next_level entries since from its_from atom live sides at places its_places give
     (λ before inside. subst (λ them. GoesOn entries since from atom at them before ways) places_are
     (subst (λ them. GoesOn entries since them atom at its_places before ways) from_is (goes before inside)))
 
-pub next_items : (entries : List Entry) (since : ℕ) (from : List Term) (atom : Fact Term) (live sides : List Term) (given items ways : List Way)
-    → items ≡ given → AreNext entries since from atom live sides items ways → AreNext entries since from atom live sides given ways
-next_items entries since from atom live sides given items ways same next = subst (λ it. AreNext entries since from atom live sides it ways) same next
+pub next_items : (entries : List Entry) (since : ℕ) (from : List Term) (atom : Fact Term) (live its_live sides : List Term) (given items ways : List Way)
+    → its_live ≡ live → items ≡ given → AreNext entries since from atom its_live sides items ways → AreNext entries since from atom live sides given ways
+next_items entries since from atom live its_live sides given items ways same_live same next =
+    subst (λ it. AreNext entries since from atom it sides given ways) same_live
+    (subst (λ it. AreNext entries since from atom its_live sides it ways) same next)
 
 pub tells_terms : (terms its live : List Term) (places : List ℕ) → its ≡ terms → ((term : Term) → Contains live term → TellsOne its places term)
     → (term : Term) → Contains live term → TellsOne terms places term

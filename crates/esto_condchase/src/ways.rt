@@ -160,12 +160,22 @@ pub fn match_next(
     Ok(ways)
 }
 
-/// Goes on by one atom, from the terms of those before it and the ways that match them.
+/// The terms of the atoms, and then those that are asked for.
+fn live_terms(alloc: Global, atoms: &[Atom], asked: &[Term]) -> Result<Terms, OutOfMemory>
+    ensures { IfOk result (λ it. it ≡ terms_of atoms.now ++ asked.now) }
+{
+    let terms = terms_of(alloc, atoms)?;
+    let live = both(alloc, terms.items(), asked)?;
+    Ok(live)
+}
+
+/// Goes on by one atom, before the rest, from the terms of those before it and the ways that match them.
 fn go_on(
     alloc: Global,
     known: &Known,
     atom: &Atom,
-    live: &[Term],
+    rest: &[Atom],
+    asked: &[Term],
     sides: &[Term],
     count: usize,
     from: &mut Terms,
@@ -175,32 +185,25 @@ fn go_on(
     requires counted { AreCounted count ways.old }
     requires counts { AreOfCount count known.now }
     ensures next { OnOk result
-        (AreNext known.now 0 from.old atom.now live.now sides.now ways.old ways.new) }
+        (AreNext known.now 0 from.old atom.now (terms_of rest.now ++ asked.now) sides.now
+        ways.old ways.new) }
     ensures counted { OnOk result (AreCounted count ways.new) }
     ensures from { OnOk result (from.new ≡ from.old ++ atom.now.terms) }
 {
+    let live = live_terms(alloc, rest, asked)?;
     *ways = match_next(
         alloc,
         known,
         0,
         from,
         atom,
-        live,
+        live.items(),
         sides,
         ways.items(),
         count,
     )?;
     from.append(atom.terms.copy(alloc)?)?;
     Ok(())
-}
-
-/// The terms of the atoms, and then those that are asked for.
-fn live_terms(alloc: Global, atoms: &[Atom], asked: &[Term]) -> Result<Terms, OutOfMemory>
-    ensures { IfOk result (λ it. it ≡ terms_of atoms.now ++ asked.now) }
-{
-    let terms = terms_of(alloc, atoms)?;
-    let live = both(alloc, terms.items(), asked)?;
-    Ok(live)
 }
 
 /// The direct matches of a body among the entries, each with what it uses, as far as they tell what the terms meet
@@ -222,12 +225,12 @@ pub fn matches_of(
     let mut ways = begun(alloc, count)?;
     let mut from = List::new(alloc);
     'atoms: for (place, atom) in body.iter().enumerate() {
-        let live = live_terms(alloc, &body[place + 1..], asked)?;
         go_on(
             alloc,
             known,
             atom,
-            live.items(),
+            &body[place + 1..],
+            asked,
             sides,
             count,
             &mut from,

@@ -1,14 +1,14 @@
-use Rattle.std.proofs.Common.{Contains, sym, subst}
+use Rattle.std.proofs.Common.{Contains, sym, subst, ◌∙◌}
 use Rattle.esto_condchase.specs.Ways.{AreCounted}
 use Rattle.esto_condchase.proofs.FoundLemmas.{next_items}
 use Rattle.esto_condchase.proofs.ways.go_on.Goals as goal
 
 pub match_next-requires-clause-lengths : goal.match_next-requires-clause-lengths
-match_next-requires-clause-lengths c way inside = c.requires.lengths way (subst (λ it. Contains it way) c.items.ensures inside)
+match_next-requires-clause-lengths c way inside = c.requires.lengths way (subst (λ it. Contains it way) c.items-2.ensures inside)
 
 pub match_next-requires-clause-given : goal.match_next-requires-clause-given
-match_next-requires-clause-given c = subst (AreCounted c.args.count) (sym c.items.ensures) c.requires.counted
+match_next-requires-clause-given c = subst (AreCounted c.args.count) (sym c.items-2.ensures) c.requires.counted
 
 pub returns-clause-next : goal.returns-clause-next
-returns-clause-next c = next_items c.args.known.now 0 c.args.from.now c.args.atom.now c.args.live.now c.args.sides.now c.args.ways.now c.items.result.now _ c.items.ensures
-    c.in_ok-ways.ensures.next
+returns-clause-next c = next_items c.args.known.now 0 c.args.from.now c.args.atom.now _ c.items.result.now c.args.sides.now c.args.ways.now
+    c.items-2.result.now _ (c.items.ensures ∙ c.in_ok-live.ensures) c.items-2.ensures c.in_ok-ways.ensures.next

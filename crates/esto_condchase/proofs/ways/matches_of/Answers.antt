@@ -1,4 +1,4 @@
-use Rattle.std.proofs.Common.{◌++◌, List, false, refl, ap, ◌∙◌}
+use Rattle.std.proofs.Common.{◌++◌, List, false, refl, ap}
 use Rattle.std.proofs.lemmas.List.{length-replicate}
 use Rattle.esto_semantics.specs.Facts.{terms_of}
 use Rattle.esto_semantics.specs.declared.fact.Fact.{Fact}
@@ -37,10 +37,9 @@ pub atoms-preserved : goal.atoms-preserved
 atoms-preserved c =
     let atom = c.index-body-place.result in
     record {
-      found = body_turn c.args.known.now c.args.body.now c.args.asked.now c.args.sides.now c.items.result.now c.atoms.place atom c.atoms.ways
+      found = body_turn c.args.known.now c.args.body.now c.args.asked.now c.args.sides.now _ c.atoms.place atom c.atoms.ways
           c.go_on.new.ways c.atoms.from c.requires.among c.atoms-test.true c.index-body-place.is
-          (c.items.ensures ∙ c.in_ok-live.ensures ∙ ap (λ (it : List (Fact Term)). terms_of it ++ c.args.asked.now)
-          (rest_after c.args.body.now c.atoms.place c.atoms-test.true))
+          (ap (λ (it : List (Fact Term)). terms_of it ++ c.args.asked.now) (rest_after c.args.body.now c.atoms.place c.atoms-test.true))
           c.atoms.invariant.from_is c.atoms.invariant.found c.in_ok-go_on.ensures.next;
       from_is = from_turn c.args.body.now c.atoms.place atom c.atoms.from c.go_on.new.from _ c.atoms-test.true c.index-body-place.is
           c.atoms.invariant.from_is refl c.in_ok-go_on.ensures.from;
