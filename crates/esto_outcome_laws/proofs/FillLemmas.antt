@@ -65,25 +65,31 @@ fit_or_not (row ∷ rows) = by (row_fault row) refl (fit_or_not rows)
         → All (λ it. row_fault it ≡ None) (row ∷ rows) ⊎ ((cell : List ℕ) × IsFirstUnfit (row ∷ rows) cell)
     by (Some column) fault later =
         let (cell, at) = cell_at row column fault in
-        inr (cell, record {
-          place = 0;
-          row = row;
-          there = refl;
-          column = column;
-          fault = fault;
-          is = at;
-          before = λ earlier other less. absurd (omega (arith, less));
-        })
+        inr (
+          cell,
+          record {
+            place = 0;
+            row = row;
+            there = refl;
+            column = column;
+            fault = fault;
+            is = at;
+            before = λ earlier other less. absurd (omega (arith, less));
+          },
+        )
     by None free (inl all) = inl (All-cons (λ it. row_fault it ≡ None) row rows free all)
-    by None free (inr (cell, first)) = inr (cell, record {
-      place = suc first.place;
-      row = first.row;
-      there = first.there;
-      column = first.column;
-      fault = first.fault;
-      is = first.is;
-      before = before;
-    })
+    by None free (inr (cell, first)) = inr (
+      cell,
+      record {
+        place = suc first.place;
+        row = first.row;
+        there = first.there;
+        column = first.column;
+        fault = first.fault;
+        is = first.is;
+        before = before;
+      },
+    )
       where
         before : (earlier : ℕ) (other : Row) → earlier < suc first.place → slice_get (row ∷ rows) earlier ≡ Some other → row_fault other ≡ None
         before zero other less there = subst (λ (it : Row). row_fault it ≡ None) (same_Some row other there) free
@@ -150,11 +156,13 @@ module _ (laws : BelowLaws) where
           (status.NoSuchFragment name) (record { cause = tt })
           ((λ inside. let (place, at) = place-from_Contains (names_of catalogue.fragments) name inside in none place name at refl), refl)
       | inl (number, found, at, is, earlier) ↦
-          ends_judged (IsFirstOf (names_of catalogue.fragments) name) Refuses (gives_fragment IsMade (Some files) catalogue)
-          (number, record {
-            there = subst (λ (it : List ℕ). slice_get (names_of catalogue.fragments) number ≡ Some it) is at;
-            first = λ before less there. earlier before name less there refl;
-          })
+          ends_judged (IsFirstOf (names_of catalogue.fragments) name) Refuses (gives_fragment IsMade (Some files) catalogue) (
+            number,
+            record {
+              there = subst (λ (it : List ℕ). slice_get (names_of catalogue.fragments) number ≡ Some it) is at;
+              first = λ before less there. earlier before name less there refl;
+            },
+          )
           (λ its first. fragment_ends its (within its first.there))
     ]
       where

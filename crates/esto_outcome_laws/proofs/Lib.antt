@@ -21,3 +21,4 @@ pub mod VerdictLemmas
 pub mod VerifyLemmas
 pub mod BenchLemmas
 pub mod CommandLemmas
+pub mod ExplainLemmas

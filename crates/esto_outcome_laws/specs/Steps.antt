@@ -1,9 +1,10 @@
 -- That each step of the commands comes to an end, or asks for a file that is not there.
-use Rattle.std.specs.Prelude.{◌≢◌, ℕ, ◌<◌, Bool, List, [], Option, Some}
+use Rattle.std.specs.Prelude.{◌≢◌, ℕ, ◌<◌, Bool, List, [], Option, None, Some}
 use Rattle.esto_bench.specs.Summary.{IsSummaryOfCase}
 use Rattle.esto_bench.specs.declared.summary.Summary.{Summary}
 use Rattle.esto_catalog.specs.declared.catalogue.Catalogue.{Catalogue}
-use Rattle.esto_certify.specs.Verify.{verify_course}
+use Rattle.esto_certify.specs.Explain.{explain_course}
+use Rattle.esto_certify.specs.Verify.{HasVerdict, verify_course}
 use Rattle.esto_data.specs.Answer.{answer_course}
 use Rattle.esto_data.specs.Audit.{audit_course}
 use Rattle.esto_data.specs.Fill.{make_course}
@@ -128,6 +129,24 @@ MinimisationsEnd = (files : Files) (catalogue_name query_name : List ℕ) → En
 abbrev pub VerificationsEnd : Type 0
 VerificationsEnd =
     (files : Files) (catalogue_name query_name numbers file : List ℕ) → EndsOrLacks (verify_course (Some files) catalogue_name query_name numbers file)
+
+-- Each listed set of each printed plan of the query has a certificate that is accepted.
+abbrev pub HaveCertificates : Catalogue → Query → Type 0
+HaveCertificates catalogue query =
+    (plan : Plan) (item : Listed) → IsPlanned catalogue query plan → IsItemOf catalogue query plan item
+    → (text : List ℕ) × HasVerdict catalogue query plan item.set text None
+
+-- So it is of each query over each catalogue that the files of these names say.
+abbrev pub FilesHaveCertificates : Files → List ℕ → List ℕ → Type 0
+FilesHaveCertificates files catalogue_name query_name =
+    (catalogue : Catalogue) (query : Query) → (opens_catalogue (Some files) catalogue_name).goes catalogue
+    → (opens_query (Some files) query_name catalogue).goes query → HaveCertificates catalogue query
+
+-- So does `explain`, where listed sets have certificates. That each has one is not said: the lines of a certificate are numbered within 64 bits.
+abbrev pub ExplanationsEnd : Type 0
+ExplanationsEnd =
+    (files : Files) (catalogue_name query_name : List ℕ) (number : ℕ) → FilesHaveCertificates files catalogue_name query_name
+    → EndsOrLacks (explain_course (Some files) catalogue_name query_name number)
 
 -- The made case of each size above 0 has a summary.
 abbrev pub CasesHaveSummaries : Type 0

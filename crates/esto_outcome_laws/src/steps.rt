@@ -1,11 +1,12 @@
 //! Laws of steps that come to an end.
 ghost use Rattle.esto_outcome_laws.specs.Steps.{AnswersEnd, AuditsEnd, CasesHaveSummaries, CataloguesOpen, ContainmentsEnd};
-ghost use Rattle.esto_outcome_laws.specs.Steps.{FillsEnd, ItemsAreChosen, MinimisationsEnd, PlansHaveLists, PlansHaveTexts, QueriesArePlanned};
+ghost use Rattle.esto_outcome_laws.specs.Steps.{ExplanationsEnd, FillsEnd, ItemsAreChosen, MinimisationsEnd, PlansHaveLists, PlansHaveTexts, QueriesArePlanned};
 ghost use Rattle.esto_outcome_laws.specs.Steps.{QueriesHaveEnds, QueriesOpen, SetsHaveRows, SetsOpen, SetsUseFragments, UnionsAreListed};
 ghost use Rattle.esto_outcome_laws.specs.Steps.{UnionsAreRun, UnionsOpen, VerificationsEnd};
 
 use crate::below::{bench_laws_hold, laws_below_hold, reading_laws_hold, reasoning_laws_hold};
 use esto_chase_laws::rules_are_decided;
+use esto_planning::chosen_items_are_listed;
 use esto_semantics::databases_stand_for_facts;
 
 /// A law: the file of a catalogue, and over a catalogue the file of a query or of a union of queries, is opened, or it is told
@@ -57,7 +58,7 @@ pub fn unions_are_listed_and_run()
 }
 
 /// A law: over whatever files, `answer`, `fill`, `audit`, `contains`, `minimise` and `verify` come to an end, or ask for a file
-/// that is not there.
+/// that is not there. So does `explain` where the listed sets of the query have certificates that are accepted.
 pub fn commands_come_to_an_end()
     ensures answer { AnswersEnd }
     ensures fill { FillsEnd }
@@ -65,10 +66,12 @@ pub fn commands_come_to_an_end()
     ensures contains { ContainmentsEnd }
     ensures minimise { MinimisationsEnd }
     ensures verify { VerificationsEnd }
+    ensures explain { ExplanationsEnd }
 {
     reading_laws_hold();
     laws_below_hold();
     reasoning_laws_hold();
+    chosen_items_are_listed();
     rules_are_decided();
     databases_stand_for_facts();
 }

@@ -5,7 +5,7 @@ use Rattle.esto_opening.specs.Alike.{CataloguesOpenAlike, FragmentOpensAlike, Fr
 use Rattle.esto_opening.specs.Unions.{OpenedFormUnions, UnionsOfOneAreQueries}
 use Rattle.esto_outcome_laws.specs.Steps.{AnswersEnd, AuditsEnd, CasesHaveSummaries, CataloguesOpen, ContainmentsEnd, ItemsAreChosen, MinimisationsEnd}
 use Rattle.esto_outcome_laws.specs.Steps.{PlansHaveLists, PlansHaveTexts, QueriesArePlanned, QueriesHaveEnds, SetsHaveRows, SetsOpen, SetsUseFragments}
-use Rattle.esto_outcome_laws.specs.Steps.{FillsEnd, UnionsAreListed, UnionsAreRun, UnionsOpen, VerificationsEnd}
+use Rattle.esto_outcome_laws.specs.Steps.{ExplanationsEnd, FillsEnd, UnionsAreListed, UnionsAreRun, UnionsOpen, VerificationsEnd}
 use Rattle.esto_planning.specs.Alike.{ChoiceIsOne, ClashIsMoved, EndIsOne, ListIsMoved, ListIsOne, ListingIsMoved, ListingIsOne, PlanIsMoved, PlanIsOne}
 use Rattle.esto_planning.specs.Laws.{ClashExcludesAnswers, CoreHasNoRetract, CoreIsOnly, ItemIsListed, PlaceIsWithin, PlanHasForm, PlanIsUniversal}
 use Rattle.esto_planning.specs.Laws.{PlanTellsAnswers}
@@ -68,4 +68,5 @@ pub record StepLaws : Type 0 where
   pub contains : ContainmentsEnd
   pub minimise : MinimisationsEnd
   pub verify : VerificationsEnd
+  pub explain : ExplanationsEnd
   pub summary : CasesHaveSummaries

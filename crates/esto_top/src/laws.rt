@@ -160,8 +160,8 @@ fn steps_hold()
     cases_have_summaries();
 }
 
-/// A law: whatever the words are, also those outside the grammar, but for `explain`, they have an outcome over
-/// whatever files, or they ask for a file that is not there.
+/// A law: whatever the words are, also those outside the grammar, they have an outcome over whatever files, or they ask for a
+/// file that is not there. Of `explain` this is said where the listed sets of the query have certificates that are accepted.
 pub fn outcomes_exist()
     ensures { OutcomesExist }
 {
@@ -169,7 +169,8 @@ pub fn outcomes_exist()
 }
 
 /// A law: whatever the words are, each file that they fetch is there where they have an outcome, so that they have none where
-/// they ask for a file that is not there. But for `explain`, they have one exactly where each is there.
+/// they ask for a file that is not there. They have one exactly where each is there, and the listed sets of the query have
+/// certificates where `explain` asks for one.
 pub fn outcomes_are_where_files_are()
     ensures files { OutcomesHaveFiles }
     ensures lacks { OutcomesLackNone }

@@ -1,4 +1,5 @@
 use Rattle.esto_outcome_laws.proofs.CommandLemmas.{answer_ends, audit_ends, contains_ends, minimise_ends, verify_ends}
+use Rattle.esto_outcome_laws.proofs.ExplainLemmas.{explain_ends}
 use Rattle.esto_outcome_laws.proofs.FillLemmas.{make_ends}
 use Rattle.esto_outcome_laws.proofs.steps.commands_come_to_an_end.Goals as goal
 
@@ -25,3 +26,8 @@ returns-clause-minimise c = λ files catalogue_name query_name.
 pub returns-clause-verify : goal.returns-clause-verify
 returns-clause-verify c = λ files catalogue_name query_name numbers file.
     verify_ends c.reading_laws_hold.ensures c.laws_below_hold.ensures files catalogue_name query_name numbers file
+
+pub returns-clause-explain : goal.returns-clause-explain
+returns-clause-explain c = λ files catalogue_name query_name number have.
+    explain_ends c.reading_laws_hold.ensures c.laws_below_hold.ensures c.chosen_items_are_listed.ensures.place c.chosen_items_are_listed.ensures.item
+    files catalogue_name query_name number have

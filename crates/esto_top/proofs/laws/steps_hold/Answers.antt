@@ -23,5 +23,6 @@ returns c = record {
   contains = c.commands_come_to_an_end.ensures.contains;
   minimise = c.commands_come_to_an_end.ensures.minimise;
   verify = c.commands_come_to_an_end.ensures.verify;
+  explain = c.commands_come_to_an_end.ensures.explain;
   summary = c.cases_have_summaries.ensures;
 }
