@@ -109,8 +109,10 @@ pub gains_unnamed : (get : Get) (kept : List Source) (cells : List ℕ) (rows ol
     → slice_get rows place ≡ Some row → both ≡ cells ++ row → ((given : List ℕ) × NamesCodes both kept given → ⊥)
     → GainsOnly old old (IsKept kept (IsFollowerAt get cells rows place))
 gains_unnamed get kept cells rows old place row both there is none = follower_none get kept cells rows old place
-    (λ other at _ named. none (named.0,
-    subst (λ them. NamesCodes them kept named.0) (ap (λ it. cells ++ it) (same_Some other row (sym at ∙ there)) ∙ sym is) named.1))
+    (λ other at _ named. none (
+      named.0,
+      subst (λ them. NamesCodes them kept named.0) (ap (λ it. cells ++ it) (same_Some other row (sym at ∙ there)) ∙ sym is) named.1,
+    ))
 
 -- ---- joins
 

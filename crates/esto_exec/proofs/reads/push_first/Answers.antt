@@ -1,4 +1,4 @@
-use Rattle.std.proofs.Common.{inl, inr, length, Contains, sym, subst, ap, ◌∙◌}
+use Rattle.std.proofs.Common.{inl, inr, length, Contains, refl, sym, subst, ap, ◌∙◌}
 use Rattle.std.proofs.lemmas.List.Elements.{Contains-push_cases}
 use Rattle.std.proofs.lemmas.Option.{get_or_from_slice_get}
 use Rattle.std.proofs.lemmas.Result.{on_ok_weaker}
@@ -56,3 +56,21 @@ returns-clause-stand c = on_ok_weaker c.add-2.result
           (names_true c.items.result.now c.args.cells.now c.name_codes.new.codes c.in_ok-name_codes.field-0 c.in_ok-name_codes.ensures c.if-not-branch.false)))
     ]))
     c.add-2.ensures.ok
+
+pub returns-then-not-branch-clause-arity : goal.returns-then-not-branch-clause-arity
+returns-then-not-branch-clause-arity c = on_ok_weaker c.add.result (λ grown. ap (λ (it : CodedRows). it.arity) grown) c.add.ensures.ok
+
+pub returns-then-not-branch-clause-width : goal.returns-then-not-branch-clause-width
+returns-then-not-branch-clause-width c = on_ok_weaker c.add.result (λ _. refl) c.add.ensures.ok
+
+pub returns-then-has-clause-arity : goal.returns-then-has-clause-arity
+returns-then-has-clause-arity c = refl
+
+pub returns-then-has-clause-width : goal.returns-then-has-clause-width
+returns-then-has-clause-width c = refl
+
+pub returns-clause-arity : goal.returns-clause-arity
+returns-clause-arity c = on_ok_weaker c.add-2.result (λ grown. ap (λ (it : CodedRows). it.arity) grown) c.add-2.ensures.ok
+
+pub returns-clause-width : goal.returns-clause-width
+returns-clause-width c = on_ok_weaker c.add-2.result (λ _. ap (λ (it : CodedRows). it.arity) c.in_ok-put.ensures) c.add-2.ensures.ok
