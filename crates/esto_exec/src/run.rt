@@ -2,101 +2,14 @@
 ghost use Rattle.std.specs.Prelude.{◌≡◌, ◌↔◌, ◌<◌, List, ℕ, length, map, Contains, IfOk};
 ghost use Rattle.esto_plan.specs.Meaning.{IsResult};
 ghost use Rattle.esto_plan.specs.Rows.{IsRowOf, held_by};
-ghost use Rattle.esto_exec.specs.Named.{NamesCodes};
 ghost use Rattle.esto_exec.specs.Runnable.{AreRunnable};
-ghost use Rattle.esto_exec.specs.Slots.{side_of, equations_from};
-ghost use Rattle.esto_exec.specs.Turns.{source_in, AreArities, IsPrepared};
 
-use crate::project::projected;
-use crate::slots::{Equations, equations_of};
-use crate::tables::tables_of;
-use crate::turns::{Prepared, SoFar, arities_of, head_in, joined_rows};
+use crate::result::result_over;
+use crate::turns::arities_of;
 use esto_columns::{Fragment, Rows};
-use esto_plan::{Sources, Steps};
-use esto_term::{List, OutOfMemory, Places};
+use esto_plan::Steps;
+use esto_term::OutOfMemory;
 use std::alloc::Global;
-
-/// The head's codes in the rows so far.
-fn head_rows(
-    alloc: Global,
-    arities: &Places,
-    head: &Sources,
-    so_far: &SoFar,
-) -> Result<Rows, OutOfMemory>
-    ensures arity { IfOk result (λ it. it.arity ≡ length head.now) }
-    ensures rows { IfOk result (λ it. (row : List ℕ) → Contains it.rows row
-        ↔ ((end : List ℕ) × Contains so_far.now.rows.rows end × NamesCodes end
-        (map (λ source. source_in so_far.now.places (side_of arities.now source)) head.now) row)) }
-{
-    let sources = head_in(alloc, &so_far.places, arities, head)?;
-    projected(alloc, &sources, &so_far.rows)
-}
-
-/// The result of the steps, with what joins in any order rest on.
-fn run_prepared<F: Fragment>(
-    alloc: Global,
-    steps: &Steps,
-    arities: &Places,
-    equations: &Equations,
-    tables: &List<Rows>,
-    fragments: &[F],
-) -> Result<Rows, OutOfMemory>
-    requires runnable { AreRunnable (map F.shape fragments.now) steps.now.gets }
-    requires prepared { IsPrepared (IsRowOf (held_by (map F.rows fragments.now))) steps.now.gets
-        arities.now tables.now }
-    requires equations { equations.now ≡ equations_from arities.now 0 steps.now.gets }
-    ensures arity { IfOk result (λ it. it.arity ≡ length steps.now.head) }
-    ensures rows { IfOk result (λ it. (row : List ℕ) → Contains it.rows row
-        ↔ IsResult (IsRowOf (held_by (map F.rows fragments.now))) steps.now row) }
-{
-    let prepared = Prepared {
-        gets: &steps.gets,
-        head: &steps.head,
-        arities,
-        equations,
-        tables,
-    };
-    let so_far = joined_rows(alloc, &prepared, fragments)?;
-    head_rows(alloc, arities, &steps.head, &so_far)
-}
-
-/// The result of the steps, where gets give rows of these arities and their filters are these equations.
-fn run_by<F: Fragment>(
-    alloc: Global,
-    steps: &Steps,
-    arities: &Places,
-    equations: &Equations,
-    fragments: &[F],
-) -> Result<Rows, OutOfMemory>
-    requires runnable { AreRunnable (map F.shape fragments.now) steps.now.gets }
-    requires arities { AreArities (IsRowOf (held_by (map F.rows fragments.now))) steps.now.gets
-        arities.now }
-    requires equations { equations.now ≡ equations_from arities.now 0 steps.now.gets }
-    ensures arity { IfOk result (λ it. it.arity ≡ length steps.now.head) }
-    ensures rows { IfOk result (λ it. (row : List ℕ) → Contains it.rows row
-        ↔ IsResult (IsRowOf (held_by (map F.rows fragments.now))) steps.now row) }
-{
-    let tables = tables_of(alloc, &steps.gets, fragments)?;
-    run_prepared(alloc, steps, arities, equations, &tables, fragments)
-}
-
-/// The result of the steps, where gets give rows of these arities.
-fn run_over<F: Fragment>(
-    alloc: Global,
-    steps: &Steps,
-    arities: &Places,
-    fragments: &[F],
-) -> Result<Rows, OutOfMemory>
-    requires runnable { AreRunnable (map F.shape fragments.now) steps.now.gets }
-    requires arities { AreArities (IsRowOf (held_by (map F.rows fragments.now))) steps.now.gets
-        arities.now }
-    ensures arity { IfOk result (λ it. it.arity ≡ length steps.now.head) }
-    ensures rows { IfOk result (λ it. (row : List ℕ) → Contains it.rows row
-        ↔ IsResult (IsRowOf (held_by (map F.rows fragments.now))) steps.now row) }
-{
-    let equations = equations_of(alloc, arities, &steps.gets)?;
-    run_by(alloc, steps, arities, &equations, fragments)
-}
 
 /// Runs the steps over the fragments, which a get names by number and asks in one of their ways. The rows, read as a
 /// set, are exactly what the steps mean over the rows of the fragments, so they rest on those fragments alone that the
@@ -113,5 +26,5 @@ pub fn run_plan<F: Fragment>(
         ↔ IsResult (IsRowOf (held_by (map F.rows fragments.now))) steps.now row) }
 {
     let arities = arities_of(alloc, &steps.gets, fragments)?;
-    run_over(alloc, steps, &arities, fragments)
+    result_over(alloc, steps, &arities, fragments)
 }

@@ -3,7 +3,7 @@ use Rattle.std.proofs.lemmas.Result.{IfOk-weaker}
 use Rattle.esto_plan.specs.Rows.{IsRowOf}
 use Rattle.esto_exec.specs.Turns.{IsUnderWay}
 use Rattle.esto_exec.proofs.UnderWayLemmas.{results_told}
-use Rattle.esto_exec.proofs.run.run_prepared.Goals as goal
+use Rattle.esto_exec.proofs.result.prepared_result.Goals as goal
 
 pub returns-clause-rows : goal.returns-clause-rows
 returns-clause-rows g c =
