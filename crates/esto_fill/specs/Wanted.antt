@@ -5,7 +5,7 @@ use Rattle.esto_docmodel.specs.DocumentFacts.{DocFact, flat}
 use Rattle.esto_docmodel.specs.Encodings.{has_text, is_kept}
 use Rattle.esto_docmodel.specs.declared.kept.Kept.{Kept}
 use Rattle.esto_docmodel.specs.declared.kept.KeptTexts.{KeptTexts}
-use Rattle.esto_docmodel.specs.declared.kept.KeptTexts.TheVariants.{Every as Any}
+use Rattle.esto_docmodel.specs.declared.kept.KeptTexts.TheVariants.{Every as EveryText}
 use Rattle.esto_semantics.specs.Facts.{image}
 use Rattle.esto_semantics.specs.declared.fact.Fact.{Fact}
 use Rattle.esto_semantics.specs.declared.fact.Value.{Value}
@@ -46,7 +46,7 @@ Leaves (Asked bodies) facts some =
 
 -- Each text, or this one among others.
 abbrev pub IsThere : KeptTexts → Fact Term → Type 0
-IsThere texts atom = (texts ≡ Any) ⊎ ((text : List ℕ) × (slice_get atom.terms 1 ≡ Some (Const text)) × (has_text texts text ≡ true))
+IsThere texts atom = (texts ≡ EveryText) ⊎ ((text : List ℕ) × (slice_get atom.terms 1 ≡ Some (Const text)) × (has_text texts text ≡ true))
 
 -- What was there of texts is there still.
 abbrev pub Grow : KeptTexts → KeptTexts → Type 0
@@ -54,7 +54,7 @@ Grow old new = (atom : Fact Term) → IsThere old atom → IsThere new atom
 
 -- The text has come to the others.
 abbrev pub AdmitsMore : List ℕ → KeptTexts → KeptTexts → Type 0
-AdmitsMore text old new = Grow old new × ((new ≡ Any) ⊎ (has_text new text ≡ true))
+AdmitsMore text old new = Grow old new × ((new ≡ EveryText) ⊎ (has_text new text ≡ true))
 
 -- What the atoms that are over the relation have at their second place has come to the others.
 abbrev pub Admits : ℕ → List (Fact Term) → KeptTexts → KeptTexts → Type 0
@@ -67,7 +67,7 @@ AdmitsAll relation bodies texts =
 
 -- The texts are those at the second place of facts of the relation that are wanted, or more.
 abbrev pub MeetsWant : Wanted → ℕ → KeptTexts → Type 0
-MeetsWant Every relation texts = texts ≡ Any
+MeetsWant Every relation texts = texts ≡ EveryText
 MeetsWant (Asked bodies) relation texts = AdmitsAll relation bodies texts
 
 -- Of the facts of documents, whose relations stand from the base on, those that are wanted are kept.
