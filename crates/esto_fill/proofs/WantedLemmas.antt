@@ -13,7 +13,7 @@ use Rattle.esto_docmodel.specs.DocumentFacts.{DocFact, root, field, item, value,
 use Rattle.esto_docmodel.specs.Encodings.{has_term, has_text, is_kept, kept}
 use Rattle.esto_docmodel.specs.declared.kept.Kept.{Kept}
 use Rattle.esto_docmodel.specs.declared.kept.KeptTexts.{KeptTexts}
-use Rattle.esto_docmodel.specs.declared.kept.KeptTexts.TheVariants.{Every as Any, These}
+use Rattle.esto_docmodel.specs.declared.kept.KeptTexts.TheVariants.{Every as EveryText, These}
 use Rattle.esto_docmodel.proofs.EncodeLemmas.{all_kept, has_constant}
 use Rattle.esto_semantics.specs.Facts.{image}
 use Rattle.esto_semantics.specs.Maps.{AreFlat}
@@ -68,7 +68,7 @@ text_more text own some more texts is pushed copied =
     grows atom (inr (it, at, told)) = inr (it, at, any_left (λ other. bytes_eq other it) some (own ∷ []) told)
 
 -- each text
-pub every_text : (text : List ℕ) (texts : KeptTexts) → AdmitsMore text texts Any
+pub every_text : (text : List ℕ) (texts : KeptTexts) → AdmitsMore text texts EveryText
 every_text text texts = ((λ atom before. inl refl), inl refl)
 
 -- an atom over another relation
@@ -86,12 +86,12 @@ atom_text relation atom text old new at more = (
   λ it inside same. subst (IsThere new) (Contains-one atom it inside) (here more.1),
 )
   where
-    here : (new ≡ Any) ⊎ (has_text new text ≡ true) → IsThere new atom
+    here : (new ≡ EveryText) ⊎ (has_text new text ≡ true) → IsThere new atom
     here (inl any) = inl any
     here (inr told) = inr (text, at, told)
 
 -- an atom with another term there
-pub atom_any : (relation : ℕ) (atom : Fact Term) (texts : KeptTexts) → Admits relation (atom ∷ []) texts Any
+pub atom_any : (relation : ℕ) (atom : Fact Term) (texts : KeptTexts) → Admits relation (atom ∷ []) texts EveryText
 atom_any relation atom texts = ((λ it before. inl refl), λ it inside same. inl refl)
 
 -- one atom more of a body
