@@ -1,22 +1,23 @@
 -- What `fill`, `answer` and `audit` answer where nothing is wrong with the files.
 use Rattle.std.proofs.Common.{ℕ, List, Option, Some, None, Result, sym, ap, subst, ◌∙◌, inl, inr}
-use Rattle.esto_course.specs.Course.{Course}
+use Rattle.esto_course.specs.Course.{Course, Names}
 use Rattle.esto_data.specs.Answer.{answer_course}
 use Rattle.esto_data.specs.Audit.{audit_course}
 use Rattle.esto_data.specs.Exact.{IsExactAnswer, IsExactAudit, IsExactFill, IsExactUnionAnswer}
 use Rattle.esto_data.specs.Fill.{fill_course}
-use Rattle.esto_opening.specs.Answers.{Answers}
 use Rattle.esto_opening.specs.Calm.{SaysAlways}
 use Rattle.esto_data.specs.Laws.{AnswersAreExact, AuditsAreExact, FillsAreExact, UnionAnswersAreExact}
 use Rattle.esto_ports.specs.Files.{Files}
 use Rattle.esto_opening.specs.declared.reply.Reply.{Reply}
 use Rattle.esto_opening.specs.declared.status.Status.{Status}
-use Rattle.esto_top.specs.DataOutcomes.{AnswersFill, AnswersWhereTold, AuditsWhereTold, FillsWhereTold, OutcomesAreAnswers, OutcomesAreAudits}
-use Rattle.esto_top.specs.DataOutcomes.{OutcomesAreUnionAnswers, UnionAnswersWhereTold}
-use Rattle.esto_top.specs.Grammar.{course_of, request_of}
+use Rattle.esto_top.specs.DataOutcomes.{AnswersFill, AnswersWhereTold, AsksFillAsTold, AuditsWhereTold, FillsWhereTold, MediatesFill}
+use Rattle.esto_top.specs.DataOutcomes.{OutcomesAreAnswers, OutcomesAreAudits, OutcomesAreUnionAnswers, UnionAnswersWhereTold}
+use Rattle.esto_top.specs.Grammar.{Request, course_of, request_of}
+use Rattle.esto_top.specs.Grammar.Request.{FillFor}
 use Rattle.esto_opening.specs.Replies.{reply_status, reply_text}
-use Rattle.esto_top.specs.Outcome.{CompleteWhereTold, Finishes, Says}
+use Rattle.esto_top.specs.Outcome.{CompleteWhereTold, Finishes, Mediates, Says}
 use Rattle.esto_top.specs.Outcome.Says.{replies, refuses}
+use Rattle.esto_top.proofs.AskedLemmas.{asks_as_told}
 use Rattle.esto_top.proofs.Mediation.{mediates, whole_or_wanting}
 
 -- what holds of the replies and refusals of a course holds of what it says
@@ -45,17 +46,42 @@ outcomes_are_audits exact words files name catalogue said text is say outcome =
     says_fact (audit_course (Some files) name) (IsExactAudit files catalogue) said text (exact files name catalogue say)
     (subst (λ (it : List (List ℕ)). Says (course_of it (Some files)) ⊥ said text) is outcome)
 
+-- ---- over whatever shelf
+
+-- what is said of `fill` is said of a command line: of most there is nothing to say
+of_fill : (request : Option Request) (files : Option Files) (before after : Option Names) (rose : Type 0) (answer : Result Reply Status)
+    (old new : Option (List ℕ)) (sink_rose : Type 0) (result : Status) → AnswersFill request files before after rose answer
+    → Finishes answer old new sink_rose result
+    → MediatesFill request files rose old new sink_rose result × AsksFillAsTold request files before after rose result
+of_fill (Some (FillFor catalogue_name name)) files before after rose answer old new sink_rose result fills finishes = (
+  mediates (fill_course files catalogue_name name) rose answer old new sink_rose result fills.0 finishes,
+  asks_as_told (fill_course files catalogue_name name) rose sink_rose before after answer old new result fills.0 fills.1 finishes,
+)
+of_fill _ files before after rose answer old new sink_rose result fills finishes = (tt, tt)
+
+pub mediates_fill : (request : Option Request) (files : Option Files) (before after : Option Names) (rose : Type 0) (answer : Result Reply Status)
+    (old new : Option (List ℕ)) (sink_rose : Type 0) (result : Status) → AnswersFill request files before after rose answer
+    → Finishes answer old new sink_rose result → MediatesFill request files rose old new sink_rose result
+mediates_fill request files before after rose answer old new sink_rose result fills finishes =
+    (of_fill request files before after rose answer old new sink_rose result fills finishes).0
+
+pub asks_fill : (request : Option Request) (files : Option Files) (before after : Option Names) (rose : Type 0) (answer : Result Reply Status)
+    (old new : Option (List ℕ)) (sink_rose : Type 0) (result : Status) → AnswersFill request files before after rose answer
+    → Finishes answer old new sink_rose result → AsksFillAsTold request files before after rose result
+asks_fill request files before after rose answer old new sink_rose result fills finishes =
+    (of_fill request files before after rose answer old new sink_rose result fills finishes).1
+
 -- ---- where the files are told
 
 module _ (words : List (List ℕ)) (rose sink_rose : Type 0) (old new : Option (List ℕ)) (result : Status) where
-  pub fills_where_told : FillsAreExact → (files : Option Files) (answer : Result Reply Status) → AnswersFill (request_of words) files rose answer
-      → Finishes answer old new sink_rose result → FillsWhereTold words files rose sink_rose old new result
-  fills_where_told exact None answer fills finishes = tt
-  fills_where_told exact (Some files) answer fills finishes = λ calm sink_calm catalogue_name name catalogue is say.
+  pub fills_where_told : FillsAreExact → (files : Option Files) → MediatesFill (request_of words) files rose old new sink_rose result
+      → FillsWhereTold words files rose sink_rose old new result
+  fills_where_told exact None fills = tt
+  fills_where_told exact (Some files) fills = λ calm sink_calm catalogue_name name catalogue is say.
       let course = fill_course (Some files) catalogue_name name in
-      let answers : Answers (fill_course (Some files) catalogue_name name) rose answer =
-      subst (λ (it : List (List ℕ)). AnswersFill (request_of it) (Some files) rose answer) is fills in
-      elim (whole_or_wanting course rose sink_rose old new result (mediates course rose answer old new sink_rose result answers finishes) calm sink_calm) [
+      let filled : Mediates (fill_course (Some files) catalogue_name name) rose old new sink_rose result =
+      subst (λ (it : List (List ℕ)). MediatesFill (request_of it) (Some files) rose old new sink_rose result) is fills in
+      elim (whole_or_wanting course rose sink_rose old new result filled calm sink_calm) [
         | inl whole ↦ inl (
           whole.0,
           says_fact course (IsExactFill files catalogue name) result whole.0 (exact files catalogue_name name catalogue say) whole.1,

@@ -3,7 +3,9 @@ use Rattle.std.specs.Prelude.{◌≡◌, ℕ, List, [], ◌∷◌, Option, Some,
 use Rattle.esto_catalog.specs.declared.catalogue.Catalogue.{Catalogue}
 use Rattle.esto_data.specs.Exact.{IsExactAnswer, IsExactAudit, IsExactFill, IsExactUnionAnswer}
 use Rattle.esto_data.specs.Fill.{fill_course}
+use Rattle.esto_course.specs.Course.{Names}
 use Rattle.esto_opening.specs.Answers.{Answers}
+use Rattle.esto_opening.specs.Asked.{AsksAsTold, AsksIn}
 use Rattle.esto_opening.specs.Opening.{FilesSayCatalogue, FilesSayUnion}
 use Rattle.esto_ports.specs.Files.{Files}
 use Rattle.esto_query.specs.declared.query.Query.{Query}
@@ -13,7 +15,7 @@ use Rattle.esto_opening.specs.declared.status.Status.TheVariants as status
 use Rattle.esto_top.specs.Grammar.{Request}
 use Rattle.esto_top.specs.Grammar.Request.{FillFor}
 use Rattle.esto_top.specs.Headline.{FilesSay, HoldsOfPut}
-use Rattle.esto_top.specs.Outcome.{Outcome}
+use Rattle.esto_top.specs.Outcome.{Mediates, Outcome}
 use Rattle.esto_top.specs.Runs.{AsksRun}
 
 -- ---- outcomes
@@ -59,10 +61,24 @@ UnionAnswersWhereTold words (Some files) rose sink_rose old new result =
     → words ≡ codes "answer" ∷ catalogue_name ∷ query_name ∷ [] → FilesSayCatalogue files catalogue_name catalogue
     → FilesSayUnion files query_name catalogue queries → HoldsOfPut (IsExactUnionAnswer files catalogue queries) old new result
 
--- What is answered where a filled file is asked for is what the command does: its text says the rows of the fragment's view when it is read.
-abbrev pub AnswersFill : Option Request → Option Files → Type 0 → Result Reply Status → Type 0
-AnswersFill (Some (FillFor catalogue_name name)) files rose result = Answers (fill_course files catalogue_name name) rose result
-AnswersFill _ files rose result = Unit {0}
+-- What is answered where a filled file is asked for is what the command does, so that its text says the rows of the fragment's view when it is read; and the
+-- names that were asked for are those of the command.
+abbrev pub AnswersFill : Option Request → Option Files → Option Names → Option Names → Type 0 → Result Reply Status → Type 0
+AnswersFill (Some (FillFor catalogue_name name)) files before after rose result =
+    Answers (fill_course files catalogue_name name) rose result × AsksIn before after (fill_course files catalogue_name name) result
+AnswersFill _ files before after rose result = Unit {0}
+
+-- What `fill C F` puts and answers is what the command does, over whatever shelf: a text that says the rows of the fragment's view when it is read, or a prefix
+-- of it at a fault of the sink.
+abbrev pub MediatesFill : Option Request → Option Files → Type 0 → Option (List ℕ) → Option (List ℕ) → Type 0 → Status → Type 0
+MediatesFill (Some (FillFor catalogue_name name)) files rose old new sink_rose result =
+    Mediates (fill_course files catalogue_name name) rose old new sink_rose result
+MediatesFill _ files rose old new sink_rose result = Unit {0}
+
+-- The names that `fill C F` asked for, where they are told, are those for which the command with such a text asks.
+abbrev pub AsksFillAsTold : Option Request → Option Files → Option Names → Option Names → Type 0 → Status → Type 0
+AsksFillAsTold (Some (FillFor catalogue_name name)) files before after rose result = AsksAsTold before after (fill_course files catalogue_name name) rose result
+AsksFillAsTold _ files before after rose result = Unit {0}
 
 -- What `fill C F` puts is exact, or memory was refused and nothing put, where the files are told and say a catalogue, and neither count rose.
 abbrev pub FillsWhereTold : List (List ℕ) → Option Files → Type 0 → Type 0 → Option (List ℕ) → Option (List ℕ) → Status → Type 0

@@ -295,7 +295,7 @@ pub fn obey<S: Shelf>(alloc: Global, shelf: &mut S, command: Command<'_>) -> Res
     ensures asked { AsksIn (S.asked shelf.old) (S.asked shelf.new)
         (course_of_request (S.files shelf.old) (asked command.entry)) result }
     ensures filled { AnswersFill (Some (asked command.entry)) (S.files shelf.old)
-        (Rises S.faults shelf.old shelf.new) result }
+        (S.asked shelf.old) (S.asked shelf.new) (Rises S.faults shelf.old shelf.new) result }
     ensures files { S.files shelf.new ≡ S.files shelf.old }
     ensures later { S.faults shelf.old ≤ S.faults shelf.new }
 {

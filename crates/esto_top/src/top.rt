@@ -5,7 +5,8 @@ ghost use Rattle.esto_opening.specs.Answers.{Answers};
 ghost use Rattle.esto_opening.specs.Asked.{AsksIn, AsksAsTold};
 ghost use Rattle.esto_top.specs.Benches.{BenchesAlways};
 ghost use Rattle.esto_top.specs.CertificateOutcomes.{ExplainsWhereTold, VerifiesWhereTold};
-ghost use Rattle.esto_top.specs.DataOutcomes.{AnswersFill, AnswersWhereTold, AuditsWhereTold, FillsWhereTold, UnionAnswersWhereTold};
+ghost use Rattle.esto_top.specs.DataOutcomes.{AnswersFill, AnswersWhereTold, AsksFillAsTold, AuditsWhereTold};
+ghost use Rattle.esto_top.specs.DataOutcomes.{FillsWhereTold, MediatesFill, UnionAnswersWhereTold};
 ghost use Rattle.esto_top.specs.Determined.{ExactWhereTold};
 ghost use Rattle.esto_top.specs.Existing.{AnsweredWhereTold};
 ghost use Rattle.esto_top.specs.Grammar.{course_of, request_of};
@@ -33,7 +34,7 @@ fn answer<S: Shelf>(alloc: Global, words: &[Text], shelf: &mut S) -> Result<Repl
     ensures asked { AsksIn (S.asked shelf.old) (S.asked shelf.new)
         (course_of words.now (S.files shelf.old)) result }
     ensures filled { AnswersFill (request_of words.now) (S.files shelf.old)
-        (Rises S.faults shelf.old shelf.new) result }
+        (S.asked shelf.old) (S.asked shelf.new) (Rises S.faults shelf.old shelf.new) result }
     ensures files { S.files shelf.new ≡ S.files shelf.old }
     ensures later { S.faults shelf.old ≤ S.faults shelf.new }
 {
@@ -52,6 +53,12 @@ pub fn mediate<S: Shelf, O: Sink>(
 ) -> Status
     // The status and the text are those of the command's course.
     ensures outcome { Mediates (course_of words.now (S.files shelf.old))
+        (Rises S.faults shelf.old shelf.new) (O.written out.old) (O.written out.new)
+        (Rises O.faults out.old out.new) result }
+
+    // Of `fill` they are so, over every shelf, with a text that says the rows of the fragment's view when it is read;
+    // and so is that of which a prefix is put at a write fault.
+    ensures filled { MediatesFill (request_of words.now) (S.files shelf.old)
         (Rises S.faults shelf.old shelf.new) (O.written out.old) (O.written out.new)
         (Rises O.faults out.old out.new) result }
 
@@ -195,6 +202,10 @@ pub fn mediate<S: Shelf, O: Sink>(
     // a write fault the names of the answer that was to be put; and where memory was wanting, those up to any moment of it.
     ensures asked { AsksAsTold (S.asked shelf.old) (S.asked shelf.new)
         (course_of words.now (S.files shelf.old)) (Rises S.faults shelf.old shelf.new) result }
+
+    // So it is of `fill` with its text that says the view's rows when it is read.
+    ensures filled_asked { AsksFillAsTold (request_of words.now) (S.files shelf.old)
+        (S.asked shelf.old) (S.asked shelf.new) (Rises S.faults shelf.old shelf.new) result }
 
     // The text is put by one put, which the sink counts where it tells puts; where memory is wanting there may be none.
     ensures puts { PutsOnce (O.puts out.old) (O.puts out.new) result }

@@ -100,4 +100,4 @@ pub returns-in-Fill-clause-asked : goal.returns-in-Fill-clause-asked
 returns-in-Fill-clause-asked g c = rw c.in-Fill.is c.fill.ensures.made_asked
 
 pub returns-in-Fill-clause-filled : goal.returns-in-Fill-clause-filled
-returns-in-Fill-clause-filled g c = rw c.in-Fill.is c.fill.ensures.answer
+returns-in-Fill-clause-filled g c = rw c.in-Fill.is (c.fill.ensures.answer, c.fill.ensures.asked)

@@ -1,7 +1,8 @@
 use Rattle.esto_top.proofs.AskedLemmas.{asks_as_told}
 use Rattle.esto_top.proofs.BenchLemmas.{benches_always}
 use Rattle.esto_top.proofs.CertificateLemmas.{verifies_where_told}
-use Rattle.esto_top.proofs.DataLemmas.{answers_where_told, audits_where_told, fills_where_told, union_answers_where_told}
+use Rattle.esto_top.proofs.DataLemmas.{answers_where_told, asks_fill, audits_where_told, fills_where_told, mediates_fill}
+use Rattle.esto_top.proofs.DataLemmas.{union_answers_where_told}
 use Rattle.esto_top.proofs.DeterminedLemmas.{exact}
 use Rattle.esto_top.proofs.ExplainLemmas.{explains_where_told}
 use Rattle.esto_top.proofs.HeadlineLemmas.{holds_of_lists}
@@ -15,6 +16,12 @@ use Rattle.esto_top.proofs.top.mediate.Goals as goal
 
 pub returns-clause-outcome : goal.returns-clause-outcome
 returns-clause-outcome g c = mediates _ _ _ _ _ _ _ c.answer-answer.ensures.answer c.finish.ensures.put
+
+pub returns-clause-filled : goal.returns-clause-filled
+returns-clause-filled g c = mediates_fill _ _ _ _ _ _ _ _ _ _ c.answer-answer.ensures.filled c.finish.ensures.put
+
+pub returns-clause-filled_asked : goal.returns-clause-filled_asked
+returns-clause-filled_asked g c = asks_fill _ _ _ _ _ _ _ _ _ _ c.answer-answer.ensures.filled c.finish.ensures.put
 
 pub returns-clause-complete : goal.returns-clause-complete
 returns-clause-complete g c = complete c.args.words.now _ _ _ _ _ _ (mediates _ _ _ _ _ _ _ c.answer-answer.ensures.answer c.finish.ensures.put)
@@ -76,7 +83,8 @@ returns-clause-answer_union g c =
 
 pub returns-clause-fill : goal.returns-clause-fill
 returns-clause-fill g c =
-    fills_where_told c.args.words.now _ _ _ _ _ c.data_outcomes_hold.ensures.fills _ _ c.answer-answer.ensures.filled c.finish.ensures.put
+    fills_where_told c.args.words.now _ _ _ _ _ c.data_outcomes_hold.ensures.fills _
+    (mediates_fill _ _ _ _ _ _ _ _ _ _ c.answer-answer.ensures.filled c.finish.ensures.put)
 
 pub returns-clause-audit : goal.returns-clause-audit
 returns-clause-audit g c =
