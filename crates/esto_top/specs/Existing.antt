@@ -9,7 +9,6 @@ use Rattle.esto_opening.specs.Asked.{Fetches}
 use Rattle.esto_opening.specs.declared.status.Status.{Status}
 use Rattle.esto_opening.specs.declared.status.Status.TheVariants as status
 use Rattle.esto_outcome_laws.specs.Steps.{FilesHaveCertificates}
-use Rattle.esto_top.specs.Determined.{FixesText}
 use Rattle.esto_top.specs.Grammar.{Request, course_of, request_of}
 use Rattle.esto_top.specs.Grammar.Request.{ExplainFor}
 use Rattle.esto_top.specs.Outcome.{Outcome}
@@ -41,7 +40,8 @@ AreCovered words files = IsCovered files (request_of words)
 
 -- ---- laws
 
--- Whatever the words are, they have an outcome over whatever files, or they ask for a file that is not there; where they ask for a certificate, if there are some.
+-- Whatever the words are, they have an outcome over whatever files, or they ask for a file that is not there; where they ask for a certificate, if each listed
+-- set of the query has one that is accepted.
 abbrev pub OutcomesExist : Type 0
 OutcomesExist = (words : List (List ℕ)) (files : Files) → AreCovered words files → HasOutcome words files ⊎ LacksFile words files
 
@@ -55,21 +55,21 @@ OutcomesHaveFiles =
 abbrev pub OutcomesLackNone : Type 0
 OutcomesLackNone = (words : List (List ℕ)) (files : Files) → HasOutcome words files → LacksFile words files → ⊥
 
--- Whatever the words are, they have an outcome exactly where each file that they fetch is there; where they ask for a certificate, if there are some.
+-- Whatever the words are, they have an outcome exactly where each file that they fetch is there; where they ask for a certificate, if each listed set of the
+-- query has one that is accepted.
 abbrev pub OutcomesAreWhereFilesAre : Type 0
 OutcomesAreWhereFilesAre = (words : List (List ℕ)) (files : Files) → AreCovered words files → HasOutcome words files ↔ HaveFetched words files
 
 -- ---- what the top call says
 
--- There is an outcome of the words and the files, and the answer has its status, and its text was put where the words and the status fix it; or memory was
--- refused, and nothing was put.
+-- There is an outcome of the words and the files, and the answer has its status, and its text was put; or memory was refused, and nothing was put.
 abbrev pub IsTheOutcome : List (List ℕ) → Files → Option (List ℕ) → Option (List ℕ) → Status → Type 0
 IsTheOutcome words files old new result =
     (said : Status) × (text : List ℕ) × Outcome words files said text
-    × (((result ≡ said) × (FixesText words said → Appends old new text)) ⊎ ((result ≡ status.OutOfMemory) × Keeps old new))
+    × (((result ≡ said) × Appends old new text) ⊎ ((result ≡ status.OutOfMemory) × Keeps old new))
 
 -- Where the shelf tells its files, each that the words fetch is there, and neither count rose, there is an outcome, and it is what was answered, or memory was
--- refused; where the words ask for a certificate, if there are some.
+-- refused; where the words ask for a certificate, if each listed set of the query has one that is accepted.
 abbrev pub AnsweredWhereTold : List (List ℕ) → Option Files → Type 0 → Type 0 → Option (List ℕ) → Option (List ℕ) → Status → Type 0
 AnsweredWhereTold words None rose sink_rose old new result = Unit {0}
 AnsweredWhereTold words (Some files) rose sink_rose old new result =

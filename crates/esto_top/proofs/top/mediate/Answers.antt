@@ -60,8 +60,7 @@ returns-clause-exact g c =
 pub returns-clause-answered : goal.returns-clause-answered
 returns-clause-answered g c =
     answered c.outcomes_are_where_files_are.ensures.exactly c.args.words.now _ _ _ _ _ _
-    (exact c.outcomes_are_determined.ensures.outcomes c.args.words.now _ _ _ _ _ _
-    (complete c.args.words.now _ _ _ _ _ _ (mediates _ _ _ _ _ _ _ c.answer-answer.ensures.answer c.finish.ensures.put)))
+    (complete c.args.words.now _ _ _ _ _ _ (mediates _ _ _ _ _ _ _ c.answer-answer.ensures.answer c.finish.ensures.put))
 
 pub returns-clause-run : goal.returns-clause-run
 returns-clause-run g c =
