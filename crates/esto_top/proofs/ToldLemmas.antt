@@ -27,7 +27,7 @@ use Rattle.esto_views.specs.declared.plan.Plan.{Plan}
 use Rattle.esto_query.specs.declared.query.Query.{Query}
 use Rattle.esto_term.proofs.ListLemmas.{Contains-cases, Contains-head, Contains-nil}
 use Rattle.esto_top.specs.Determined.{FetchesAreDetermined}
-use Rattle.esto_top.specs.Existing.{AnsweredWhereTold, AreAmong, OutcomesAreWhereFilesAre, OutcomesExist, OutcomesHaveFiles, OutcomesLackNone}
+use Rattle.esto_top.specs.Existing.{AnsweredWhereTold, AreAmong, FetchesExist, OutcomesAreWhereFilesAre, OutcomesExist, OutcomesHaveFiles, OutcomesLackNone}
 use Rattle.esto_top.specs.Grammar.{Request, course_of, course_of_asked, request_of}
 use Rattle.esto_top.specs.Grammar.Request.{AnswerFor, AuditOf, BenchOf, CheckOf, ContainsFor, ExplainFor, FillFor, ListFor, MinimiseFor, RunFor, VerifyFor}
 use Rattle.esto_top.specs.List.{lists_queries}
@@ -269,6 +269,12 @@ outcomes_lack_none one words files outcome (names, lacks) =
     let there = had.2 lack.0 (subst (λ it. Contains it lack.0) same lack.1) in
     let wrong : None ≡ Some there.0 = sym lack.2 ∙ there.1 in
     absurd (cc)
+
+pub fetches_exist : OutcomesExist → FetchesExist
+fetches_exist exist words files covered = elim (exist words files covered) [
+  | inl outcome ↦ let had = outcomes_have_files words files outcome in (had.0, had.1)
+  | inr lacks ↦ (lacks.0, to_lack lacks.1)
+]
 
 pub outcomes_where_files_are : OutcomesExist → FetchesAreDetermined → OutcomesAreWhereFilesAre
 outcomes_where_files_are exist one words files covered = (

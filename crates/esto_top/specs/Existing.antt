@@ -45,6 +45,11 @@ AreCovered words files = IsCovered files (request_of words)
 abbrev pub OutcomesExist : Type 0
 OutcomesExist = (words : List (List ℕ)) (files : Files) → AreCovered words files → HasOutcome words files ⊎ LacksFile words files
 
+-- Whatever the words are, they fetch some sequence of names over whatever files; where they ask for a certificate, if each listed set of the query has one that
+-- is accepted.
+abbrev pub FetchesExist : Type 0
+FetchesExist = (words : List (List ℕ)) (files : Files) → AreCovered words files → (names : Names) × Fetches (course_of words (Some files)) names
+
 -- Whatever the words are, where they have an outcome over the files, they fetch a sequence of names, each of which is of one of the files.
 abbrev pub OutcomesHaveFiles : Type 0
 OutcomesHaveFiles =

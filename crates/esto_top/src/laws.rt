@@ -7,7 +7,7 @@ ghost use Rattle.esto_top.specs.DataOutcomes.{OutcomesAreAudits};
 ghost use Rattle.esto_top.specs.DataOutcomes.{OutcomesAreUnionAnswers};
 ghost use Rattle.esto_top.specs.Determined.{AskedBeginsFetches, CoursesAreOne};
 ghost use Rattle.esto_top.specs.Determined.{FetchesAreDetermined, OutcomesAreDetermined};
-ghost use Rattle.esto_top.specs.Existing.{OutcomesAreWhereFilesAre, OutcomesExist};
+ghost use Rattle.esto_top.specs.Existing.{FetchesExist, OutcomesAreWhereFilesAre, OutcomesExist};
 ghost use Rattle.esto_top.specs.Existing.{OutcomesHaveFiles, OutcomesLackNone};
 ghost use Rattle.esto_top.specs.Headline.{OutcomesAreLists, OutcomesAreRefusals};
 ghost use Rattle.esto_top.specs.Laws.{ListingLaws, OpeningLaws, PlanningLaws, StepLaws};
@@ -168,10 +168,11 @@ pub fn outcomes_exist()
     steps_hold();
 }
 
-/// A law: whatever the words are, each file that they fetch is there where they have an outcome, so that they have none where
-/// they ask for a file that is not there. They have one exactly where each is there, and the listed sets of the query have
-/// certificates where `explain` asks for one.
+/// A law: whatever the words are, they fetch a sequence of names. Each file that they fetch is there where they have an
+/// outcome, so that they have none where they ask for a file that is not there. They have one exactly where each is there.
+/// Of `explain` the first and the last are said where the listed sets of the query have certificates that are accepted.
 pub fn outcomes_are_where_files_are()
+    ensures fetches { FetchesExist }
     ensures files { OutcomesHaveFiles }
     ensures lacks { OutcomesLackNone }
     ensures exactly { OutcomesAreWhereFilesAre }

@@ -1,5 +1,8 @@
-use Rattle.esto_top.proofs.ToldLemmas.{outcomes_have_files, outcomes_lack_none, outcomes_where_files_are}
+use Rattle.esto_top.proofs.ToldLemmas.{fetches_exist, outcomes_have_files, outcomes_lack_none, outcomes_where_files_are}
 use Rattle.esto_top.proofs.laws.outcomes_are_where_files_are.Goals as goal
+
+pub returns-clause-fetches : goal.returns-clause-fetches
+returns-clause-fetches c = λ words files covered. fetches_exist c.outcomes_exist.ensures words files covered
 
 pub returns-clause-files : goal.returns-clause-files
 returns-clause-files c = λ words files outcome. outcomes_have_files words files outcome
