@@ -1,4 +1,4 @@
--- The course of `explain` comes to an end where listed sets have certificates.
+-- The course of `explain` comes to an end where the set of the number has a certificate.
 use Rattle.std.proofs.Common.{◌≡◌, ℕ, List, None, Some, slice_get}
 use Rattle.esto_catalog.specs.declared.catalogue.Catalogue.{Catalogue}
 use Rattle.esto_certify.specs.Explain.{certifies_item, explain_course, explains_plan, explains_query, explains_read}
@@ -9,7 +9,7 @@ use Rattle.esto_opening.specs.Opening.{opens_catalogue, opens_query}
 use Rattle.esto_opening.specs.declared.reply.Reply.TheVariants.{Done}
 use Rattle.esto_opening.specs.declared.status.Status.{Status}
 use Rattle.esto_planning.specs.Choice.{HasNoPlace, IsPlace}
-use Rattle.esto_planning.specs.Laws.{ItemIsListed, PlaceIsWithin}
+use Rattle.esto_planning.specs.Laws.{PlaceIsWithin}
 use Rattle.esto_planning.specs.Listing.{IsListOf, IsPlanned}
 use Rattle.esto_planning.specs.Planning.{chooses, plans_query}
 use Rattle.esto_ports.specs.Files.{Files}
@@ -18,39 +18,41 @@ use Rattle.esto_term.proofs.ListLemmas.{thing_at}
 use Rattle.esto_views.specs.declared.plan.Plan.{Plan}
 use Rattle.esto_outcome_laws.specs.Ends.{Ends, EndsOrLacks}
 use Rattle.esto_outcome_laws.specs.Laws.{BelowLaws, ReadingLaws}
-use Rattle.esto_outcome_laws.specs.Steps.{FilesHaveCertificates, HaveCertificates}
+use Rattle.esto_outcome_laws.specs.Steps.{FilesHaveCertificate, HasCertificate}
 use Rattle.esto_outcome_laws.proofs.CourseLemmas.{ends_judged, ends_then, gives_ends, judges_accepted, judges_accepts}
 use Rattle.esto_outcome_laws.proofs.OpeningLemmas.{catalogue_opens, query_opens}
 use Rattle.esto_outcome_laws.proofs.RunLemmas.{chooses_ends, items_exist, plan_of, plans_ends}
 
-module _ (laws : BelowLaws) (place_is : PlaceIsWithin) (item_is : ItemIsListed) (catalogue : Catalogue) (query : Query)
-    (have : HaveCertificates catalogue query) where
-  plan_ends : {lack : Type 0} (number : ℕ) (plan : Plan) → IsPlanned catalogue query plan → Ends lack (explains_plan catalogue query number plan)
-  plan_ends number plan planned =
+module _ (laws : BelowLaws) (place_is : PlaceIsWithin) (catalogue : Catalogue) (query : Query) (number : ℕ)
+    (has : HasCertificate catalogue query number) where
+  plan_ends : {lack : Type 0} (plan : Plan) → IsPlanned catalogue query plan → Ends lack (explains_plan catalogue query number plan)
+  plan_ends plan planned =
       ends_judged (IsListOf catalogue query plan) (λ _. ⊥) (λ items. and_then (chooses items (Some number)) (after items))
       (items_exist laws catalogue query plan planned) (λ items list.
       ends_then (chooses items (Some number)) (after items) (chooses_ends laws.lists.picks items (Some number)) (λ place goes.
       ends_judged (λ item. slice_get items place ≡ Some item) (λ _. ⊥) (certifies_item catalogue query plan)
-      (thing_at items place (place_is items (Some number) place
-      (judges_accepted (IsPlace items (Some number)) (HasNoPlace items (Some number)) place goes)))
+      (thing_at items place (place_is items (Some number) place (placed items place goes)))
       (λ item at.
-      let text = have plan item planned (item_is catalogue query plan items place item list at) in
+      let text = has plan items place item planned list (placed items place goes) at in
       judges_accepts (λ it. HasVerdict catalogue query plan item.set it None) (λ _. ⊥) text.0 text.1)))
     where
       after : List Listed → ℕ → Course Status (List ℕ)
       after items place = and_then (judges (λ item. slice_get items place ≡ Some item) (λ _. ⊥)) (certifies_item catalogue query plan)
 
-  query_ends : {lack : Type 0} (number : ℕ) → Ends lack (explains_query number catalogue query)
-  query_ends number =
-      ends_then (plans_query catalogue query) (λ plan. explains_plan catalogue query number plan) (plans_ends laws catalogue query)
-      (λ plan goes. plan_ends number plan (plan_of laws catalogue query plan goes))
+      placed : (items : List Listed) (place : ℕ) → (chooses items (Some number)).goes place → IsPlace items (Some number) place
+      placed items place goes = judges_accepted (IsPlace items (Some number)) (HasNoPlace items (Some number)) place goes
 
-pub explain_ends : ReadingLaws → BelowLaws → PlaceIsWithin → ItemIsListed → (files : Files) (catalogue_name query_name : List ℕ) (number : ℕ)
-    → FilesHaveCertificates files catalogue_name query_name → EndsOrLacks (explain_course (Some files) catalogue_name query_name number)
-explain_ends readings laws place_is item_is files catalogue_name query_name number have =
+  query_ends : {lack : Type 0} → Ends lack (explains_query number catalogue query)
+  query_ends =
+      ends_then (plans_query catalogue query) (λ plan. explains_plan catalogue query number plan) (plans_ends laws catalogue query)
+      (λ plan goes. plan_ends plan (plan_of laws catalogue query plan goes))
+
+pub explain_ends : ReadingLaws → BelowLaws → PlaceIsWithin → (files : Files) (catalogue_name query_name : List ℕ) (number : ℕ)
+    → FilesHaveCertificate files catalogue_name query_name number → EndsOrLacks (explain_course (Some files) catalogue_name query_name number)
+explain_ends readings laws place_is files catalogue_name query_name number has =
     ends_then (opens_catalogue (Some files) catalogue_name) (explains_read (Some files) query_name number) (catalogue_opens readings files catalogue_name)
     (λ catalogue says.
     ends_then (opens_query (Some files) query_name catalogue) (λ query. and_then (explains_query number catalogue query) (λ text. gives (Done text)))
     (query_opens readings files query_name catalogue) (λ query says_query.
     ends_then (explains_query number catalogue query) (λ text. gives (Done text))
-    (query_ends laws place_is item_is catalogue query (have catalogue query says says_query) number) (λ text _. gives_ends (Done text))))
+    (query_ends laws place_is catalogue query number (has catalogue query says says_query)) (λ text _. gives_ends (Done text))))

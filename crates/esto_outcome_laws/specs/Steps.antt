@@ -1,5 +1,5 @@
 -- That each step of the commands comes to an end, or asks for a file that is not there.
-use Rattle.std.specs.Prelude.{◌≢◌, ℕ, ◌<◌, Bool, List, [], Option, None, Some}
+use Rattle.std.specs.Prelude.{◌≡◌, ◌≢◌, ℕ, ◌<◌, Bool, List, [], slice_get, Option, None, Some}
 use Rattle.esto_bench.specs.Summary.{IsSummaryOfCase}
 use Rattle.esto_bench.specs.declared.summary.Summary.{Summary}
 use Rattle.esto_catalog.specs.declared.catalogue.Catalogue.{Catalogue}
@@ -13,7 +13,7 @@ use Rattle.esto_disjuncts.specs.Run.{runs_union}
 use Rattle.esto_list.specs.declared.listing.Listed.{Listed}
 use Rattle.esto_opening.specs.Fragments.{opens_fragments}
 use Rattle.esto_opening.specs.Opening.{opens_catalogue, opens_query, opens_union}
-use Rattle.esto_planning.specs.Choice.{IsItemOf}
+use Rattle.esto_planning.specs.Choice.{IsItemOf, IsPlace}
 use Rattle.esto_planning.specs.Listing.{IsListOf, IsListing, IsPlanned}
 use Rattle.esto_planning.specs.Planning.{chooses, ends_query, plans_query}
 use Rattle.esto_ports.specs.Files.{Files}
@@ -130,22 +130,22 @@ abbrev pub VerificationsEnd : Type 0
 VerificationsEnd =
     (files : Files) (catalogue_name query_name numbers file : List ℕ) → EndsOrLacks (verify_course (Some files) catalogue_name query_name numbers file)
 
--- Each listed set of each printed plan of the query has a certificate that is accepted.
-abbrev pub HaveCertificates : Catalogue → Query → Type 0
-HaveCertificates catalogue query =
-    (plan : Plan) (item : Listed) → IsPlanned catalogue query plan → IsItemOf catalogue query plan item
-    → (text : List ℕ) × HasVerdict catalogue query plan item.set text None
+-- The set that has the number in the list of a printed plan of the query has a certificate that is accepted; there may be none of the number.
+abbrev pub HasCertificate : Catalogue → Query → ℕ → Type 0
+HasCertificate catalogue query number =
+    (plan : Plan) (items : List Listed) (place : ℕ) (item : Listed) → IsPlanned catalogue query plan → IsListOf catalogue query plan items
+    → IsPlace items (Some number) place → slice_get items place ≡ Some item → (text : List ℕ) × HasVerdict catalogue query plan item.set text None
 
 -- So it is of each query over each catalogue that the files of these names say.
-abbrev pub FilesHaveCertificates : Files → List ℕ → List ℕ → Type 0
-FilesHaveCertificates files catalogue_name query_name =
+abbrev pub FilesHaveCertificate : Files → List ℕ → List ℕ → ℕ → Type 0
+FilesHaveCertificate files catalogue_name query_name number =
     (catalogue : Catalogue) (query : Query) → (opens_catalogue (Some files) catalogue_name).goes catalogue
-    → (opens_query (Some files) query_name catalogue).goes query → HaveCertificates catalogue query
+    → (opens_query (Some files) query_name catalogue).goes query → HasCertificate catalogue query number
 
--- So does `explain`, where listed sets have certificates. That each has one is not said: the lines of a certificate are numbered within 64 bits.
+-- So does `explain`, where the set of the number has a certificate. That each has one is not said: the lines of a certificate are numbered within 64 bits.
 abbrev pub ExplanationsEnd : Type 0
 ExplanationsEnd =
-    (files : Files) (catalogue_name query_name : List ℕ) (number : ℕ) → FilesHaveCertificates files catalogue_name query_name
+    (files : Files) (catalogue_name query_name : List ℕ) (number : ℕ) → FilesHaveCertificate files catalogue_name query_name number
     → EndsOrLacks (explain_course (Some files) catalogue_name query_name number)
 
 -- The made case of each size above 0 has a summary.

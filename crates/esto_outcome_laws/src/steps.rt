@@ -58,7 +58,7 @@ pub fn unions_are_listed_and_run()
 }
 
 /// A law: over whatever files, `answer`, `fill`, `audit`, `contains`, `minimise` and `verify` come to an end, or ask for a file
-/// that is not there. So does `explain` where the listed sets of the query have certificates that are accepted.
+/// that is not there. So does `explain` where the set of the number, if one has it, has a certificate that is accepted.
 pub fn commands_come_to_an_end()
     ensures answer { AnswersEnd }
     ensures fill { FillsEnd }

@@ -8,7 +8,7 @@ use Rattle.esto_ports.specs.Files.{Files}
 use Rattle.esto_opening.specs.Asked.{Fetches}
 use Rattle.esto_opening.specs.declared.status.Status.{Status}
 use Rattle.esto_opening.specs.declared.status.Status.TheVariants as status
-use Rattle.esto_outcome_laws.specs.Steps.{FilesHaveCertificates}
+use Rattle.esto_outcome_laws.specs.Steps.{FilesHaveCertificate}
 use Rattle.esto_top.specs.Grammar.{Request, course_of, request_of}
 use Rattle.esto_top.specs.Grammar.Request.{ExplainFor}
 use Rattle.esto_top.specs.Outcome.{Outcome}
@@ -29,9 +29,9 @@ AreAmong files names = (name : List ℕ) → Contains names name → (file : Lis
 abbrev pub HaveFetched : List (List ℕ) → Files → Type 0
 HaveFetched words files = (names : Names) → Fetches (course_of words (Some files)) names → AreAmong files names
 
--- Where a certificate is asked for, each listed set of the query that the files say has one that is accepted.
+-- Where a certificate is asked for, the set that has the number, of the query that the files say, has one that is accepted; no set need have the number.
 abbrev pub IsCovered : Files → Option Request → Type 0
-IsCovered files (Some (ExplainFor catalogue query number)) = FilesHaveCertificates files catalogue query
+IsCovered files (Some (ExplainFor catalogue query number)) = FilesHaveCertificate files catalogue query number
 IsCovered files _ = Unit {0}
 
 -- So it is of what the words ask for; of most words nothing is asked.
@@ -40,13 +40,13 @@ AreCovered words files = IsCovered files (request_of words)
 
 -- ---- laws
 
--- Whatever the words are, they have an outcome over whatever files, or they ask for a file that is not there; where they ask for a certificate, if each listed
--- set of the query has one that is accepted.
+-- Whatever the words are, they have an outcome over whatever files, or they ask for a file that is not there; where they ask for a certificate, if the set
+-- of the number has one that is accepted.
 abbrev pub OutcomesExist : Type 0
 OutcomesExist = (words : List (List ℕ)) (files : Files) → AreCovered words files → HasOutcome words files ⊎ LacksFile words files
 
--- Whatever the words are, they fetch some sequence of names over whatever files; where they ask for a certificate, if each listed set of the query has one that
--- is accepted.
+-- Whatever the words are, they fetch some sequence of names over whatever files; where they ask for a certificate, if the set of the number has one that is
+-- accepted.
 abbrev pub FetchesExist : Type 0
 FetchesExist = (words : List (List ℕ)) (files : Files) → AreCovered words files → (names : Names) × Fetches (course_of words (Some files)) names
 
@@ -60,8 +60,8 @@ OutcomesHaveFiles =
 abbrev pub OutcomesLackNone : Type 0
 OutcomesLackNone = (words : List (List ℕ)) (files : Files) → HasOutcome words files → LacksFile words files → ⊥
 
--- Whatever the words are, they have an outcome exactly where each file that they fetch is there; where they ask for a certificate, if each listed set of the
--- query has one that is accepted.
+-- Whatever the words are, they have an outcome exactly where each file that they fetch is there; where they ask for a certificate, if the set of the number
+-- has one that is accepted.
 abbrev pub OutcomesAreWhereFilesAre : Type 0
 OutcomesAreWhereFilesAre = (words : List (List ℕ)) (files : Files) → AreCovered words files → HasOutcome words files ↔ HaveFetched words files
 
@@ -74,7 +74,7 @@ IsTheOutcome words files old new result =
     × (((result ≡ said) × Appends old new text) ⊎ ((result ≡ status.OutOfMemory) × Keeps old new))
 
 -- Where the shelf tells its files, each that the words fetch is there, and neither count rose, there is an outcome, and it is what was answered, or memory was
--- refused; where the words ask for a certificate, if each listed set of the query has one that is accepted.
+-- refused; where the words ask for a certificate, if the set of the number has one that is accepted.
 abbrev pub AnsweredWhereTold : List (List ℕ) → Option Files → Type 0 → Type 0 → Option (List ℕ) → Option (List ℕ) → Status → Type 0
 AnsweredWhereTold words None rose sink_rose old new result = Unit {0}
 AnsweredWhereTold words (Some files) rose sink_rose old new result =

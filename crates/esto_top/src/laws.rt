@@ -160,8 +160,9 @@ fn steps_hold()
     cases_have_summaries();
 }
 
-/// A law: whatever the words are, also those outside the grammar, they have an outcome over whatever files, or they ask for a
-/// file that is not there. Of `explain` this is said where the listed sets of the query have certificates that are accepted.
+/// A law: whatever the words are, also those outside the grammar, they have an outcome over whatever files, or they ask
+/// for a file that is not there. Of `explain` this is said where the set of the number, if one has it, has a certificate
+/// that is accepted.
 pub fn outcomes_exist()
     ensures { OutcomesExist }
 {
@@ -169,8 +170,9 @@ pub fn outcomes_exist()
 }
 
 /// A law: whatever the words are, they fetch a sequence of names. Each file that they fetch is there where they have an
-/// outcome, so that they have none where they ask for a file that is not there. They have one exactly where each is there.
-/// Of `explain` the first and the last are said where the listed sets of the query have certificates that are accepted.
+/// outcome, so that they have none where they ask for a file that is not there. They have one exactly where each is
+/// there. Of `explain` the first and the last are said where the set of the number, if one has it, has a certificate that
+/// is accepted.
 pub fn outcomes_are_where_files_are()
     ensures fetches { FetchesExist }
     ensures files { OutcomesHaveFiles }
