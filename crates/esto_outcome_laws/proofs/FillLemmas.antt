@@ -1,6 +1,6 @@
 -- The course of `fill` comes to an end, where it is not asked what the text says when it is read.
-use Rattle.std.proofs.Common.{◌≡◌, ◌↔◌, ◌≢◌, ◌⊎◌, inl, inr, ℕ, zero, suc, ◌<◌, Bool, true, false, cond, List, [], ◌∷◌, length, Some, None, Option, slice_get}
-use Rattle.std.proofs.Common.{Contains, Ok, Err, nat_lt, refl, sym, ◌∙◌, subst, arith}
+use Rattle.std.proofs.Common.{◌≡◌, ◌↔◌, ◌⊎◌, inl, inr, ℕ, zero, suc, ◌<◌, Bool, true, false, cond, List, [], ◌∷◌, length, Some, None, Option, slice_get}
+use Rattle.std.proofs.Common.{Contains, Err, nat_lt, refl, subst, arith}
 use Rattle.std.specs.List.{position_or_len}
 use Rattle.std.specs.Prelude.{All}
 use Rattle.std.proofs.lemmas.Bool.{ltb-true}
@@ -10,9 +10,9 @@ use Rattle.esto_catalog.specs.declared.catalogue.Catalogue.{Catalogue}
 use Rattle.esto_catalog.specs.declared.catalogue.Shape.{Shape}
 use Rattle.esto_catalog.specs.declared.catalogue.Shape.TheVariants.{Table, Documents, Keys}
 use Rattle.std.specs.List.{list_any}
-use Rattle.esto_course.specs.Course.{Course, and_then, gives, judges}
+use Rattle.esto_course.specs.Course.{Course, and_then, gives}
 use Rattle.esto_data.specs.Datasets.{Names, loads}
-use Rattle.esto_data.specs.Fill.{IsFirstOf, IsMade, IsRowOfView, fill_status, finds_fragment, gives_file, gives_fragment, gives_named, make_course, names_of}
+use Rattle.esto_data.specs.Fill.{IsFirstOf, IsMade, fill_status, gives_file, gives_fragment, gives_named, make_course, names_of}
 use Rattle.esto_fill.specs.Databases.{database_of}
 use Rattle.esto_fill.specs.Filled.{CanHold, Fills, IsFirstUnfit, text_in, with_mark}
 use Rattle.esto_fill.specs.Texts.{AreTextsOf, HaveTextsOnly, IsFirstNodeColumn}
@@ -38,7 +38,7 @@ use Rattle.esto_reading_laws.proofs.DecisionLemmas.{same_bytes}
 use Rattle.esto_reading_laws.proofs.HeadLemmas.{first_at}
 use Rattle.esto_outcome_laws.specs.Ends.{Ends, EndsOrLacks}
 use Rattle.esto_outcome_laws.specs.Laws.{BelowLaws, ReadingLaws}
-use Rattle.esto_outcome_laws.proofs.CourseLemmas.{ends_judged, ends_refused, ends_then, gives_ends, judges_accepts, judges_accepted, judges_refuses}
+use Rattle.esto_outcome_laws.proofs.CourseLemmas.{ends_judged, ends_refused, ends_then, gives_ends, judges_accepts, judges_refuses}
 use Rattle.esto_outcome_laws.proofs.DataLemmas.{decided_names, loads_end}
 use Rattle.esto_outcome_laws.proofs.OpeningLemmas.{catalogue_opens}
 use Rattle.esto_outcome_laws.proofs.TextLemmas.{database_answers, texts_listed, texts_or_node}
