@@ -34,8 +34,8 @@ use Rattle.esto_views.specs.Plans.{plan_query}
 use Rattle.esto_views.specs.declared.plan.Plan.{Plan}
 use Rattle.esto_outcome_laws.specs.Ends.{EndsOrLacks}
 use Rattle.esto_outcome_laws.specs.Ends.Ends.{goes, stops, lacks}
-use Rattle.esto_outcome_laws.proofs.CourseLemmas.{ends_by, ends_judged, ends_more, ends_refused, ends_then, gives_ends, judges_accepted, judges_accepts, judges_goes}
-use Rattle.esto_outcome_laws.proofs.CourseLemmas.{refuses_ends}
+use Rattle.esto_outcome_laws.proofs.CourseLemmas.{ends_by, ends_judged, ends_more, ends_refused, ends_then, gives_ends, judges_accepted, judges_accepts}
+use Rattle.esto_outcome_laws.proofs.CourseLemmas.{judges_goes, refuses_ends}
 use Rattle.esto_top.specs.Bench.{bench_course}
 use Rattle.esto_top.specs.Check.{check_course, check_text, prints_check}
 use Rattle.esto_top.specs.Existing.{HasOutcome, IsCovered, LacksFile, OutcomesExist}
@@ -140,7 +140,8 @@ module _ (laws : StepLaws) where
         item_ends item is =
             ends_judged (AreUsed (plan_query plan).body item.set) (λ _. ⊥) (λ numbers. and_then (opens_fragments (Some files) catalogue numbers) after)
             (laws.fragments plan item.set) (λ numbers are.
-            ends_then (opens_fragments (Some files) catalogue numbers) after (laws.opened files catalogue query plan item numbers planned is are) (λ contents goes.
+            ends_then (opens_fragments (Some files) catalogue numbers) after (laws.opened files catalogue query plan item numbers planned is are)
+            (λ contents goes.
             ends_judged (IsRunText catalogue query plan item.set contents) (λ _. ⊥) (λ text. gives (Done text))
             (laws.rows files catalogue query plan item numbers planned is are contents goes) (λ text _. gives_ends (Done text))))
           where
@@ -161,7 +162,8 @@ module _ (laws : StepLaws) where
 
       run_ends : (number : Option ℕ) → EndsOrLacks (runs_query (Some files) catalogue query number)
       run_ends number =
-          ends_then (ends_query catalogue query) (runs_end (Some files) catalogue query number) (ends_more (ends_query catalogue query) (laws.ends catalogue query))
+          ends_then (ends_query catalogue query) (runs_end (Some files) catalogue query number)
+          (ends_more (ends_query catalogue query) (laws.ends catalogue query))
           (λ end goes. by end (judges_accepted (λ it. MatchEither it (IsPlanned catalogue query) (IsClash catalogue query)) (λ _. ⊥) end goes))
         where
           by : (end : Either Plan Clash) → MatchEither end (IsPlanned catalogue query) (IsClash catalogue query)

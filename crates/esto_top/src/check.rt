@@ -2,7 +2,8 @@
 ghost use Rattle.std.specs.Prelude.{◌≡◌, ◌≤◌, ◌++◌, length, IfOk, OnOk};
 ghost use Rattle.esto_ports.specs.Faults.{Rises};
 ghost use Rattle.esto_query.specs.Schemas.{names_of};
-ghost use Rattle.esto_top.specs.Check.{count_lines, rank_line, rank_lines, check_text, prints_check, check_course};
+ghost use Rattle.esto_top.specs.Check.{count_lines, rank_line, rank_lines, check_text};
+ghost use Rattle.esto_top.specs.Check.{prints_check, check_course};
 ghost use Rattle.esto_opening.specs.Answers.{Answers};
 ghost use Rattle.esto_opening.specs.Asked.{AsksIn};
 

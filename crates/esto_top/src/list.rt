@@ -4,7 +4,8 @@ ghost use Rattle.esto_ports.specs.Faults.{Rises};
 ghost use Rattle.esto_opening.specs.Answers.{Answers};
 ghost use Rattle.esto_opening.specs.Asked.{AsksIn};
 ghost use Rattle.esto_opening.specs.Unions.{FormUnion};
-ghost use Rattle.esto_top.specs.List.{prints_list, lists_query, lists_queries, lists_read, list_course};
+ghost use Rattle.esto_top.specs.List.{prints_list, lists_query, lists_queries};
+ghost use Rattle.esto_top.specs.List.{lists_read, list_course};
 ghost use Rattle.esto_planning.specs.Listing.{IsListing, IsPlanned};
 
 use esto_catalog::Catalogue;

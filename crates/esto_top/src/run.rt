@@ -4,7 +4,8 @@ ghost use Rattle.esto_ports.specs.Faults.{Rises};
 ghost use Rattle.esto_opening.specs.Answers.{Answers};
 ghost use Rattle.esto_opening.specs.Asked.{AsksIn};
 ghost use Rattle.esto_opening.specs.Unions.{FormUnion};
-ghost use Rattle.esto_top.specs.Run.{has_no_answers, runs_item, runs_plan, runs_query, runs_queries, runs_read, run_course};
+ghost use Rattle.esto_top.specs.Run.{has_no_answers, runs_item, runs_plan, runs_query};
+ghost use Rattle.esto_top.specs.Run.{runs_queries, runs_read, run_course};
 ghost use Rattle.esto_planning.specs.Choice.{IsItemOf};
 ghost use Rattle.esto_planning.specs.Listing.{IsPlanned};
 
