@@ -8,6 +8,7 @@ use Rattle.esto_fill.specs.Filled.{Fills, IsOpenedAs, without_mark}
 use Rattle.esto_fill.specs.Laws.{AnswersRestOnWantedFacts}
 use Rattle.esto_fill.specs.Texts.{AreTextsOf, IsFirstNodeColumn}
 use Rattle.esto_fill.specs.Wanted.{Leaves}
+use Rattle.esto_fill.proofs.WantedLemmas.{has_asked}
 use Rattle.esto_fill.specs.declared.filled.FillError.{FillError}
 use Rattle.esto_fill.specs.declared.filled.FillError.TheVariants as filled
 use Rattle.esto_fill.specs.declared.loaded.Loaded.{Loaded}
@@ -96,7 +97,8 @@ module _ (law : AnswersRestOnWantedFacts) (queries : List Query) (facts some : L
       by query inside =
           let from = Contains-map_from query_of queries query inside in
           subst (λ (it : ConjunctiveQuery). IsAnswer it (database_of some) values ↔ IsAnswer it (database_of facts) values) from.2
-          (law (map (λ its. (query_of its).body) queries) facts some (query_of from.0) values leaves
+          (law (map (λ its. (query_of its).body) queries) facts some (query_of from.0) values
+          (has_asked (map (λ its. (query_of its).body) queries) facts some leaves)
           (Contains-map (λ its. (query_of its).body) queries from.0 from.1))
 
   pub answers_all : (result : Result Reply Status) → Answers (answers_facts queries some) ⊥ result
@@ -116,7 +118,8 @@ module _ (law : AnswersRestOnWantedFacts) (stored : Stored) (facts some : List (
     (leaves : Leaves (Asked ((query_of stored.definition.view).body ∷ [])) facts some) where
   view_same : (values : List Value) → IsRowOfView stored.definition some values ↔ IsRowOfView stored.definition facts values
   view_same values =
-      law ((query_of stored.definition.view).body ∷ []) facts some (query_of stored.definition.view) values leaves
+      law ((query_of stored.definition.view).body ∷ []) facts some (query_of stored.definition.view) values
+      (has_asked ((query_of stored.definition.view).body ∷ []) facts some leaves)
       (Contains-head (query_of stored.definition.view).body [])
 
   pub fills_all : (result : Result (List ℕ) Status) → Answers (fills_file stored some) ⊥ result

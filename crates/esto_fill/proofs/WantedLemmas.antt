@@ -1,16 +1,16 @@
 -- Facts that are wanted, and the answers of a query over them.
-use Rattle.std.proofs.Common.{◌≡◌, ◌⊎◌, inl, inr, ◌==◌, ℕ, ◌+◌, Bool, true, false, filter, List, [], ◌∷◌, ◌++◌, map, take, length, get_or, Some, slice_get}
-use Rattle.std.proofs.Common.{Contains, refl, sym, ap, ◌∙◌, subst, arith}
+use Rattle.std.proofs.Common.{◌≡◌, ◌⊎◌, inl, inr, ◌==◌, ℕ, ◌+◌, Bool, true, false, cond, filter, List, [], ◌∷◌, ◌++◌, map, take, length}
+use Rattle.std.proofs.Common.{get_or, Some, slice_get, Contains, refl, sym, ap, ◌∙◌, subst, arith}
 use Rattle.std.proofs.lemmas.Bool.{false≢true, or_left, or_right}
 use Rattle.std.proofs.lemmas.Bool.Decides.{nat_tests}
-use Rattle.std.proofs.lemmas.List.Elements.{Contains-append_cases, Contains-append_left, Contains-append_right}
+use Rattle.std.proofs.lemmas.List.Elements.{Contains-append_right}
 use Rattle.std.proofs.lemmas.Option.{same_Some}
 use Rattle.std.proofs.lemmas.Slice.Eq.{bytes_eq-Decides}
 use Rattle.std.specs.List.{list_any}
 use Rattle.std.specs.Prelude.{◌||◌, ◌<◌, ◌≤◌}
 use Rattle.std.specs.Str.{bytes_eq}
-use Rattle.esto_docmodel.specs.DocumentFacts.{DocFact, root, field, item, value, below, flat}
-use Rattle.esto_docmodel.specs.Encodings.{has_term, has_text, is_kept, kept}
+use Rattle.esto_docmodel.specs.DocumentFacts.{DocFact, root, field, item, value, below, flat, kind}
+use Rattle.esto_docmodel.specs.Encodings.{has_term, has_text, is_among_kind, is_kept, kept}
 use Rattle.esto_docmodel.specs.declared.kept.Kept.{Kept}
 use Rattle.esto_docmodel.specs.declared.kept.KeptTexts.{KeptTexts}
 use Rattle.esto_docmodel.specs.declared.kept.KeptTexts.TheVariants.{Every as EveryText, These}
@@ -19,14 +19,16 @@ use Rattle.esto_semantics.specs.Facts.{image}
 use Rattle.esto_semantics.specs.Maps.{AreFlat}
 use Rattle.esto_semantics.specs.declared.fact.Fact.{Fact}
 use Rattle.esto_semantics.specs.declared.fact.Value.{Value}
-use Rattle.esto_term.specs.declared.term.Term.{Term}
+use Rattle.esto_term.specs.declared.term.Term.{Term, out-Term}
+use Rattle.esto_term.specs.declared.term.Term.TheOpen.{Term-F}
 use Rattle.esto_term.specs.declared.term.Term.TheVariants.{Const}
-use Rattle.esto_term.proofs.ListLemmas.{Contains-cases, Contains-filter, Contains-filter_from, Contains-head, Contains-map, Contains-map_from}
-use Rattle.esto_term.proofs.ListLemmas.{Contains-nil, Contains-one}
+use Rattle.esto_term.proofs.ListLemmas.{Contains-cases, Contains-head, Contains-map, Contains-map_from}
+use Rattle.esto_term.proofs.ListLemmas.{Contains-nil, Contains-one, Contains-rest}
 use Rattle.esto_term.proofs.ListLemmas.{each_more, each_seen, map_at}
 use Rattle.esto_fill.specs.Databases.{database_of, value_of}
 use Rattle.esto_fill.specs.Laws.{AnswersRestOnWantedFacts}
-use Rattle.esto_fill.specs.Wanted.{Admits, AdmitsAll, AdmitsMore, Grow, IsAsked, IsKeptFor, IsThere, IsWanted, Leaves, MeetsWant, is_wanted, names}
+use Rattle.esto_fill.specs.Wanted.{Admits, AdmitsAll, AdmitsMore, Grow, HasAsked, IsAsked, IsKeptFor, IsThere, IsWanted, Leaves, LeavesAsked, MeetsWant}
+use Rattle.esto_fill.specs.Wanted.{is_wanted, names}
 use Rattle.esto_fill.specs.declared.wanted.Wanted.{Wanted}
 use Rattle.esto_fill.specs.declared.wanted.Wanted.TheVariants.{Every, Asked}
 use Rattle.esto_fill.proofs.ValueLemmas.{text_constant}
@@ -154,7 +156,39 @@ second_asked bodies relation texts all fact same term second (body, atom, m, ins
 second_wanted : (wanted : Wanted) (relation : ℕ) (texts : KeptTexts) → MeetsWant wanted relation texts → (fact : Fact Term) → fact.relation ≡ relation
     → (term : Term) → slice_get fact.terms 1 ≡ Some term → IsWanted wanted fact → has_term texts term ≡ true
 second_wanted Every relation texts any fact same term second want = ap (λ it. has_term it term) any
-second_wanted (Asked bodies) relation texts all fact same term second want = second_asked bodies relation texts all fact same term second want
+second_wanted (Asked bodies) relation texts all fact same term second want = second_asked bodies relation texts all.0 fact same term second want
+
+-- of no texts there is none
+none_among : (kind : Term-F Term) → is_among_kind [] kind ≡ false
+none_among (Term-F.Const text) = refl
+none_among (Term-F.Plain n) = refl
+none_among (Term-F.Made one two three) = refl
+
+-- no texts meet what is wanted of a relation that no atom has
+pub none_wanted : (bodies : List (List (Fact Term))) (relation : ℕ) → is_wanted (Asked bodies) relation ≡ false
+    → MeetsWant (Asked bodies) relation (These [])
+none_wanted bodies relation told = (
+  (λ body atom inside in_body same.
+      let one : (atom.relation == relation) ≡ true = grind (arith, nat_tests, same) in
+      absurd (false≢true (sym told
+      ∙ there (names relation) bodies body inside (there (λ (it : Fact Term). it.relation == relation) body atom in_body one)))),
+  λ _. refl,
+)
+
+-- and where an atom has it, those at the second place do
+pub some_wanted : (bodies : List (List (Fact Term))) (relation : ℕ) → is_wanted (Asked bodies) relation ≡ true
+    → (texts : KeptTexts) → AdmitsAll relation bodies texts → MeetsWant (Asked bodies) relation texts
+some_wanted bodies relation told texts all = (all, λ none. absurd (false≢true (sym none ∙ told)))
+
+-- where a text is kept, its relation is wanted
+text_wanted : (wanted : Wanted) (relation : ℕ) (texts : KeptTexts) → MeetsWant wanted relation texts → (term : Term) → has_term texts term ≡ true
+    → is_wanted wanted relation ≡ true
+text_wanted Every relation texts any term kept = refl
+text_wanted (Asked bodies) relation texts all term kept = by (is_wanted (Asked bodies) relation) refl
+  where
+    by : (answer : Bool) → is_wanted (Asked bodies) relation ≡ answer → answer ≡ true
+    by true is = refl
+    by false is = absurd (false≢true (sym (none_among (out-Term term)) ∙ ap (λ it. has_term it term) (sym (all.1 is)) ∙ kept))
 
 -- ---- facts of documents
 
@@ -162,7 +196,7 @@ second_wanted (Asked bodies) relation texts all fact same term second want = sec
 pub kept_each : (wanted : Wanted) (base : ℕ) (relations : Kept) → relations.base ≡ base → relations.root ≡ is_wanted wanted base
     → MeetsWant wanted (base + 1) relations.field → relations.item ≡ is_wanted wanted (base + 2) → MeetsWant wanted (base + 3) relations.value
     → relations.below ≡ is_wanted wanted (base + 4) → IsKeptFor wanted base relations
-kept_each wanted base relations same roots fields items values belows = record { from_base = same; each = by }
+kept_each wanted base relations same roots fields items values belows = record { from_base = same; each = by; others = of_wanted }
   where
     by : (fact : DocFact Term) → IsWanted wanted (flat base fact) → is_kept relations fact ≡ true
     by (root n) want = roots ∙ ap (is_wanted wanted) (omega arith) ∙ wanted_relation wanted (flat base (root n)) want
@@ -171,79 +205,126 @@ kept_each wanted base relations same roots fields items values belows = record {
     by (value n text) want = second_wanted wanted (base + 3) relations.value values (flat base (value n text)) refl text refl want
     by (below a n) want = belows ∙ wanted_relation wanted (flat base (below a n)) want
 
+    of_wanted : (fact : DocFact Term) → is_kept relations fact ≡ true → is_wanted wanted (base + kind fact) ≡ true
+    of_wanted (root n) kept = ap (is_wanted wanted) (omega arith) ∙ sym roots ∙ kept
+    of_wanted (field p k n) kept = text_wanted wanted (base + 1) relations.field fields k kept
+    of_wanted (item p n) kept = sym items ∙ kept
+    of_wanted (value n text) kept = text_wanted wanted (base + 3) relations.value values text kept
+    of_wanted (below a n) kept = sym belows ∙ kept
+
+kept_asked : (bodies : List (List (Fact Term))) (base : ℕ) (relations : Kept) → IsKeptFor (Asked bodies) base relations → (facts : List (DocFact Term))
+    → LeavesAsked bodies (map (flat base) facts) (kept relations facts)
+kept_asked bodies base relations are [] = refl
+kept_asked bodies base relations are (fact ∷ facts) = by (is_kept relations fact) refl (kept_asked bodies base relations are facts)
+  where
+    by : (answer : Bool) → is_kept relations fact ≡ answer → LeavesAsked bodies (map (flat base) facts) (kept relations facts)
+        → LeavesAsked bodies (flat base fact ∷ map (flat base) facts)
+        (map (flat relations.base) (cond answer (fact ∷ filter (is_kept relations) facts) (filter (is_kept relations) facts)))
+    by true told before =
+        (kept relations facts, before, inl (ap (λ n. flat n fact ∷ kept relations facts) are.from_base, are.others fact told))
+    by false told before = (kept relations facts, before, inr (refl, λ asked. false≢true (sym told ∙ are.each fact asked)))
+
 pub kept_leaves : (wanted : Wanted) (base : ℕ) (relations : Kept) → IsKeptFor wanted base relations → (facts : List (DocFact Term))
     → Leaves wanted (map (flat base) facts) (kept relations facts)
 kept_leaves Every base relations are facts =
     all_kept relations (λ fact. are.each fact tt) facts ∙ ap (λ (n : ℕ). map (flat n) facts) are.from_base
-kept_leaves (Asked bodies) base relations are facts = (
-  (λ fact inside.
-      let from = Contains-map_from (flat relations.base) (filter (is_kept relations) facts) fact inside in
-      subst (Contains (map (flat base) facts)) (ap (λ n. flat n from.0) (sym are.from_base) ∙ from.2)
-      (Contains-map (flat base) facts from.0 (Contains-filter_from (is_kept relations) facts from.0 from.1).0)),
-  (λ fact inside asked.
-      let from = Contains-map_from (flat base) facts fact inside in
-      subst (Contains (kept relations facts)) (ap (λ n. flat n from.0) are.from_base ∙ from.2)
-      (Contains-map (flat relations.base) (filter (is_kept relations) facts) from.0
-      (Contains-filter (is_kept relations) facts from.0 from.1 (are.each from.0 (subst (IsAsked bodies) (sym from.2) asked))))),
-)
+kept_leaves (Asked bodies) base relations are facts = kept_asked bodies base relations are facts
 
 -- ---- facts of one relation
 
 abbrev pub AreOver : ℕ → List (Fact Term) → Type 0
 AreOver relation facts = (fact : Fact Term) → Contains facts fact → fact.relation ≡ relation
 
+module _ (bodies : List (List (Fact Term))) (relation : ℕ) where
+  all_left : is_wanted (Asked bodies) relation ≡ true → (facts : List (Fact Term)) → AreOver relation facts → LeavesAsked bodies facts facts
+  all_left told [] over = refl
+  all_left told (fact ∷ facts) over = (
+    facts,
+    all_left told facts (λ it inside. over it (Contains-rest fact facts it inside)),
+    inl (refl, ap (is_wanted (Asked bodies)) (over fact (Contains-head fact facts)) ∙ told),
+  )
+
+  none_left : is_wanted (Asked bodies) relation ≡ false → (facts : List (Fact Term)) → AreOver relation facts → LeavesAsked bodies facts []
+  none_left told [] over = refl
+  none_left told (fact ∷ facts) over = (
+    [],
+    none_left told facts (λ it inside. over it (Contains-rest fact facts it inside)),
+    inr (
+      refl,
+      λ asked. false≢true (sym told ∙ ap (is_wanted (Asked bodies)) (sym (over fact (Contains-head fact facts))) ∙ asked_relation bodies fact asked),
+    ),
+  )
+
 pub chosen : (wanted : Wanted) (relation : ℕ) (facts some : List (Fact Term)) → AreOver relation facts → (is_wanted wanted relation ≡ true → some ≡ facts)
     → (is_wanted wanted relation ≡ false → some ≡ []) → Leaves wanted facts some
 chosen Every relation facts some over all none = all refl
 chosen (Asked bodies) relation facts some over all none = by (is_wanted (Asked bodies) relation) refl
   where
-    by : (answer : Bool) → is_wanted (Asked bodies) relation ≡ answer → Leaves (Asked bodies) facts some
-    by true is = (
-      (λ fact inside. subst (λ those. Contains those fact) (all is) inside),
-      λ fact inside asked. subst (λ those. Contains those fact) (sym (all is)) inside,
-    )
-    by false is = (
-      (λ fact inside. absurd (Contains-nil fact (subst (λ those. Contains those fact) (none is) inside))),
-      λ fact inside asked. absurd (false≢true (sym is ∙ ap (is_wanted (Asked bodies)) (sym (over fact inside)) ∙ asked_relation bodies fact asked)),
-    )
+    by : (answer : Bool) → is_wanted (Asked bodies) relation ≡ answer → LeavesAsked bodies facts some
+    by true is = subst (LeavesAsked bodies facts) (sym (all is)) (all_left bodies relation is facts over)
+    by false is = subst (LeavesAsked bodies facts) (sym (none is)) (none_left bodies relation is facts over)
 
 -- ---- what is left
+
+asked_append : (bodies : List (List (Fact Term))) (facts some others more : List (Fact Term)) → LeavesAsked bodies facts some → LeavesAsked bodies others more
+    → LeavesAsked bodies (facts ++ others) (some ++ more)
+asked_append bodies [] some others more empty two = subst (λ those. LeavesAsked bodies others (those ++ more)) (sym empty) two
+asked_append bodies (fact ∷ facts) some others more (rest, before, inl (is, told)) two =
+    (rest ++ more, asked_append bodies facts rest others more before two, inl (ap (λ those. those ++ more) is, told))
+asked_append bodies (fact ∷ facts) some others more (rest, before, inr (is, free)) two =
+    (rest ++ more, asked_append bodies facts rest others more before two, inr (ap (λ those. those ++ more) is, free))
 
 pub leaves_append : (wanted : Wanted) (facts some others more : List (Fact Term)) → Leaves wanted facts some → Leaves wanted others more
     → Leaves wanted (facts ++ others) (some ++ more)
 leaves_append Every facts some others more one two = ap (λ those. those ++ more) one ∙ ap (λ those. facts ++ those) two
-leaves_append (Asked bodies) facts some others more one two = (
-  (λ fact inside. elim (Contains-append_cases some more fact inside) [
-    | inl it ↦ Contains-append_left facts others fact (one.0 fact it)
-    | inr it ↦ Contains-append_right facts others fact (two.0 fact it)
-  ]),
-  λ fact inside asked. elim (Contains-append_cases facts others fact inside) [
-    | inl it ↦ Contains-append_left some more fact (one.1 fact it asked)
-    | inr it ↦ Contains-append_right some more fact (two.1 fact it asked)
-  ],
-)
+leaves_append (Asked bodies) facts some others more one two = asked_append bodies facts some others more one two
+
+module _ (bodies : List (List (Fact Term))) where
+  left_inside : (facts some : List (Fact Term)) → LeavesAsked bodies facts some → (fact : Fact Term) → Contains some fact → Contains facts fact
+  left_inside [] some empty fact inside = subst (λ those. Contains those fact) empty inside
+  left_inside (first ∷ facts) some (rest, before, inl (is, told)) fact inside =
+      elim (Contains-cases first rest fact (subst (λ those. Contains those fact) is inside)) [
+        | inl same ↦ subst (Contains (first ∷ facts)) same (Contains-head first facts)
+        | inr later ↦ Contains-rest first facts fact (left_inside facts rest before fact later)
+      ]
+  left_inside (first ∷ facts) some (rest, before, inr (is, free)) fact inside =
+      Contains-rest first facts fact (left_inside facts rest before fact (subst (λ those. Contains those fact) is inside))
+
+  asked_left : (facts some : List (Fact Term)) → LeavesAsked bodies facts some → (fact : Fact Term) → Contains facts fact → IsAsked bodies fact
+      → Contains some fact
+  asked_left [] some empty fact inside asked = absurd (Contains-nil fact inside)
+  asked_left (first ∷ facts) some (rest, before, inl (is, told)) fact inside asked =
+      subst (λ those. Contains those fact) (sym is) (elim (Contains-cases first facts fact inside) [
+        | inl same ↦ subst (Contains (first ∷ rest)) same (Contains-head first rest)
+        | inr later ↦ Contains-rest first rest fact (asked_left facts rest before fact later asked)
+      ])
+  asked_left (first ∷ facts) some (rest, before, inr (is, free)) fact inside asked =
+      subst (λ those. Contains those fact) (sym is) (elim (Contains-cases first facts fact inside) [
+        | inl same ↦ absurd (free (subst (IsAsked bodies) (sym same) asked))
+        | inr later ↦ asked_left facts rest before fact later asked
+      ])
+
+  pub has_asked : (facts some : List (Fact Term)) → LeavesAsked bodies facts some → HasAsked bodies facts some
+  has_asked facts some leaves = (left_inside facts some leaves, asked_left facts some leaves)
 
 pub leaves_flat : (wanted : Wanted) (facts some : List (Fact Term)) → Leaves wanted facts some → AreFlat facts → AreFlat some
 leaves_flat Every facts some is all = subst AreFlat (sym is) all
-leaves_flat (Asked bodies) facts some leaves all = λ term (fact, inside, at). all term (fact, leaves.0 fact inside, at)
+leaves_flat (Asked bodies) facts some leaves all = λ term (fact, inside, at). all term (fact, left_inside bodies facts some leaves fact inside, at)
 
 pub leaves_none : (wanted : Wanted) (some : List (Fact Term)) → some ≡ [] → Leaves wanted [] some
 leaves_none Every some empty = empty
-leaves_none (Asked bodies) some empty = (
-  (λ fact inside. subst (λ those. Contains those fact) empty inside),
-  λ fact inside asked. absurd (Contains-nil fact inside),
-)
+leaves_none (Asked bodies) some empty = empty
 
 -- ---- answers
 
 pub answers_rest_on_wanted_facts : AnswersRestOnWantedFacts
-answers_rest_on_wanted_facts bodies facts some query values leaves named = (
+answers_rest_on_wanted_facts bodies facts some query values has named = (
   (λ (m, keeps, sends, is). (
     m,
     keeps,
     (λ atom inside.
         let from = Contains-map_from (image value_of) some (image m atom) (sends atom inside) in
-        subst (Contains (database_of facts)) from.2 (Contains-map (image value_of) facts from.0 (leaves.0 from.0 from.1))),
+        subst (Contains (database_of facts)) from.2 (Contains-map (image value_of) facts from.0 (has.0 from.0 from.1))),
     is,
   )),
   (λ (m, keeps, sends, is). (
@@ -252,7 +333,7 @@ answers_rest_on_wanted_facts bodies facts some query values leaves named = (
     (λ atom inside.
         let from = Contains-map_from (image value_of) facts (image m atom) (sends atom inside) in
         subst (Contains (database_of some)) from.2
-        (Contains-map (image value_of) some from.0 (leaves.1 from.0 from.1 (query.body, atom, m, named, inside, keeps, sym from.2)))),
+        (Contains-map (image value_of) some from.0 (has.1 from.0 from.1 (query.body, atom, m, named, inside, keeps, sym from.2)))),
     is,
   )),
 )

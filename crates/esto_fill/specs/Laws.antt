@@ -35,8 +35,7 @@ use Rattle.esto_fill.specs.declared.loaded.Loaded.{Loaded}
 use Rattle.esto_fill.specs.declared.rows.AnswerError.{AnswerError}
 use Rattle.esto_fill.specs.declared.rows.AnswerError.TheVariants as answer
 use Rattle.esto_fill.specs.Lawful.{AreLawful}
-use Rattle.esto_fill.specs.Wanted.{Leaves}
-use Rattle.esto_fill.specs.declared.wanted.Wanted.TheVariants.{Asked}
+use Rattle.esto_fill.specs.Wanted.{HasAsked}
 
 -- The facts of each value that is loaded are over constants and plain terms.
 abbrev pub LoadedAreFlat : Type 0
@@ -126,11 +125,11 @@ AnswersRestOnDatasets =
     → ((row : Row) → IsAnswer query (database_of facts) (map Text row) ↔ IsAnswer query (database_of others) (map Text row))
     × (HaveTextsOnly (IsAnswer query (database_of facts)) → HaveTextsOnly (IsAnswer query (database_of others)))
 
--- Over what is left of the facts, where those are wanted to which an atom of one of the bodies can go, a query with one of the bodies has the answers that it
--- has over all facts.
+-- Over some of the facts, among which is each to which an atom of one of the bodies can go, a query with one of the bodies has the answers that it has over all
+-- facts.
 abbrev pub AnswersRestOnWantedFacts : Type 0
 AnswersRestOnWantedFacts =
-    (bodies : List (List (Fact Term))) (facts some : List (Fact Term)) (query : ConjunctiveQuery) (values : List Value) → Leaves (Asked bodies) facts some
+    (bodies : List (List (Fact Term))) (facts some : List (Fact Term)) (query : ConjunctiveQuery) (values : List Value) → HasAsked bodies facts some
     → Contains bodies query.body
     → IsAnswer query (database_of some) values ↔ IsAnswer query (database_of facts) values
 

@@ -1,11 +1,11 @@
 -- Facts that are wanted.
-use Rattle.std.specs.Prelude.{◌≡◌, ◌⊎◌, ◌==◌, ℕ, Bool, true, List, Some, slice_get, Contains}
+use Rattle.std.specs.Prelude.{◌≡◌, ◌⊎◌, ◌==◌, ℕ, ◌+◌, Bool, true, false, List, [], ◌∷◌, Some, slice_get, Contains}
 use Rattle.std.specs.List.{list_any}
-use Rattle.esto_docmodel.specs.DocumentFacts.{DocFact, flat}
+use Rattle.esto_docmodel.specs.DocumentFacts.{DocFact, flat, kind}
 use Rattle.esto_docmodel.specs.Encodings.{has_text, is_kept}
 use Rattle.esto_docmodel.specs.declared.kept.Kept.{Kept}
 use Rattle.esto_docmodel.specs.declared.kept.KeptTexts.{KeptTexts}
-use Rattle.esto_docmodel.specs.declared.kept.KeptTexts.TheVariants.{Every as EveryText}
+use Rattle.esto_docmodel.specs.declared.kept.KeptTexts.TheVariants.{Every as EveryText, These}
 use Rattle.esto_semantics.specs.Facts.{image}
 use Rattle.esto_semantics.specs.declared.fact.Fact.{Fact}
 use Rattle.esto_semantics.specs.declared.fact.Value.{Value}
@@ -36,10 +36,21 @@ abbrev pub IsWanted : Wanted → Fact Term → Type 0
 IsWanted Every fact = Unit {0}
 IsWanted (Asked bodies) fact = IsAsked bodies fact
 
--- Of the facts are left those that are wanted, each of them; where not all are wanted, others may be left too.
+-- Fact by fact, in order: one that is left is of a relation that an atom of the bodies has, and to one that is not left no atom of the bodies can go.
+abbrev pub LeavesAsked : List (List (Fact Term)) → List (Fact Term) → List (Fact Term) → Type 0
+LeavesAsked bodies [] some = some ≡ []
+LeavesAsked bodies (fact ∷ facts) some =
+    (rest : List (Fact Term)) × LeavesAsked bodies facts rest
+    × (((some ≡ fact ∷ rest) × (is_wanted (Asked bodies) fact.relation ≡ true)) ⊎ ((some ≡ rest) × ¬ (IsAsked bodies fact)))
+
+-- Of the facts are left, in order, those that are wanted, each as often as it is there; where not all are wanted, others of wanted relations may be left too.
 abbrev pub Leaves : Wanted → List (Fact Term) → List (Fact Term) → Type 0
 Leaves Every facts some = some ≡ facts
-Leaves (Asked bodies) facts some =
+Leaves (Asked bodies) facts some = LeavesAsked bodies facts some
+
+-- The facts of the one list are of the other, and each of the other to which an atom of the bodies can go is there.
+abbrev pub HasAsked : List (List (Fact Term)) → List (Fact Term) → List (Fact Term) → Type 0
+HasAsked bodies facts some =
     ((fact : Fact Term) → Contains some fact → Contains facts fact) × ((fact : Fact Term) → Contains facts fact → IsAsked bodies fact → Contains some fact)
 
 -- ---- for private clauses
@@ -65,12 +76,13 @@ abbrev pub AdmitsAll : ℕ → List (List (Fact Term)) → KeptTexts → Type 0
 AdmitsAll relation bodies texts =
     (body : List (Fact Term)) (atom : Fact Term) → Contains bodies body → Contains body atom → atom.relation ≡ relation → IsThere texts atom
 
--- The texts are those at the second place of facts of the relation that are wanted, or more.
+-- The texts are those at the second place of facts of the relation that are wanted, or more; none where the relation is not wanted.
 abbrev pub MeetsWant : Wanted → ℕ → KeptTexts → Type 0
 MeetsWant Every relation texts = texts ≡ EveryText
-MeetsWant (Asked bodies) relation texts = AdmitsAll relation bodies texts
+MeetsWant (Asked bodies) relation texts = AdmitsAll relation bodies texts × (is_wanted (Asked bodies) relation ≡ false → texts ≡ These [])
 
--- Of the facts of documents, whose relations stand from the base on, those that are wanted are kept.
+-- Of the facts of documents, whose relations stand from the base on, those that are wanted are kept, and others of wanted relations alone.
 pub record IsKeptFor (wanted : Wanted) (base : ℕ) (relations : Kept) : Type 0 where
   pub from_base : relations.base ≡ base
   pub each : (fact : DocFact Term) → IsWanted wanted (flat base fact) → is_kept relations fact ≡ true
+  pub others : (fact : DocFact Term) → is_kept relations fact ≡ true → is_wanted wanted (base + kind fact) ≡ true

@@ -46,8 +46,8 @@ pub fn answers_rest_on_their_datasets()
     ensures { AnswersRestOnDatasets }
 {}
 
-/// A law: a query has the same answers over what is left of the facts, among which are those to which an atom of its body
-/// can go, as over all facts.
+/// A law: a query has the same answers over some of the facts, among which are those to which an atom of its body can go,
+/// as over all facts.
 pub fn answers_rest_on_wanted_facts()
     ensures { AnswersRestOnWantedFacts }
 {}

@@ -132,13 +132,18 @@ fn texts_in(alloc: Global, bodies: &[Atoms], relation: usize) -> Result<KeptText
     Ok(texts)
 }
 
-// The texts at the second place of facts of the relation that are wanted.
+// The texts at the second place of facts of the relation that are wanted: none where the relation is not wanted.
 fn wanted_texts(alloc: Global, wanted: &Wanted, relation: usize) -> Result<KeptTexts, OutOfMemory>
     ensures { IfOk result (MeetsWant wanted.now relation) }
 {
     match wanted {
         Wanted::Every => Ok(KeptTexts::Every),
-        Wanted::Asked(bodies) => texts_in(alloc, bodies.items(), relation),
+        Wanted::Asked(bodies) => {
+            if one_names(bodies.items(), relation) {
+                return texts_in(alloc, bodies.items(), relation);
+            }
+            Ok(KeptTexts::These(List::new(alloc)))
+        }
     }
 }
 
