@@ -12,6 +12,7 @@ use Rattle.esto_read.specs.declared.words.Word.{Word}
 use Rattle.esto_catalog.specs.Models.{layout_row, needs_model, unfit_row}
 use Rattle.esto_catalog.specs.Rows.{fault_at, knows_keys, needs_text, needs_texts, allows_text}
 use Rattle.esto_settings.specs.Settings.{is_same, setting_at}
+use Rattle.esto_text.specs.declared.parts.TheConstants.{MAX_NAME}
 use Rattle.esto_catalog.specs.declared.dataset.Dataset.{Dataset}
 use Rattle.esto_catalog.specs.declared.fault.CatalogueError.{CatalogueError}
 use Rattle.esto_catalog.specs.declared.fault.CatalogueKind.TheVariants.{BadName, SameName, BadModel, BadColumns}
@@ -19,7 +20,7 @@ use Rattle.esto_catalog.specs.declared.fault.Place.{Place}
 use Rattle.esto_catalog.specs.declared.fault.Section.TheVariants as section
 use Rattle.esto_settings.specs.declared.setting.Field.{Field}
 use Rattle.esto_query.specs.declared.schema.TheConstants.{MAX_COLUMNS}
-use Rattle.esto_catalog.specs.declared.columns.TheConstants.{MARK, MAX_NAME}
+use Rattle.esto_catalog.specs.declared.columns.TheConstants.{MARK}
 use Rattle.esto_catalog.specs.declared.whole.TheConstants.{MAX_ENTRIES}
 use Rattle.esto_catalog.specs.declared.row.Keys.TheVariants as keys
 

@@ -6,9 +6,7 @@ ghost use Rattle.esto_catalog.specs.Datasets.{is_letter, is_name_byte, is_name, 
 use esto_query::MAX_COLUMNS;
 use esto_settings::is_same;
 use esto_term::Text;
-
-/// The greatest number of bytes of a name.
-pub const MAX_NAME: usize = 64;
+use esto_text::MAX_NAME;
 
 /// The bytes of a byte-order mark, with which a file may begin.
 pub const MARK: [u8; 3] = [0xef, 0xbb, 0xbf];
@@ -42,7 +40,7 @@ pub fn is_name(text: &[u8]) -> bool
     let Some((first, rest)) = text.split_first() else {
         return false;
     };
-    is_letter(*first) && are_name_bytes(rest) && rest.len() < MAX_NAME
+    is_letter(*first) && are_name_bytes(rest) && (rest.len() as u64) < MAX_NAME
 }
 
 // Whether one of the texts is this one.

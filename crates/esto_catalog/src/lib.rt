@@ -19,8 +19,9 @@ mod whole;
 
 pub use access::{MAX_PATTERNS, MAX_WEIGHT};
 pub use catalogue::{Catalogue, Shape, Store, Stores};
-pub use columns::{MARK, MAX_NAME};
+pub use columns::MARK;
 pub use dataset::{Dataset, Datasets, relation_count};
+pub use esto_text::MAX_NAME;
 pub use fault::{CatalogueError, CatalogueFault, CatalogueKind, Section};
 pub use walk::{
     catalogues_are_determined, catalogues_are_sound, catalogues_keep_their_datasets,

@@ -37,7 +37,7 @@ IsContainer (object ms) = ⊤
 pub record IsPlain (d : Data) : Type 0 where
   pub texts : HasTextsOnly d
   pub container : IsContainer d
-  pub shallow : depth d ≤ 126
+  pub shallow : depth d ≤ MAX_LAYOUT_DEPTH
 
 -- The text of the document is read as it.
 abbrev pub IsReadBack : Data → Type 0

@@ -1,5 +1,7 @@
 -- The grammar, rule by rule, between syntax trees and lists of tokens.
 use Rattle.std.specs.Prelude.{◌≡◌, ◌⊎◌, ℕ, suc, ◌-◌, ◌<◌, Bool, true, false, nat_lt, if◌then◌else◌, List, [], ◌∷◌, ◌++◌, Option, Some, None}
+use Rattle.esto_text.specs.declared.groups.TheConstants.{MAX_OPEN}
+use Rattle.esto_text.specs.declared.parts.TheConstants.{MAX_NAME}
 use Rattle.esto_text.specs.declared.token.Token.{Token}
 use Rattle.esto_text.specs.declared.token.TokenKind.{TokenKind}
 use Rattle.esto_text.specs.declared.token.TokenKind.TheVariants.{Name, Wildcard, Quoted, Number, LeftParen, RightParen, LeftBrace, RightBrace, LeftBracket}
@@ -10,9 +12,9 @@ use Rattle.esto_text.specs.declared.unions.TheConstants.{MAX_QUERIES}
 use Rattle.esto_text.specs.Trees.{EntryTree, Value, Nested, EntryTrees, NoEntry, AndEntry, ItemTree, Atom, Part, Pattern, QueryTree, HeadTree, Items, Equality}
 use Rattle.esto_text.specs.Trees.{Never, ConstraintTree}
 
--- What a token of so many bytes is to the grammar: a name of more than 64 bytes fits nowhere.
+-- What a token of so many bytes is to the grammar: a name of more than `MAX_NAME` bytes fits nowhere.
 abbrev pub fitting : TokenKind → ℕ → TokenKind
-fitting Name bytes = if nat_lt 64 bytes then Stray else Name
+fitting Name bytes = if nat_lt MAX_NAME bytes then Stray else Name
 fitting kind bytes = kind
 
 -- What the token is to the grammar.
@@ -82,14 +84,14 @@ IsPath [] tokens = ⊥
 IsPath (s ∷ path) tokens = (a b : List Token) × (tokens ≡ a ++ b) × IsFirst s a × IsPathEnd path b
 
 abbrev mutual
-  -- entry = path ( ":" term | "{" entry { "," entry } "}" ), where so many braces are open; at most 32 may be
+  -- entry = path ( ":" term | "{" entry { "," entry } "}" ), where so many braces are open; at most `MAX_OPEN` may be
   pub IsEntry : ℕ → EntryTree → List Token → Type 0
   IsEntry depth (Value path term) tokens =
       (front : List Token) × (colon : Token) × (tokens ≡ front ++ colon ∷ term ∷ []) × IsPath path front × (class_of colon ≡ Colon) × IsTerm term
   IsEntry depth (Nested path NoEntry) tokens = ⊥
   IsEntry depth (Nested path (AndEntry first others)) tokens =
       (front : List Token) × (brace : Token) × (a b : List Token) × (tokens ≡ front ++ brace ∷ (a ++ b)) × IsPath path front × (class_of brace ≡ LeftBrace)
-      × (depth < 32)
+      × (depth < MAX_OPEN)
       × IsEntry (suc depth) first a × IsGroupEnd (suc depth) others b
 
   -- { "," entry } "}"

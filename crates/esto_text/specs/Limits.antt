@@ -1,5 +1,6 @@
--- The limit of a head: at most 32 names.
+-- The limit of a head: at most `MAX_NAMES` names.
 use Rattle.std.specs.Prelude.{ℕ, zero, suc, ◌-◌, Bool, true, false, if◌then◌else◌, List, [], ◌∷◌}
+use Rattle.esto_text.specs.declared.rows.TheConstants.{MAX_NAMES}
 use Rattle.esto_text.specs.declared.token.Token.{Token}
 use Rattle.esto_text.specs.declared.token.TokenKind.{TokenKind}
 use Rattle.esto_text.specs.declared.token.TokenKind.TheVariants.{Name, RightParen, Semicolon, Stray}
@@ -31,10 +32,10 @@ limited_row room (token ∷ tokens) =
     if is_close (class_of token) then token ∷ tokens
     else (if is_name (class_of token) then in_room room token ∷ limited_row (room - 1) tokens else token ∷ limited_row room tokens)
 
--- The tokens of a query or a view, where a name in the head past the thirty-second fits nowhere.
+-- The tokens of a query or a view, where a name of the head past the greatest number fits nowhere.
 abbrev pub limited : List Token → List Token
 limited [] = []
-limited (name ∷ tokens) = name ∷ limited_row 32 tokens
+limited (name ∷ tokens) = name ∷ limited_row MAX_NAMES tokens
 
 -- The token parts two queries.
 abbrev pub is_semicolon : TokenKind → Bool
@@ -49,7 +50,7 @@ pub data Reached : Type 0 where
 
 -- What was read of a query when this token is read too, which parts no two queries.
 abbrev pub reached_within : Reached → TokenKind → Reached
-reached_within Nothing kind = Part 32
+reached_within Nothing kind = Part MAX_NAMES
 reached_within (Part room) kind = if is_close kind then Head else (if is_name kind then Part (room - 1) else Part room)
 reached_within Head kind = Head
 

@@ -1,5 +1,6 @@
 -- What may come next, by the first token alone. Only the private contracts of the readers speak of it.
 use Rattle.std.specs.Prelude.{◌≡◌, ◌≢◌, ℕ, suc, ◌+◌, Bool, true, false, nat_lt, if◌then◌else◌, List, [], ◌∷◌, ◌++◌, length, Option, Some, None}
+use Rattle.esto_text.specs.declared.groups.TheConstants.{MAX_OPEN}
 use Rattle.esto_text.specs.declared.stop.Stop.{Stop}
 use Rattle.esto_text.specs.declared.stop.Stop.TheVariants.{Syntax, OutOfMemory}
 use Rattle.esto_text.specs.declared.token.Token.{Token}
@@ -68,7 +69,7 @@ step (AnEntry n) LeftBracket = Some (ABracket ∷ PathRest n ∷ [])
 step (PathRest n) Dot = Some (ANext ∷ PathRest n ∷ [])
 step (PathRest n) LeftBracket = Some (ABracket ∷ PathRest n ∷ [])
 step (PathRest n) Colon = Some (ATerm ∷ [])
-step (PathRest n) LeftBrace = if nat_lt n 32 then Some (AnEntry (suc n) ∷ MoreEntries (suc n) ∷ []) else None
+step (PathRest n) LeftBrace = if nat_lt n MAX_OPEN then Some (AnEntry (suc n) ∷ MoreEntries (suc n) ∷ []) else None
 step (MoreEntries n) Comma = Some (AnEntry n ∷ MoreEntries n ∷ [])
 step (MoreEntries n) RightBrace = Some []
 step _ _ = None

@@ -12,8 +12,8 @@ use crate::tree::EntrySyntax;
 use esto_term::List;
 use std::alloc::Global;
 
-/// How many braces may be open.
-const MAX_OPEN: u32 = 32;
+/// The greatest number of braces that are open at one time.
+pub const MAX_OPEN: u32 = 32;
 
 /// An entry, where so many braces are open, and what comes after it.
 #[cycle(group)]

@@ -21,6 +21,9 @@ mod unions;
 mod version;
 
 pub use fault::{ReadError, TextFault, TextKind};
+pub use groups::MAX_OPEN;
+pub use parts::MAX_NAME;
+pub use rows::MAX_NAMES;
 pub use syntax::{
     read_constraint_tree, read_layout_tree, read_query_tree, read_union_tree, trees_are_determined,
     unions_are_determined,

@@ -9,8 +9,8 @@ use crate::stop::Stop;
 use crate::token::{Token, TokenKind};
 use crate::tree::StepSyntax;
 
-/// How many bytes a name may have.
-const MAX_NAME: u64 = 64;
+/// The greatest number of bytes of a name.
+pub const MAX_NAME: u64 = 64;
 
 /// What the token is to the grammar: a name that is too long fits nowhere.
 pub fn class_of(token: &Token) -> TokenKind

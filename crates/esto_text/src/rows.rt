@@ -10,13 +10,13 @@ use crate::token::{Token, TokenKind, Tokens};
 use esto_term::List;
 use std::alloc::Global;
 
-/// How many names a head may have.
-const MAX_NAMES: usize = 32;
+/// The greatest number of names of a head.
+pub const MAX_NAMES: usize = 32;
 
 /// The names of a head, of which there are not too many, and what comes after its parenthesis.
 pub fn names(alloc: Global, tokens: &[Token]) -> Result<(Tokens, &[Token]), Stop>
-    ensures ok { IfOk result (λ x. Takes (IsRow IsName x.0) (limited_row 32 tokens.now) x.1.now) }
-    ensures err { IfErr result (λ e. Fails (AName ∷ MoreNames ∷ []) (limited_row 32 tokens.now) e) }
+    ensures ok { IfOk result (λ x. Takes (IsRow IsName x.0) (limited_row MAX_NAMES tokens.now) x.1.now) }
+    ensures err { IfErr result (λ e. Fails (AName ∷ MoreNames ∷ []) (limited_row MAX_NAMES tokens.now) e) }
 {
     let mut names = List::new(alloc);
     let mut rest = tokens;
