@@ -1,5 +1,5 @@
 -- Choices among finitely many things, and lists by what they contain.
-use Rattle.std.proofs.Common.{◌≡◌, ℕ, zero, suc, ◌<◌, List, [], ◌∷◌, ◌++◌, map, get_or, refl, sym, ap, ◌∙◌, subst, arith, inl, inr}
+use Rattle.std.proofs.Common.{◌≡◌, ℕ, zero, suc, ◌<◌, List, [], ◌∷◌, ◌++◌, map, get_or, refl, sym, ap, ◌∙◌, subst, arith, inl, inr, Bool, true, false}
 use Rattle.std.specs.Prelude.{◌⊎◌, ◌↔◌, Contains, AllPairs}
 use Rattle.std.specs.Cmp.{IsTotalOrder}
 use Rattle.std.specs.Ordering.{ordering_reverse}
@@ -33,6 +33,12 @@ decided_not (inr no_p) = inl no_p
 pub decided_as : {P Q : Type 0} → P ↔ Q → Decided P → Decided Q
 decided_as same (inl p) = inl (same.0 p)
 decided_as same (inr no_p) = inr (λ q. no_p (same.1 q))
+
+-- two truth values that imply one another are equal
+pub same_truth : (one other : Bool) → (one ≡ true → other ≡ true) → (other ≡ true → one ≡ true) → one ≡ other
+same_truth true other there back = sym (there refl)
+same_truth false true there back = back refl
+same_truth false false there back = refl
 
 -- of a property that is decided below a bound: the least number below the bound that has it, or none has it
 pub least_below : (P : ℕ → Type 0) (bound : ℕ) → ((k : ℕ) → k < bound → Decided (P k))
@@ -69,6 +75,19 @@ decided_in {A} P decide (first ∷ rest) = by (decide first) (decided_in P decid
       | inl is ↦ not (subst P (sym is) found.2)
       | inr later ↦ none (found.0, later, found.2)
     ])
+
+-- whether each thing of a list has a property that is decided
+pub decided_each : {A : Type 0} (P : A → Type 0) → ((thing : A) → Decided (P thing)) → (things : List A) → Decided ((thing : A) → Contains things thing → P thing)
+decided_each P decide [] = inl (λ thing none. absurd (Contains-nil thing none))
+decided_each {A} P decide (first ∷ rest) = by (decide first) (decided_each P decide rest)
+  where
+    by : Decided (P first) → Decided ((thing : A) → Contains rest thing → P thing) → Decided ((thing : A) → Contains (first ∷ rest) thing → P thing)
+    by (inl here) (inl later) = inl (λ thing inside. elim (Contains-cases first rest thing inside) [
+      | inl is ↦ subst P is here
+      | inr further ↦ later thing further
+    ])
+    by (inl here) (inr not) = inr (λ all. not (λ thing inside. all thing (Contains-rest first rest thing inside)))
+    by (inr not) later = inr (λ all. not (all first (Contains-head first rest)))
 
 module _ {A : Type 0} where
   pub contains_more : (x : A) (xs ys : List A) → ((z : A) → Contains xs z ↔ Contains ys z) → (z : A) → Contains (x ∷ xs) z → Contains (x ∷ ys) z

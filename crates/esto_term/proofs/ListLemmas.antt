@@ -5,7 +5,7 @@ use Rattle.std.specs.List.{filter, flat_map, range_with_len}
 use Rattle.std.specs.List.Sorted.{IsPermutation}
 use Rattle.std.proofs.lemmas.Bool.{cases_order}
 use Rattle.std.proofs.lemmas.Bool.Decides.{nat_tests}
-use Rattle.std.proofs.lemmas.List.{get_or-map, get_or-set_other, get_or-set_same, length-map, length-set, take_more, take_all}
+use Rattle.std.proofs.lemmas.List.{get_or-map, get_or-set_other, get_or-set_same, length-map, length-set, take_more, take_all, append_assoc}
 use Rattle.std.proofs.lemmas.List.Edits.{length-swap, swap_is}
 use Rattle.std.proofs.lemmas.List.Elements.{Contains-append_cases, Contains-append_left, Contains-append_right, Contains-push_cases}
 use Rattle.std.proofs.lemmas.List.FromFn.{length-range_with_len, get_or-range_with_len}
@@ -34,6 +34,17 @@ Contains-at things place thing found = (place, slice_get_within things place thi
 -- what a list of one thing contains is that thing
 pub Contains-one : {X : Type 0} (one other : X) → Contains (one ∷ []) other → one ≡ other
 Contains-one one other inside = elim (Contains-cases one [] other inside) [ inl is ↦ is | inr none ↦ absurd (Contains-nil other none) ]
+
+-- what stands in a list stands in it with one more at the end
+pub Contains-pushed : {X : Type 0} (now new : List X) (last thing : X) → new ≡ now ++ last ∷ [] → Contains now thing → Contains new thing
+Contains-pushed now new last thing pushed inside = subst (λ all. Contains all thing) (sym pushed) (Contains-append_left now (last ∷ []) thing inside)
+
+-- lists that are equal begin alike, and go on alike
+pub first_same : {X : Type 0} (one other : X) (rest others : List X) → one ∷ rest ≡ other ∷ others → one ≡ other
+first_same one other rest others same = cc
+
+pub rest_same : {X : Type 0} (one other : X) (rest others : List X) → one ∷ rest ≡ other ∷ others → rest ≡ others
+rest_same one other rest others same = cc
 
 -- ---- a map of a list
 
@@ -71,7 +82,27 @@ pub map_itself : {X : Type 0} (things : List X) → map (λ thing. thing) things
 map_itself [] = refl
 map_itself (first ∷ rest) = ap (λ others. first ∷ others) (map_itself rest)
 
+-- a map that tells things apart tells lists apart
+pub map_one : {X Y : Type 0} (m : X → Y) → ((one other : X) → m one ≡ m other → one ≡ other) → (xs ys : List X) → map m xs ≡ map m ys → xs ≡ ys
+map_one m apart [] [] same = refl
+map_one m apart [] (y ∷ ys) same = absurd (cc)
+map_one m apart (x ∷ xs) [] same = absurd (cc)
+map_one m apart (x ∷ xs) (y ∷ ys) same =
+    let first = apart x y (first_same (m x) (m y) (map m xs) (map m ys) same) in
+    let rest = map_one m apart xs ys (rest_same (m x) (m y) (map m xs) (map m ys) same) in
+    λ i. first i ∷ rest i
+
+-- two lists that one list is made of are of one length
+pub one_length : {X Y Z : Type 0} (m : X → Z) (other : Y → Z) (things : List X) (others : List Y) (made : List Z) → made ≡ map m things → made ≡ map other others
+    → length things ≡ length others
+one_length m other things others made is is_other =
+    sym (length-map things m) ∙ sym (ap length is) ∙ ap length is_other ∙ length-map others other
+
 -- ---- joined lists, and what passes a test
+
+-- two lists that are put at the end
+pub two_more : {X : Type 0} (all middle more first second : List X) → middle ≡ all ++ first → more ≡ middle ++ second → more ≡ all ++ (first ++ second)
+two_more all middle more first second one two = two ∙ ap (λ it. it ++ second) one ∙ append_assoc all first second
 
 pub Contains-flat : {X Y : Type 0} (parts : X → List Y) (things : List X) (thing : X) (part : Y) → Contains things thing → Contains (parts thing) part
     → Contains (flat_map parts things) part

@@ -4,7 +4,7 @@
 use Rattle.std.proofs.Common.{◌≡◌, ℕ, max, ◌+◌, ◌<◌, suc, zero, List, [], ◌∷◌, map, refl, sym, ap, ◌∙◌, arith}
 use Rattle.std.specs.List.{AllByRecursion}
 use Rattle.std.specs.declared.cmp.Ordering.{Ordering}
-use Rattle.std.specs.declared.cmp.Ordering.TheVariants.{Less, Equal, Greater}
+use Rattle.std.specs.declared.cmp.Ordering.TheVariants.{Equal}
 use Rattle.std.specs.Ordering.{ordering_then, nat_cmp, ordering_reverse}
 use Rattle.std.specs.Cmp.{IsTotalOrder}
 use Rattle.std.specs.Cmp.Derive.{point_total}
@@ -15,6 +15,7 @@ use Rattle.esto_term.specs.declared.term.Term.{Term, out-Term, roll-Term, roll-o
 use Rattle.esto_term.specs.declared.term.Term.TheOpen.{Term-F}
 use Rattle.esto_term.specs.Nesting.{nesting, nesting_above}
 use Rattle.esto_term.specs.Order.{kind, text, number, rule, variable, frontier, level_cmp, term_cmp}
+use Rattle.esto_term.proofs.TotalOrderLemmas.{first_equal, next_equal}
 
 -- ---- two terms compare by their levels
 
@@ -136,18 +137,6 @@ term_cmp_total = record {
 }
 
 -- ---- the order answers `Equal` at equal terms alone
-
--- where a comparison and the next one together answer `Equal`, so does the first
-first_equal : (first next : Ordering) → ordering_then first next ≡ Equal → first ≡ Equal
-first_equal Less next tied = tied
-first_equal Equal next tied = refl
-first_equal Greater next tied = tied
-
--- and so does the next one
-next_equal : (first next : Ordering) → ordering_then first next ≡ Equal → next ≡ Equal
-next_equal Less next tied = cc
-next_equal Equal next tied = tied
-next_equal Greater next tied = cc
 
 -- an order that is exact at the terms of which P holds is exact at lists of them, and at levels over them
 module _ (order : Term → Term → Ordering) (P : Term → Type 0) (exact : (left right : Term) → P left → order left right ≡ Equal → left ≡ right) where

@@ -1,12 +1,21 @@
 -- Places of a list: what a loop reads, the first few items, the items from a place on, and lists that have the same at each place.
 use Rattle.std.proofs.Common.{◌≡◌, ◌≢◌, inl, inr, zero, suc, ℕ, ◌+◌, ◌<◌, List, [], ◌∷◌, ◌++◌, length, take, drop, get_or, slice_get, Contains, AllPairs, Some}
-use Rattle.std.proofs.Common.{refl, sym, ap, ◌∙◌, subst, arith}
+use Rattle.std.proofs.Common.{refl, sym, ap, ◌∙◌, subst, arith, ◌⊎◌, All}
 use Rattle.std.proofs.lemmas.Bool.{cases_order}
 use Rattle.std.proofs.lemmas.List.{drop_more, length-take, take_more}
 use Rattle.std.proofs.lemmas.Option.{none-some, same_Some, slice_get_within, slice_get-get_or, get_or_from_slice_get}
 use Rattle.esto_term.proofs.ListLemmas.{Contains-at, place-from_Contains}
 
 -- ---- what a loop reads
+
+-- a number before the next one is before this one, or this one
+pub earlier_or_last : (number count : ℕ) → number < count + 1 → (number < count) ⊎ (number ≡ count)
+earlier_or_last number count within = grind arith
+
+-- what holds of all items holds of the one at a place
+pub all_at : {X : Type 0} (P : X → Type 0) (items : List X) → All P items → (place : ℕ) (item : X) → slice_get items place ≡ Some item → P item
+all_at P items all place item is =
+    subst P (get_or_from_slice_get items place item item is) (all place item (slice_get_within items place item is))
 
 -- what is read of a place stands there
 pub item_at : {X : Type 0} (items : List X) (place : ℕ) (thing : X) → place < length items → thing ≡ get_or items place thing → slice_get items place
