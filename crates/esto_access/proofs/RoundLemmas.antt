@@ -13,7 +13,8 @@ use Rattle.esto_semantics.specs.Access.{Patterns, IsAccessible, IsEarlier, IsOrd
 use Rattle.esto_semantics.specs.AccessLaws.{PartExists}
 use Rattle.esto_term.proofs.ListLemmas.{Contains-at, place-from_Contains, thing_at}
 use Rattle.esto_semantics.proofs.AccessLemmas.{has_set, accessible_more, order_grows}
-use Rattle.esto_semantics.proofs.SetLemmas.{beyond, decided_has}
+use Rattle.esto_semantics.proofs.SetLemmas.{decided_has}
+use Rattle.esto_semantics.proofs.PlaceLemmas.{Has-within}
 use Rattle.esto_access.specs.Rounds.{IsNextIn, InRounds, RoundsAreEnough, LastRoundIsEnough}
 
 module _ (patterns : Patterns) (atoms : List (Fact Term)) (set : List Bool) where
@@ -52,7 +53,7 @@ module _ (patterns : Patterns) (atoms : List (Fact Term)) (set : List Bool) wher
     order_in_rounds within zero place number l e = absurd (omega (arith, l))
     order_in_rounds within (suc rounds) place number l e =
         let there : Has other number = (is_order.names number).0 (Contains-at order place number e) in
-        let found = thing_at atoms number (subst (λ n. number < n) is_order.over (beyond other number there)) in (
+        let found = thing_at atoms number (subst (λ n. number < n) is_order.over (Has-within other number there)) in (
           within number there,
           (
             found.0,
@@ -69,7 +70,7 @@ module _ (patterns : Patterns) (atoms : List (Fact Term)) (set : List Bool) wher
     order_in_closed within P closed zero place number l e = absurd (omega (arith, l))
     order_in_closed within P closed (suc bound) place number l e =
         let there : Has other number = (is_order.names number).0 (Contains-at order place number e) in
-        let found = thing_at atoms number (subst (λ n. number < n) is_order.over (beyond other number there)) in
+        let found = thing_at atoms number (subst (λ n. number < n) is_order.over (Has-within other number there)) in
         closed number (
           within number there,
           (
@@ -87,7 +88,7 @@ module _ (patterns : Patterns) (atoms : List (Fact Term)) (set : List Bool) wher
         → (place number : ℕ) → slice_get order place ≡ Some number → InRounds patterns atoms set (suc rounds) number
     order_in_last within rounds closed place number e =
         let there : Has other number = (is_order.names number).0 (Contains-at order place number e) in
-        let found = thing_at atoms number (subst (λ n. number < n) is_order.over (beyond other number there)) in (
+        let found = thing_at atoms number (subst (λ n. number < n) is_order.over (Has-within other number there)) in (
           within number there,
           (
             found.0,
@@ -103,7 +104,7 @@ module _ (patterns : Patterns) (atoms : List (Fact Term)) (set : List Bool) wher
         (λ number told. below number (Contains-from_any (λ x y same. (Decides-eqb x y).0 same) number order told))
       where
         below : (number : ℕ) → Contains order number → number < length atoms
-        below number inside = subst (λ n. number < n) is_order.over (beyond other number ((is_order.names number).0 inside))
+        below number inside = subst (λ n. number < n) is_order.over (Has-within other number ((is_order.names number).0 inside))
 
 pub rounds_are_enough : PartExists → RoundsAreEnough
 rounds_are_enough exist patterns atoms set over number = (

@@ -10,7 +10,8 @@ use Rattle.esto_semantics.specs.Access.{Patterns, IsAccessible, IsEarlier, IsOrd
 use Rattle.esto_semantics.specs.AccessSteps.{IsStuck}
 use Rattle.esto_semantics.proofs.AccessLemmas.{earlier_contains, earlier_push, push_earlier, missing, missing-set, has_set, none_has, accessible_more}
 use Rattle.esto_semantics.proofs.AccessLemmas.{ready_more, order_grows, none_is_order, stuck_has}
-use Rattle.esto_semantics.proofs.SetLemmas.{beyond, decided_has, within_refl, within_same}
+use Rattle.esto_semantics.proofs.SetLemmas.{decided_has, within_refl, within_same}
+use Rattle.esto_semantics.proofs.PlaceLemmas.{Has-within}
 use Rattle.esto_access.specs.Runs.{CanFollow, NoneFollows, IsFirstFollower, IsRun}
 use Rattle.esto_term.proofs.ListLemmas.{Contains-at, at_pushed, place-from_Contains}
 use Rattle.esto_term.proofs.PlaceLemmas.{Contains-take, Contains-take_from, one_place}
@@ -121,7 +122,7 @@ module _ (patterns : Patterns) (atoms : List (Fact Term)) (set : List Bool) wher
     pub numbers_below : (count : ℕ) → count ≡ length atoms → All (λ number. number < count) given
     numbers_below count e i d l =
         let has = (in_part (get_or given i d)).0 (Contains-get_or given i d l) in
-        subst (λ n. get_or given i d < n) (((run.1).is_order).over ∙ sym e) (beyond run.0 (get_or given i d) has)
+        subst (λ n. get_or given i d < n) (((run.1).is_order).over ∙ sym e) (Has-within run.0 (get_or given i d) has)
 
     pub part_of_run : (reached : List Bool) → length reached ≡ length atoms → ((number : ℕ) → Has reached number ↔ Contains given number)
         → IsAccessiblePart patterns atoms set reached
@@ -166,7 +167,7 @@ module _ (patterns : Patterns) (atoms : List (Fact Term)) (set : List Bool) wher
 
   pub places_from_order : (order : List ℕ) → IsOrder patterns atoms set order → EachFollows order
   places_from_order order is_order place number at = record {
-    there = subst (λ n. number < n) is_order.over (beyond set number chosen);
+    there = subst (λ n. number < n) is_order.over (Has-within set number chosen);
     chosen = chosen;
     absent = λ h. let before = Contains-take_from order place number h in let same = one_place order is_order.once before.0 place number before.2 at in omega
         (arith, same, before.1);

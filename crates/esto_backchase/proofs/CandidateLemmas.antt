@@ -24,7 +24,8 @@ use Rattle.esto_semantics.specs.Rules.{Rule, AreRules, IsRule}
 use Rattle.esto_semantics.specs.Sets.{Has, numbers}
 use Rattle.esto_semantics.specs.Views.{IsFragmentAnswer}
 use Rattle.esto_semantics.specs.declared.fact.Fact.{Fact}
-use Rattle.esto_semantics.proofs.SetLemmas.{beyond, numbers_have}
+use Rattle.esto_semantics.proofs.SetLemmas.{numbers_have}
+use Rattle.esto_semantics.proofs.PlaceLemmas.{Has-within}
 use Rattle.esto_chase.specs.Chased.{IsFinishedRun, RunClashes}
 use Rattle.esto_chase.specs.declared.chasing.Chased.{Chased}
 use Rattle.esto_chase_laws.specs.RunLaws.{StartsHaveTheBody}
@@ -179,7 +180,7 @@ module _ (plan : Plan) (fragments : List FragmentDef) (expanded : List ExpandedF
       back (number, has, (part, inside, is)) =
           let at = place-from_Contains (expands.of.view number).body part inside in
           let whole : ExpandedFact = record { atom = number; place = at.0; fact = fact } in
-          let small : number < length plan.atoms = omega (arith, beyond set number has, over) in
+          let small : number < length plan.atoms = omega (arith, Has-within set number has, over) in
           from-chosen set expanded whole ((expands.exact whole).1 (small, (part, at.1, is))) has
 
   module _ (rules : List Rule) (query : ConjunctiveQuery) (expand_candidates : PartExpandsCandidate) where

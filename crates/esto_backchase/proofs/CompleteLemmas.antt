@@ -4,7 +4,8 @@ use Rattle.std.proofs.lemmas.Bool.{cases_order}
 use Rattle.std.proofs.lemmas.List.Elements.{All-contains}
 use Rattle.esto_term.proofs.ListLemmas.{SomeBelow, Contains-at, some_none, some_step, some_contained}
 use Rattle.esto_semantics.specs.Sets.{Has, Within, Covers}
-use Rattle.esto_semantics.proofs.SetLemmas.{beyond, within_trans}
+use Rattle.esto_semantics.proofs.SetLemmas.{within_trans}
+use Rattle.esto_semantics.proofs.PlaceLemmas.{Has-within}
 use Rattle.esto_bits.specs.Kept.{AreOver, Kept, CoversBoth}
 use Rattle.esto_bits.proofs.JoinLemmas.{covers_none}
 use Rattle.esto_access.specs.Supplies.{CoversWhere, IsSupplied}
@@ -64,7 +65,7 @@ module _ (supplies : List Kept) (low : List Bool) where
   pub completed_end : HaveOwn supplies → (count : ℕ) (found : List (List Bool)) → length low ≤ count → AreCompletedBelow count found
       → CoversWhere (IsCompletedIn supplies low) found
   completed_end own count found l so_far set = (
-    λ h number in_low. ((so_far set).0 h).1 number (omega (arith, beyond low number in_low, l)) in_low,
+    λ h number in_low. ((so_far set).0 h).1 number (omega (arith, Has-within low number in_low, l)) in_low,
     λ each. (so_far set).1 (
       (λ number in_low. let from = supplied_from supplies set number (each number in_low) in from.2.2 number (own number from.0 from.1 from.2.0 from.2.1)),
       (λ number _ in_low. each number in_low),

@@ -10,7 +10,8 @@ use Rattle.esto_semantics.specs.Access.{Patterns, HoldsExecutably, HoldsOfPart}
 use Rattle.esto_semantics.specs.AccessLaws.{PartExists}
 use Rattle.esto_semantics.specs.Sets.{Has, Covers, IsMinimal, TellHolds, numbers, united}
 use Rattle.esto_semantics.proofs.AccessLawLemmas.{minimal_of_parts, part_is_one}
-use Rattle.esto_semantics.proofs.SetLemmas.{beyond, length-united, numbers_have}
+use Rattle.esto_semantics.proofs.SetLemmas.{length-united, numbers_have}
+use Rattle.esto_semantics.proofs.PlaceLemmas.{Has-within}
 use Rattle.esto_bits.specs.Kept.{Kept, AreOver, IsAntichain, unions}
 use Rattle.esto_bits.proofs.FamilyLemmas.{antichain_is_minimal, told_are_minimal}
 use Rattle.esto_bits.proofs.JoinLemmas.{covers_append, covers_none, covers_unions}
@@ -156,7 +157,7 @@ module _ (exist : PartExists) (patterns : Patterns) (atoms : List (Fact Term)) (
               low.1,
               λ number has.
                   let within = low.2 number has in
-                  (supplied set over number (subst (λ n. number < n) part_is (beyond of_part.part number within))).1
+                  (supplied set over number (subst (λ n. number < n) part_is (Has-within of_part.part number within))).1
                   (record { over = over; part = of_part.part; is_part = of_part.is_part; has = within }),
             ),
       )

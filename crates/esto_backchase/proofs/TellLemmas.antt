@@ -17,7 +17,7 @@ use Rattle.esto_semantics.specs.Rules.{Rule, AreRules}
 use Rattle.esto_semantics.specs.Sets.{Has}
 use Rattle.esto_semantics.specs.Views.{IsFragmentAnswer}
 use Rattle.esto_semantics.specs.declared.fact.Fact.{Fact}
-use Rattle.esto_semantics.proofs.SetLemmas.{beyond}
+use Rattle.esto_semantics.proofs.PlaceLemmas.{Has-within}
 use Rattle.esto_plan_laws.specs.UnionSets.{AnswersUnion}
 use Rattle.esto_query.specs.Making.{query_of}
 use Rattle.esto_query.specs.declared.query.Query.{Query}
@@ -143,7 +143,7 @@ module _ (rules : List Rule) (fragments : List FragmentDef) (rank : ℕ → ℕ)
           | inl (text, is) ↦ inl (text, sym own.2 ∙ ap spread is ∙ expands.of.keeps number text)
           | inr (part, in_body, in_part) ↦ (let at_place = place-from_Contains view.body part in_body in
               let whole : ExpandedFact = record { atom = number; place = at_place.0; fact = image spread part } in
-              let small : number < length plan.atoms = omega (arith, beyond set number has, over) in
+              let small : number < length plan.atoms = omega (arith, Has-within set number has, over) in
               inr (
                 image spread part,
                 are.given whole ((expands.exact whole).1 (small, (part, at_place.1, refl))) set has,

@@ -8,7 +8,8 @@ use Rattle.std.proofs.lemmas.List.Elements.{Contains-append_left, Contains-push,
 use Rattle.esto_term.proofs.ChoiceLemmas.{Decided, decided_below, decided_both, decided_not}
 use Rattle.esto_term.proofs.ListLemmas.{at_end, Contains-at, Contains-cases, Contains-filter_from, Contains-head, Contains-nil, Contains-rest}
 use Rattle.esto_semantics.specs.Sets.{Has, Within, Covers, IsMinimal, Rises}
-use Rattle.esto_semantics.proofs.SetLemmas.{beyond, decided_has, within_trans, within_same}
+use Rattle.esto_semantics.proofs.SetLemmas.{decided_has, within_trans, within_same}
+use Rattle.esto_semantics.proofs.PlaceLemmas.{Has-within}
 use Rattle.esto_bits.specs.Kept.{IsAntichain, CoversAlso, is_covered, is_within, with_set}
 use Rattle.esto_bits.proofs.FamilyLemmas.{antichain-same}
 use Rattle.esto_backchase.specs.Searching.{AreFailing, FailsAt, FailsWith, HasOneOf, IsBetween, IsFirstSuperset, IsSupersetAt, IsWithRange, Visited}
@@ -74,7 +75,7 @@ outside set other = elim (decided_below Missing (length set) (λ k l. decided_bo
   | inl found ↦ inr (found.0, found.2.0, found.2.1)
   | inr none ↦ inl (λ number has. elim (decided_has other number) [
     | inl there ↦ there
-    | inr missing ↦ absurd (none (number, beyond set number has, (has, missing)))
+    | inr missing ↦ absurd (none (number, Has-within set number has, (has, missing)))
   ])
 ]
   where
@@ -361,7 +362,7 @@ module _ (count : ℕ) (Pass : List Bool → Type 0) where
           | inr (number, has, missing) ↦ (
             number,
             subst (λ those. Contains those number) (sym same)
-                ((exact number).1 (omega (arith, beyond other number has, over, fails.same_length), missing, λ out. between.lacks number out has)),
+                ((exact number).1 (omega (arith, Has-within other number has, over, fails.same_length), missing, λ out. between.lacks number out has)),
             has,
           )
         ]

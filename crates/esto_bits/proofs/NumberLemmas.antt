@@ -9,7 +9,7 @@ use Rattle.std.specs.Cmp.Lexicographic.{slice_cmp}
 use Rattle.std.specs.Ordering.{ordering_then, nat_cmp}
 use Rattle.std.specs.declared.cmp.Ordering.TheVariants.{Less, Equal, Greater}
 use Rattle.esto_semantics.specs.Sets.{numbers_from}
-use Rattle.esto_semantics.proofs.SetLemmas.{beyond}
+use Rattle.esto_semantics.proofs.PlaceLemmas.{Has-within}
 
 -- ---- the numbers from one on
 
@@ -20,7 +20,7 @@ later_numbers number row = numbers_from number (drop number row)
 module _ (row : List Bool) (number : ℕ) where
   pub later_numbers-has : slice_index_or row number false ≡ true → later_numbers number row ≡ number ∷ later_numbers (number + 1) row
   later_numbers-has is =
-      ap (numbers_from number) (drop-cons row number false (beyond row number is))
+      ap (numbers_from number) (drop-cons row number false (Has-within row number is))
       ∙ ap (λ is_in. numbers_from number (is_in ∷ drop (suc number) row)) is
       ∙ ap (λ next. number ∷ numbers_from (number + 1) (drop next row)) (sym (add-one number))
 

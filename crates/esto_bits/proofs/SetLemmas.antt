@@ -6,7 +6,7 @@ use mathlib.Core.Bool.{beq}
 use Rattle.std.proofs.lemmas.List.{get_or-set_same, get_or-set_other, get_or-replicate, length-replicate, take_more}
 use Rattle.std.proofs.lemmas.List.Elements.{Contains-append_left, Contains-push, Contains-push_cases}
 use Rattle.esto_semantics.specs.Sets.{Has, Within}
-use Rattle.esto_semantics.proofs.SetLemmas.{beyond}
+use Rattle.esto_semantics.proofs.PlaceLemmas.{Has-within}
 use Rattle.esto_bits.specs.Kept.{is_within}
 
 -- ---- truth values
@@ -53,7 +53,7 @@ answer_is row number answer says = same_truth answer (slice_index_or row number 
 
 pub Has-replicate : (count number : ℕ) → Has (replicate count false) number → ⊥
 Has-replicate count number has =
-    let below : number < count = subst (λ n. number < n) (length-replicate count false) (beyond (replicate count false) number has) in
+    let below : number < count = subst (λ n. number < n) (length-replicate count false) (Has-within (replicate count false) number has) in
     false-not_true (sym (get_or-replicate count number false false below) ∙ has)
 
 -- with one number more a set has that number, and all that it had

@@ -11,7 +11,8 @@ use Rattle.std.proofs.lemmas.Nat.{and_le_l}
 use Rattle.std.proofs.lemmas.Nat.Bits.{bit_at-lt, bit_at-zero, bit_at_and, bit_at_or, shr_and_one, bit_at_set_same, bit_at_set_other, same_from_bits_below}
 use Rattle.esto_semantics.specs.Sets.{Has, Within, united}
 use Rattle.esto_bits.specs.Words.{bit_of, set_of, words_for, AreWordsBelow, LackNoBit, HaveBitsOf}
-use Rattle.esto_semantics.proofs.SetLemmas.{beyond, has_united, length-united, within_same}
+use Rattle.esto_semantics.proofs.SetLemmas.{has_united, length-united, within_same}
+use Rattle.esto_semantics.proofs.PlaceLemmas.{Has-within}
 use Rattle.esto_bits.proofs.SetLemmas.{Has-replicate, Has-set}
 
 -- the words keep the set: they are words below its count, and it is the set that they keep
@@ -38,7 +39,7 @@ Has-set_of words count number below = (there, back)
   where
     there : Has (set_of words count) number → bit_of words number ≡ 1
     there has =
-        let small : number < count = subst (λ n. number < n) (length-set_of words count) (beyond (set_of words count) number has) in
+        let small : number < count = subst (λ n. number < n) (length-set_of words count) (Has-within (set_of words count) number has) in
         test-one (bit_of words number) (sym (set_of-at words count number small) ∙ has)
 
     back : bit_of words number ≡ 1 → Has (set_of words count) number

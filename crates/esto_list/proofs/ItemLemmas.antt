@@ -10,7 +10,7 @@ use Rattle.esto_term.specs.declared.term.Term.{Term}
 use Rattle.esto_semantics.specs.declared.fact.Fact.{Fact}
 use Rattle.esto_semantics.specs.Sets.{Has}
 use Rattle.esto_semantics.specs.Listed.{chosen, IsPick}
-use Rattle.esto_semantics.proofs.SetLemmas.{beyond}
+use Rattle.esto_semantics.proofs.PlaceLemmas.{Has-within}
 use Rattle.esto_views.specs.declared.plan.PlanAtom.{PlanAtom}
 use Rattle.esto_views.specs.Plans.{fact_of}
 use Rattle.esto_list.specs.declared.listing.Listed.{Listed}
@@ -120,7 +120,7 @@ module _ (weights : List ℕ) where
       chosen_none (is_in ∷ left) = refl
 
 pub not_beyond : (set : List Bool) (number count : ℕ) → count ≡ length set → count ≤ number → Has set number → ⊥
-not_beyond set number count e past has = let below = beyond set number has in omega (arith, e, past, below)
+not_beyond set number count e past has = let below = Has-within set number has in omega (arith, e, past, below)
 
 -- ---- the sets of the items
 

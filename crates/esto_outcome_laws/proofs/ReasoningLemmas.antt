@@ -32,8 +32,7 @@ use Rattle.esto_semantics.specs.Sets.{AreListedBy}
 use Rattle.esto_semantics.specs.declared.fact.Fact.{Fact}
 use Rattle.esto_semantics.proofs.CandidateLemmas.{chosen-among}
 use Rattle.esto_semantics.proofs.FactLemmas.{Mentions-among}
-use Rattle.esto_semantics.proofs.PlaceLemmas.{chosen-from_Has}
-use Rattle.esto_semantics.proofs.SetLemmas.{beyond}
+use Rattle.esto_semantics.proofs.PlaceLemmas.{chosen-from_Has, Has-within}
 use Rattle.esto_semantics.specs.Queries.{ConjunctiveQuery, IsQuery, IsAnswer}
 use Rattle.esto_semantics.specs.Rules.{Rule, AreRules}
 use Rattle.esto_constraint.specs.Constraints.{rules_of}
@@ -131,7 +130,7 @@ module _ (laws : BelowLaws) (reasoning : ReasoningLaws) (catalogue : Catalogue) 
     part_is_query set has safe = record {
       has_head = has_head;
       has_body = λ none.
-          let at = thing_at instance.body has.some.0 (omega (arith, beyond set has.some.0 has.some.1, has.over)) in
+          let at = thing_at instance.body has.some.0 (omega (arith, Has-within set has.some.0 has.some.1, has.over)) in
           Contains-nil at.0 (subst (λ (atoms : List (Fact Term)). Contains atoms at.0) none (chosen-from_Has set instance.body has.some.0 at.0 has.some.1 at.1));
       flat_head = λ term inside. flat term (inr inside);
       flat_body = λ term inside. flat term (inl (Mentions-among (chosen set instance.body) instance.body term (chosen-among instance set) inside));

@@ -28,8 +28,9 @@ use Rattle.esto_semantics.specs.declared.fact.Value.{Value}
 use Rattle.esto_plan_laws.specs.UnionSets.{AreUnionListed, IsUnionRewriting}
 use Rattle.esto_semantics.proofs.CandidateLemmas.{chosen-among}
 use Rattle.esto_semantics.proofs.FactLemmas.{Mentions-among}
-use Rattle.esto_semantics.proofs.SetLemmas.{beyond, decided_has}
+use Rattle.esto_semantics.proofs.SetLemmas.{decided_has}
 use Rattle.esto_semantics.proofs.TermLemmas.{Const-apart-Plain, decided_term}
+use Rattle.esto_semantics.proofs.PlaceLemmas.{Has-within}
 use Rattle.esto_chase_laws.specs.ReceivedLaws.{StatesAreUniversal, ClashesReceiveNothing}
 use Rattle.esto_chase_laws.specs.RunLaws.{StartsHaveTheBody}
 use Rattle.esto_chase_laws.specs.Runs.{Step, IsEnd, IsRun, IsStart, start_of}
@@ -52,7 +53,7 @@ decided_each P decide (first ∷ rest) = by (decide first) (decided_each P decid
     by (inr not) later = inr (λ all. not (all first (Contains-head first rest)))
 
 pub some_decided : (set : List Bool) → Decided ((number : ℕ) × Has set number)
-some_decided set = decided_as ((λ (number, below, has). (number, has)), (λ (number, has). (number, beyond set number has, has)))
+some_decided set = decided_as ((λ (number, below, has). (number, has)), (λ (number, has). (number, Has-within set number has, has)))
     (decided_below (Has set) (length set) (λ number below. decided_has set number))
 
 executable_decided : PartExists → PartIsOne → ExecutableIsOwnPart → (patterns : Patterns) (atoms : List (Fact Term)) (set : List Bool)

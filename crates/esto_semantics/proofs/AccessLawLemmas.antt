@@ -9,10 +9,11 @@ use Rattle.esto_semantics.specs.Sets.{Has, Within, numbers}
 use Rattle.esto_semantics.specs.Access.{Patterns, IsEarlier, IsStatedOrder, HoldsExecutably, HoldsOfPart}
 use Rattle.esto_semantics.specs.AccessLaws.{NoneIsExecutable, PartIsOne, ExecutableIsOwnPart, PartRises}
 use Rattle.esto_semantics.specs.AccessLaws.{StatedOrderIsOne, NumbersAreStated, RewritingsNeedNoOrder, MinimalOfParts}
-use Rattle.esto_semantics.proofs.SetLemmas.{beyond, within_refl, within_trans, within_same, numbers_have, numbers_rise}
+use Rattle.esto_semantics.proofs.SetLemmas.{within_refl, within_trans, within_same, numbers_have, numbers_rise}
 use Rattle.esto_term.proofs.ListLemmas.{Contains-at, place-from_Contains, thing_at}
 use Rattle.esto_term.proofs.PlaceLemmas.{one_place, same_places}
 use Rattle.esto_semantics.proofs.AccessLemmas.{accessible_more, none_is_order}
+use Rattle.esto_semantics.proofs.PlaceLemmas.{Has-within}
 
 -- ---- laws that need no run
 
@@ -71,7 +72,7 @@ module _ (patterns : Patterns) (atoms : List (Fact Term)) (set : List Bool) wher
     not_below : (number number' : ℕ) → slice_get order place ≡ Some number → slice_get other place ≡ Some number' → number < number' → ⊥
     not_below number number' e d below =
         let has : Has set number = ((stated.is_order).names number).0 (Contains-at order place number e) in
-        let found = thing_at atoms number (subst (λ n. number < n) (stated.is_order).over (beyond set number has)) in
+        let found = thing_at atoms number (subst (λ n. number < n) (stated.is_order).over (Has-within set number has)) in
         not_earlier number e (stated'.least place number' d number found.0 below has found.1
         (accessible_more patterns atoms _ _ earlier_same found.0 ((stated.is_order).accessible place number found.0 e found.1)))
 

@@ -12,7 +12,7 @@ use Rattle.esto_semantics.specs.declared.fact.Fact.{Fact}
 use Rattle.esto_semantics.specs.Sets.{Has, Within}
 use Rattle.esto_semantics.specs.Access.{Patterns, IsAccessible, IsEarlier, IsOrder, IsExecutable}
 use Rattle.esto_semantics.specs.AccessSteps.{IsReady, IsStuck}
-use Rattle.esto_semantics.proofs.SetLemmas.{beyond}
+use Rattle.esto_semantics.proofs.PlaceLemmas.{Has-within}
 use Rattle.esto_term.proofs.ListLemmas.{at_left, at_pushed, Contains-at, Contains-nil, place-from_Contains}
 
 -- ---- earlier numbers
@@ -133,6 +133,6 @@ module _ (patterns : Patterns) (atoms : List (Fact Term)) where
       each zero place l at e = absurd (omega (arith, l))
       each (suc bound) place l at e =
           let there : Has other at = (is_order.names at).0 (Contains-at executable.0 place at e) in
-          stuck at (subst (λ n. at < n) is_order.over (beyond other at there)) (within at there)
+          stuck at (subst (λ n. at < n) is_order.over (Has-within other at there)) (within at there)
           (λ atom d. accessible_more (IsEarlier executable.0 place) (Has part) (λ earlier h. each bound h.0 (omega (arith, h.1, l)) earlier h.2) atom
           (is_order.accessible place at atom e d))

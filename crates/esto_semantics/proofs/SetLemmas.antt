@@ -3,9 +3,8 @@ use Rattle.std.proofs.Common.{◌≡◌, ◌≢◌, ℕ, zero, suc, ◌+◌, ◌
 use Rattle.std.proofs.Common.{inr}
 use Rattle.std.specs.Prelude.{◌⊎◌, ◌↔◌, Contains, AllPairs}
 use Rattle.std.specs.Cmp.{IsTotalOrder}
-use Rattle.std.specs.Ordering.{ordering_then, nat_cmp}
-use Rattle.std.specs.declared.cmp.Ordering.{Ordering}
-use Rattle.std.specs.declared.cmp.Ordering.TheVariants.{Less, Equal, Greater}
+use Rattle.std.specs.Ordering.{nat_cmp}
+use Rattle.std.specs.declared.cmp.Ordering.TheVariants.{Less, Equal}
 use Rattle.std.proofs.lemmas.Bool.{false≢true, cases_Bool, or_cases, or_left, or_right}
 use Rattle.std.proofs.lemmas.Cmp.{nat_cmp_total, nat_list_cmp_total, on_total, then_total, tied_itself}
 use Rattle.std.proofs.lemmas.List.{get_or_default}
@@ -14,16 +13,13 @@ use Rattle.std.proofs.lemmas.Map.Lookups.{exact_bytes}
 use Rattle.esto_semantics.specs.Sets.{Has, Within, numbers_from, numbers, set_cmp, IsMinimal, united, HaveOneCount, AreInOrder, all_sets}
 use Rattle.esto_semantics.specs.SetLaws.{EqualIsSame, NumbersTellSets, WithinBothWays, OrderIsOne, AllSetsAreListed, MinimalAreApart, MinimalCover}
 use Rattle.esto_semantics.specs.SetLaws.{MinimalExist, MinimalAreOne}
+use Rattle.esto_semantics.proofs.PlaceLemmas.{Has-within}
 use Rattle.esto_term.proofs.ChoiceLemmas.{Decided, decided_below, decided_both, decided_not, in_order, kept, not_less_itself, one_list, pairs_append}
-use Rattle.esto_term.proofs.ChoiceLemmas.{pairs_cons, pairs_map}
+use Rattle.esto_term.proofs.ChoiceLemmas.{pairs_cons, pairs_map, same_truth}
 use Rattle.esto_term.proofs.ListLemmas.{Contains-cases, Contains-head, Contains-map, Contains-map_from, Contains-nil, Contains-rest}
+use Rattle.esto_term.proofs.TotalOrderLemmas.{next_equal}
 
 -- ---- numbers of a set
-
-pub beyond : (set : List Bool) (number : ℕ) → Has set number → number < length set
-beyond [] number h = absurd (false≢true h)
-beyond (x ∷ set) zero h = omega arith
-beyond (x ∷ set) (suc number) h = let rest = beyond set number h in omega (arith, rest)
 
 pub decided_has : (set : List Bool) (number : ℕ) → Decided (Has set number)
 decided_has set number = elim (cases_Bool (get_or set number false)) [ inl e ↦ inl e | inr e ↦ inr (λ h. false≢true (sym e ∙ h)) ]
@@ -39,24 +35,19 @@ decided_within set other = elim (decided_below Missing (length set) (λ k l. dec
   | inl found ↦ inr (λ within. found.2.1 (within found.0 found.2.0))
   | inr none ↦ inl (λ number h. elim (decided_has other number) [
     | inl there ↦ there
-    | inr missing ↦ absurd (none (number, beyond set number h, (h, missing)))
+    | inr missing ↦ absurd (none (number, Has-within set number h, (h, missing)))
   ])
 ]
   where
     Missing : ℕ → Type 0
     Missing k = Has set k × (Has other k → ⊥)
 
-same_bool : (x y : Bool) → (x ≡ true → y ≡ true) → (y ≡ true → x ≡ true) → x ≡ y
-same_bool true y f g = sym (f refl)
-same_bool false true f g = g refl
-same_bool false false f g = refl
-
 pub within_same : WithinBothWays
 within_same [] [] e f g = refl
 within_same [] (y ∷ others) e f g = absurd (omega (arith, e))
 within_same (x ∷ set) [] e f g = absurd (omega (arith, e))
 within_same (x ∷ set) (y ∷ others) e f g =
-    ap (λ z. z ∷ set) (same_bool x y (f 0) (g 0)) ∙ ap (λ zs. y ∷ zs) (within_same set others (omega (arith, e)) (λ k. f (suc k)) (λ k. g (suc k)))
+    ap (λ z. z ∷ set) (same_truth x y (f 0) (g 0)) ∙ ap (λ zs. y ∷ zs) (within_same set others (omega (arith, e)) (λ k. f (suc k)) (λ k. g (suc k)))
 
 pub numbers_tell : NumbersTellSets
 numbers_tell set other e same = within_same set other e (λ k. (same k).0) (λ k. (same k).1)
@@ -99,13 +90,8 @@ numbers_rise from (false ∷ set) = numbers_rise (from + 1) set
 pub set_cmp_total : IsTotalOrder set_cmp
 set_cmp_total = then_total (on_total (λ set. length (numbers set)) nat_cmp_total) (on_total numbers nat_list_cmp_total)
 
-second_equal : (a b : Ordering) → ordering_then a b ≡ Equal → b ≡ Equal
-second_equal Less b e = cc
-second_equal Equal b e = e
-second_equal Greater b e = cc
-
 pub equal_numbers : (set other : List Bool) → set_cmp set other ≡ Equal → numbers set ≡ numbers other
-equal_numbers set other e = exact_bytes (numbers set) (numbers other) (second_equal (nat_cmp (length (numbers set)) (length (numbers other))) _ e)
+equal_numbers set other e = exact_bytes (numbers set) (numbers other) (next_equal (nat_cmp (length (numbers set)) (length (numbers other))) _ e)
 
 pub equal_sets : (set other : List Bool) → length set ≡ length other → set_cmp set other ≡ Equal → set ≡ other
 equal_sets set other l e =

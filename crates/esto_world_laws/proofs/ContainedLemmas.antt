@@ -15,8 +15,8 @@ use Rattle.esto_semantics.specs.Queries.{ConjunctiveQuery, IsQuery}
 use Rattle.esto_semantics.specs.Rules.{Rule, AreRules}
 use Rattle.esto_semantics.specs.Sets.{Has}
 use Rattle.esto_semantics.specs.declared.fact.Fact.{Fact}
-use Rattle.esto_semantics.proofs.SetLemmas.{beyond}
 use Rattle.esto_semantics.proofs.TermLemmas.{Const-apart-Made, Const-apart-Plain, decided_term, term_cases}
+use Rattle.esto_semantics.proofs.PlaceLemmas.{Has-within}
 use Rattle.esto_views.specs.Expanded.{Expands, facts_of}
 use Rattle.esto_views.specs.Fragments.{views_of}
 use Rattle.esto_views.specs.Plans.{fact_of as atom_of, plan_query}
@@ -69,7 +69,7 @@ module _ (rules : List Rule) (fragments : List FragmentDef) (plan : Plan) (expan
     λ (number, has, (part, inside, is)).
         let at = place-from_Contains (expands.of.view number).body part inside in
         let whole : ExpandedFact = record { atom = number; place = at.0; fact = fact } in
-        let small : number < length plan.atoms = omega (arith, beyond set number has, over) in
+        let small : number < length plan.atoms = omega (arith, Has-within set number has, over) in
         (are_facts fact).1 (whole, (expands.exact whole).1 (small, (part, at.1, is)), has, refl),
   )
 

@@ -1,9 +1,9 @@
 use Rattle.std.proofs.Common.{sym, ◌∙◌, arith}
 use Rattle.std.proofs.lemmas.Bool.{false≢true}
 use Rattle.std.proofs.lemmas.List.{length-map}
-use Rattle.esto_semantics.proofs.SetLemmas.{beyond}
 use Rattle.esto_views.specs.Fragments.{patterns_of}
 use Rattle.esto_views.specs.Plans.{fact_of}
+use Rattle.esto_semantics.proofs.PlaceLemmas.{Has-within}
 use Rattle.esto_access.proofs.AtomLemmas.{follows}
 use Rattle.esto_access.proofs.atoms.can_follow.Goals.{then-number-len-via-then-number-len, then-number-len-via-else-number-len+then-number-count}
 use Rattle.esto_access.proofs.atoms.can_follow.Goals.{then-number-len-via-else-number-len+else-number-count+then-not-has}
@@ -22,7 +22,7 @@ returns-then-number-len c = (
     | then-number-len-via-then-number-len w ↦
         let same = length-map c.args.plan.now.atoms fact_of in absurd (omega (arith, same, can.there, w.if-number-len.true, c.len.ensures))
     | then-number-len-via-else-number-len+then-number-count w ↦
-        let below = beyond c.args.set.now c.args.number can.chosen in absurd (omega (arith, below, w.if-number-count.true, w.count.ensures))
+        let below = Has-within c.args.set.now c.args.number can.chosen in absurd (omega (arith, below, w.if-number-count.true, w.count.ensures))
     | then-number-len-via-else-number-len+else-number-count+then-not-has w ↦
         absurd (false≢true (sym w.if-not-has.true ∙ w.has.ensures.1 can.chosen))
   ],

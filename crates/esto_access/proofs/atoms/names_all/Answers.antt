@@ -1,7 +1,7 @@
 use Rattle.std.proofs.Common.{Contains, sym, ◌∙◌, refl, arith, below_more}
 use Rattle.std.proofs.lemmas.Bool.{false≢true}
 use Rattle.esto_semantics.specs.Sets.{Has}
-use Rattle.esto_semantics.proofs.SetLemmas.{beyond}
+use Rattle.esto_semantics.proofs.PlaceLemmas.{Has-within}
 use Rattle.esto_access.proofs.atoms.names_all.Goals.{else-has-via-then-has+else-not-is_named, else-has-via-else-has}
 use Rattle.esto_access.proofs.atoms.names_all.Goals as goal
 
@@ -22,7 +22,7 @@ numbers-preserved c =
 pub returns : goal.returns
 returns c = (
   λ _ number has.
-      let below = beyond c.args.set.now number has in
+      let below = Has-within c.args.set.now number has in
       c.numbers.invariant number (omega (arith, below, c.numbers-test.false, c.count-number-end.ensures)) has,
   λ _. refl,
 )

@@ -1,5 +1,5 @@
 use Rattle.std.proofs.Common.{arith, below_more}
-use Rattle.esto_semantics.proofs.SetLemmas.{beyond}
+use Rattle.esto_semantics.proofs.PlaceLemmas.{Has-within}
 use Rattle.esto_backchase.proofs.completion.is_complete.Goals as goal
 
 pub numbers-preserved : goal.numbers-preserved
@@ -7,4 +7,4 @@ numbers-preserved c = below_more _ _ c.numbers.invariant (c.is_supplied.ensures 
 
 pub returns : goal.returns
 returns c = λ _ number has. c.numbers.invariant number
-    (omega (arith, beyond c.args.low.now number has, c.numbers-test.false, c.count-number-end.ensures)) has
+    (omega (arith, Has-within c.args.low.now number has, c.numbers-test.false, c.count-number-end.ensures)) has
