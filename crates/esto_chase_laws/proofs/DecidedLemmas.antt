@@ -22,13 +22,12 @@ use Rattle.esto_semantics.specs.Matches.{IsMatch, IsAtMost, IsActive, HasLeast}
 use Rattle.esto_semantics.specs.Rules.{Rule, tuple, equality, denial, IsRule, body_of, Concludes}
 use Rattle.esto_semantics.specs.declared.fact.Fact.{Fact}
 use Rattle.esto_semantics.proofs.CanonicalLemmas.{Mentions-terms_of}
-use Rattle.esto_semantics.proofs.FactLemmas.{decided_fact, image_agree, SendsInto-agree, Mentions-sent}
+use Rattle.esto_semantics.proofs.FactLemmas.{decided_fact, image_agree, SendsInto-agree, Mentions-sent, decided_sends, Sends-match}
 use Rattle.esto_semantics.proofs.TermLemmas.{term_cases, Const-apart-Plain, Plain-apart-Made, same_term-Decides, decided_term}
 use Rattle.esto_chase_laws.specs.Bounds.{numbers_below}
 use Rattle.esto_chase_laws.specs.RunLaws.{IsDecidedAt, NoMatchIsFinished}
 use Rattle.esto_chase_laws.proofs.MakingLemmas.{terms_of-Mentions}
 use Rattle.esto_chase_laws.proofs.NextLemmas.{side_agrees}
-use Rattle.esto_chase_laws.proofs.ReplacementLemmas.{IsMatch-Sends}
 use Rattle.esto_chase_laws.proofs.StockLemmas.{in_below}
 
 -- ---- what is decided
@@ -142,25 +141,10 @@ Concludes-alike (equality body left right) facts is m other keeps other_keeps ag
 Concludes-alike (denial body) facts is m other keeps other_keeps agree never = never
 
 module _ (facts : List (Fact Term)) where
-  decided_fact_in : (fact : Fact Term) → Decided (Contains facts fact)
-  decided_fact_in fact = decided_contains (decided_fact decided_term) facts fact
-
-  decided_sends : (m : Term → Term) (atoms : List (Fact Term)) → Decided (Sends m atoms facts)
-  decided_sends m [] = inl (λ fact none. absurd (Contains-nil fact none))
-  decided_sends m (first ∷ rest) = by (decided_fact_in (image m first)) (decided_sends m rest)
-    where
-      by : Decided (Contains facts (image m first)) → Decided (Sends m rest facts) → Decided (Sends m (first ∷ rest) facts)
-      by (inl here) (inl later) = inl (λ fact inside. elim (Contains-cases first rest fact inside) [
-        | inl is ↦ subst (λ it. Contains facts (image m it)) is here
-        | inr further ↦ later fact further
-      ])
-      by (inl here) (inr not) = inr (λ sends. not (λ fact inside. sends fact (Contains-rest first rest fact inside)))
-      by (inr not) later = inr (λ sends. not (sends first (Contains-head first rest)))
-
   decided_concludes : (rule : Rule) → IsRule rule → (m : Term → Term) → Keeps Const m → Decided (Concludes Const ◌≡◌ (Contains facts) rule m)
   decided_concludes (tuple body head) is m keeps =
       elim (decided_map facts head is.flat_head (terms_of body) m keeps (λ more. Sends more head facts)
-      (λ more more_keeps. decided_sends more head) (λ more sends. sends)
+      (λ more more_keeps. decided_sends decided_term facts more head) (λ more sends. sends)
       (λ more other more_keeps other_keeps agree sends. SendsInto-agree more other head (Contains facts) agree sends)) [
         | inl found ↦ inl (found.0, found.1, (λ term inside. found.2 term (Mentions-terms_of body term inside)), found.3)
         | inr none ↦ inr (λ concludes.
@@ -233,7 +217,7 @@ module _ (facts : List (Fact Term)) where
         elim (decided_map facts (body_of rule) flat [] (λ term. term) (λ text. refl)
         (λ m. IsMatch m (body_of rule) facts places × (Concludes Const ◌≡◌ (Contains facts) rule m → ⊥))
         (λ m keeps. decided_both (decided_match m (body_of rule) places) (decided_not (decided_concludes rule is m keeps)))
-        (λ m has. IsMatch-Sends m (body_of rule) facts places has.0)
+        (λ m has. Sends-match m (body_of rule) facts places has.0)
         (λ m other keeps other_keeps agree has. (
           match-alike m other (body_of rule) places agree has.0,
           λ concludes. has.1 (Concludes-alike rule facts is other m other_keeps keeps (λ term inside. sym (agree term inside)) concludes),

@@ -13,7 +13,7 @@ use Rattle.esto_semantics.specs.Rules.{Rule, denial, AreRules, Meets}
 use Rattle.esto_semantics.specs.declared.fact.Fact.{Fact}
 use Rattle.esto_semantics.specs.declared.fact.Value.{Value}
 use Rattle.esto_semantics.specs.declared.fact.Value.TheVariants.{Text}
-use Rattle.esto_semantics.proofs.FactLemmas.{Mentions-among, Sends-then}
+use Rattle.esto_semantics.proofs.FactLemmas.{Mentions-among, Sends-then, Sends-match}
 use Rattle.esto_chase_laws.specs.Received.{IsReceivedBy}
 use Rattle.esto_chase_laws.specs.Joined.{joined}
 use Rattle.esto_chase_laws.specs.Runs.{Step, IsRun, IsStart, IsClashed, IsDenied, HasClashed, moved_by, start_of}
@@ -21,7 +21,7 @@ use Rattle.esto_chase_laws.specs.declared.clash.Clash.{Clash}
 use Rattle.esto_chase_laws.specs.declared.clash.Clash.TheVariants.{Equal, Denied}
 use Rattle.esto_chase_laws.proofs.JoinedLemmas.{joined-AreTogether}
 use Rattle.esto_chase_laws.proofs.ReceivedLemmas.{Received, one_value_at}
-use Rattle.esto_chase_laws.proofs.ReplacementLemmas.{IsMatch-Sends, less-apart}
+use Rattle.esto_chase_laws.proofs.ReplacementLemmas.{less-apart}
 use Rattle.esto_chase_laws.proofs.StateLemmas.{Ran, ran}
 
 module _ (rules : List Rule) (are_rules : AreRules rules) (start : ConjunctiveQuery) (is_start : IsStart start)
@@ -62,7 +62,7 @@ module _ (rules : List Rule) (are_rules : AreRules rules) (start : ConjunctiveQu
       let received = all.received m database keeps sends meets in
       let value = received.value in
       let same = one_value_at rules end.body database received.value received.keeps received.sends meets clash.number clash.body clash.left clash.right clash.m
-      clash.is_next.there clash.is_next.active.keeps (IsMatch-Sends clash.m clash.body end.body clash.places clash.is_next.active.matches) in
+      clash.is_next.there clash.is_next.active.keeps (Sends-match clash.m clash.body end.body clash.places clash.is_next.active.matches) in
       let both : received.value (Const one) ≡ received.value (Const other) = elim clash.sides [
         | inl told ↦ sym (ap received.value told.0) ∙ same ∙ ap received.value told.1
         | inr told ↦ sym (ap received.value told.1) ∙ sym same ∙ ap received.value told.0
@@ -75,7 +75,7 @@ module _ (rules : List Rule) (are_rules : AreRules rules) (start : ConjunctiveQu
       → (m : Term → Value) → Keeps Text m → Sends m start.body database → ⊥
   a_denial number stop database meets m keeps sends =
       let received = all.received m database keeps sends meets in
-      let sent = IsMatch-Sends stop.m stop.body end.body stop.places stop.is_next.active.matches in
+      let sent = Sends-match stop.m stop.body end.body stop.places stop.is_next.active.matches in
       meets (denial stop.body) (Contains-at rules number (denial stop.body) stop.is_next.there) (λ term. received.value (stop.m term))
       (λ text. ap received.value (stop.is_next.active.keeps text) ∙ received.keeps text)
       (Sends-then stop.m received.value stop.body end.body database sent received.sends)

@@ -7,8 +7,9 @@ use Rattle.esto_term.proofs.ListLemmas.{Contains-at, Contains-nil, Contains-case
 use Rattle.esto_semantics.specs.Maps.{AreFlat}
 use Rattle.esto_semantics.specs.Queries.{ConjunctiveQuery}
 use Rattle.esto_semantics.specs.Rules.{Rule, equality, AreRules}
+use Rattle.esto_semantics.proofs.FactLemmas.{Sends-match}
 use Rattle.esto_chase_laws.specs.Runs.{Step, added, merged, IsStep, IsRun, begun, went, moved_by}
-use Rattle.esto_chase_laws.proofs.ReplacementLemmas.{IsMatch-Sends, less-apart, replaced-from, replaced-other}
+use Rattle.esto_chase_laws.proofs.ReplacementLemmas.{less-apart, replaced-from, replaced-other}
 use Rattle.esto_chase_laws.proofs.StateLemmas.{mergeable, to_constant, ran}
 
 -- further steps take a term from where the earlier ones took it
@@ -26,7 +27,7 @@ module _ (rules : List Rule) (start : ConjunctiveQuery) (are_rules : AreRules ru
       let kept = (ran rules start are_rules flat trace now run).kept in
       let shape = are_rules (equality is.body is.left is.right) (Contains-at rules number (equality is.body is.left is.right) is.is_next.there) in
       let are = mergeable is.body now.body m is.left is.right to from is.is_next.active.keeps
-      (IsMatch-Sends m is.body now.body places is.is_next.active.matches) shape.left_fixed shape.right_fixed is.sides is.no_constant in
+      (Sends-match m is.body now.body places is.is_next.active.matches) shape.left_fixed shape.right_fixed is.sides is.no_constant in
       let stays : moved_by trace to ≡ to = elim (to_constant now.body is.left is.right to from are) [
         | inl constant ↦ ap (moved_by trace) constant.1 ∙ kept.constants constant.0 ∙ sym constant.1
         | inr inside ↦ kept.fixed to inside

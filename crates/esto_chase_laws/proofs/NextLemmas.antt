@@ -19,7 +19,7 @@ use Rattle.esto_semantics.specs.Matches.{IsMatch, IsAtMost, IsActive}
 use Rattle.esto_semantics.specs.Queries.{ConjunctiveQuery}
 use Rattle.esto_semantics.specs.Rules.{Rule, tuple, equality, denial, body_of, AreRules, MeetsInto}
 use Rattle.esto_semantics.specs.declared.fact.Fact.{Fact}
-use Rattle.esto_semantics.proofs.FactLemmas.{image_agree}
+use Rattle.esto_semantics.proofs.FactLemmas.{image_agree, Sends-match}
 use Rattle.esto_semantics.proofs.TermLemmas.{Const-same}
 use Rattle.esto_chase_laws.specs.Joined.{joined}
 use Rattle.esto_chase_laws.specs.Making.{extended, made_facts}
@@ -28,7 +28,6 @@ use Rattle.esto_chase_laws.specs.Runs.{kind_of, move_of, merge_of, replaced_fact
 use Rattle.esto_chase_laws.specs.declared.clash.Clash.{Clash}
 use Rattle.esto_chase_laws.specs.declared.clash.Clash.TheVariants.{Equal, Denied}
 use Rattle.esto_chase_laws.proofs.MakingLemmas.{extended_agree}
-use Rattle.esto_chase_laws.proofs.ReplacementLemmas.{IsMatch-Sends}
 
 -- ---- two matches that are next are one
 
@@ -230,7 +229,7 @@ same_merge rules are_rules now (merged i m places from to) (merged j other other
 -- where the facts meet a rule it has no active match
 pub met_has_no_match : (rule : Rule) (facts : List (Fact Term)) (m : Term → Term) (places : List ℕ)
     → MeetsInto Const ◌≡◌ (Contains facts) rule → IsActive rule facts m places → ⊥
-met_has_no_match rule facts m places meets active = active.active (meets m active.keeps (IsMatch-Sends m (body_of rule) facts places active.matches))
+met_has_no_match rule facts m places meets active = active.active (meets m active.keeps (Sends-match m (body_of rule) facts places active.matches))
 
 finished_stops : (rules : List Rule) (now : ConjunctiveQuery) (s : Step) (end : ConjunctiveQuery) → IsFinished rules now → IsStep rules now s end → ⊥
 finished_stops rules now s end finished step =

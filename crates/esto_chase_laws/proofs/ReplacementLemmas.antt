@@ -1,5 +1,5 @@
 -- Terms: what a replacement leaves, and how deep lesser terms nest.
-use Rattle.std.proofs.Common.{◌≡◌, ◌≢◌, inl, inr, ℕ, ◌≤◌, List, [], ◌∷◌, Contains, sym, ◌∙◌, subst, arith, refl}
+use Rattle.std.proofs.Common.{◌≡◌, ◌≢◌, inl, inr, ℕ, ◌≤◌, sym, ◌∙◌, arith, refl}
 use Rattle.std.specs.Ordering.{nat_cmp, ordering_then}
 use Rattle.std.specs.declared.cmp.Ordering.{Ordering}
 use Rattle.std.specs.declared.cmp.Ordering.TheVariants.{Less, Equal, Greater}
@@ -9,12 +9,7 @@ use Rattle.esto_term.specs.Order.{term_cmp, replaced}
 use Rattle.esto_term.specs.declared.term.Term.{Term}
 use Rattle.esto_term.specs.declared.term.Term.TheVariants.{Made}
 use Rattle.esto_term.proofs.CompareLemmas.{term_cmp-Equal, term_cmp-Made-Made, term_cmp-Made-Const, term_cmp-Made-Plain}
-use Rattle.esto_term.proofs.ListLemmas.{Contains-nil, Contains-cases, Contains-at}
 use Rattle.esto_term.proofs.NestingLemmas.{nesting-Const, nesting-Plain}
-use Rattle.esto_semantics.specs.Facts.{image}
-use Rattle.esto_semantics.specs.Maps.{Sends}
-use Rattle.esto_semantics.specs.Matches.{IsMatch}
-use Rattle.esto_semantics.specs.declared.fact.Fact.{Fact}
 use Rattle.esto_semantics.proofs.TermLemmas.{term_cases, replaced_cases}
 
 -- ---- a replacement
@@ -55,11 +50,3 @@ pub less-apart : (term other : Term) → term_cmp term other ≡ Less → term �
 less-apart term other less is = let wrong : Less ≡ Equal = sym less ∙ (term_cmp-Equal term other).1 is in cc
 
 -- ---- a match by places sends the body into the facts
-
-pub IsMatch-Sends : (m : Term → Term) (body facts : List (Fact Term)) (places : List ℕ) → IsMatch m body facts places → Sends m body facts
-IsMatch-Sends m [] facts places match atom inside = absurd (Contains-nil atom inside)
-IsMatch-Sends m (first ∷ rest) facts [] match atom inside = absurd match
-IsMatch-Sends m (first ∷ rest) facts (place ∷ places) match atom inside = elim (Contains-cases first rest atom inside) [
-  | inl is ↦ subst (λ it. Contains facts (image m it)) is (Contains-at facts place (image m first) match.0)
-  | inr later ↦ IsMatch-Sends m rest facts places match.1 atom later
-]

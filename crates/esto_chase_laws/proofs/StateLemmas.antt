@@ -18,7 +18,7 @@ use Rattle.esto_semantics.specs.Rules.{Rule, tuple, equality, AreRules, Meets}
 use Rattle.esto_semantics.specs.declared.fact.Fact.{Fact}
 use Rattle.esto_semantics.specs.declared.fact.Value.{Value}
 use Rattle.esto_semantics.specs.declared.fact.Value.TheVariants.{Text}
-use Rattle.esto_semantics.proofs.FactLemmas.{Mentions-sent}
+use Rattle.esto_semantics.proofs.FactLemmas.{Mentions-sent, Sends-match}
 use Rattle.esto_chase_laws.specs.Bounds.{RanksRise, Key, numbers_below, stock_of, width_of, run_terms, run_keys, most_steps}
 use Rattle.esto_chase_laws.specs.Making.{frontier, made_facts}
 use Rattle.esto_chase_laws.specs.Runs.{Step, added, merged, AreSides, IsAdded, IsMerged, IsStep, IsRun, begun, went, moved_by}
@@ -27,7 +27,7 @@ use Rattle.esto_chase_laws.proofs.KeptLemmas.{Kept, Kept-start, Kept-merged, Kep
 use Rattle.esto_chase_laws.proofs.LowLemmas.{Serves, IsLow, AreLow, AreLow-merged, AreLow-added, values_width}
 use Rattle.esto_chase_laws.proofs.MakingLemmas.{frontier_body}
 use Rattle.esto_chase_laws.proofs.ReceivedLemmas.{Received, Received-start, Received-merged, Received-added, one_value_at}
-use Rattle.esto_chase_laws.proofs.ReplacementLemmas.{IsMatch-Sends, less-apart}
+use Rattle.esto_chase_laws.proofs.ReplacementLemmas.{less-apart}
 use Rattle.esto_chase_laws.proofs.StockLemmas.{stock-Serves}
 
 -- ---- where the merges take a term
@@ -141,7 +141,7 @@ module _ (rules : List Rule) (start : ConjunctiveQuery) (are_rules : AreRules ru
       → Ran (trace ++ merged number m places from to ∷ []) next (λ term. replaced from to (moved term))
   Ran-merged trace now next moved ran number m places from to is =
       let same = replaced-AreReplaced from to now.body next.body is.facts in
-      let sends = IsMatch-Sends m is.body now.body places is.is_next.active.matches in
+      let sends = Sends-match m is.body now.body places is.is_next.active.matches in
       let keeps = is.is_next.active.keeps in
       let rule_in = Contains-at rules number (equality is.body is.left is.right) is.is_next.there in
       let shape = are_rules (equality is.body is.left is.right) rule_in in
@@ -190,7 +190,7 @@ module _ (rules : List Rule) (start : ConjunctiveQuery) (are_rules : AreRules ru
       → Ran (trace ++ added number m places ∷ []) next moved
   Ran-added trace now next moved ran number m places is =
       let same = joined-AreTogether now.body (made_facts number is.body is.head m) next.body is.facts in
-      let sends = IsMatch-Sends m is.body now.body places is.is_next.active.matches in
+      let sends = Sends-match m is.body now.body places is.is_next.active.matches in
       let keeps = is.is_next.active.keeps in
       let rule_in = Contains-at rules number (tuple is.body is.head) is.is_next.there in
       let shape = are_rules (tuple is.body is.head) rule_in in
@@ -274,5 +274,5 @@ module _ (rules : List Rule) (start : ConjunctiveQuery) (are_rules : AreRules ru
       let shape = are_rules (tuple is.body is.head) (Contains-at rules number (tuple is.body is.head) is.is_next.there) in
       let fired = all.kept.known (Made number variable (map m (frontier body head))) inside number variable (map m (frontier body head)) refl in
       not_fired rules start now next (moved_by trace) all.gone all.fired all.kept number is.body is.head m shape.flat_head is.is_next.there
-      is.is_next.active.keeps (IsMatch-Sends m is.body now.body places is.is_next.active.matches) is.is_next.active.active
+      is.is_next.active.keeps (Sends-match m is.body now.body places is.is_next.active.matches) is.is_next.active.active
       (subst (λ (it : List (Fact Term) × List (Fact Term)). Contains all.fired (number, map m (frontier it.0 it.1))) (λ i. (sym one i, sym two i)) fired)

@@ -7,7 +7,7 @@ use Rattle.esto_term.specs.declared.term.Term.{Term}
 use Rattle.esto_term.proofs.ListLemmas.{Contains-at, Contains-nil}
 use Rattle.esto_term.proofs.ZipLemmas.{zip_weaker}
 use Rattle.esto_semantics.specs.Facts.{terms_of}
-use Rattle.esto_semantics.specs.Rules.{Rule, IsRule, AreRules, tuple, equality, denial, body_of}
+use Rattle.esto_semantics.specs.Rules.{Rule, AreRules, body_of}
 use Rattle.esto_semantics.specs.declared.fact.Fact.{Fact}
 use Rattle.esto_world_laws.specs.Matches.{AreChosen, Touching, match_map}
 use Rattle.esto_world_laws.specs.Worlds.{InWorld}
@@ -20,6 +20,7 @@ use Rattle.std.specs.List.{AllZip}
 use Rattle.esto_term.proofs.ListLemmas.{Contains-head, Contains-rest}
 use Rattle.esto_term.proofs.PlaceLemmas.{Contains-take, take-item}
 use Rattle.esto_semantics.specs.Sets.{Within}
+use Rattle.esto_semantics.proofs.RuleLemmas.{has_body}
 use Rattle.esto_world_laws.specs.Derived.{Claims, IsNamed}
 use Rattle.esto_world_laws.specs.Matches.{IsDirectMatch}
 use Rattle.esto_world_laws.specs.declared.entry.Claim.{Claim}
@@ -145,11 +146,6 @@ all_old way since facts links facts_are links_are by_facts by_links place inside
 ]
 
 -- ---- from round to round
-
-has_body : (rule : Rule) → IsRule rule → body_of rule ≢ []
-has_body (tuple body head) is = is.has_body
-has_body (equality body left right) is = is.has_body
-has_body (denial body) is = is.has_body
 
 -- before the first round nothing was asked, since no body has a match in no entries
 pub none_answered : (rules : List Rule) (entries : List Entry) → AreRules rules → AreAnswered rules (take 0 entries) entries

@@ -1,5 +1,5 @@
 -- What a step's and a chain's entry names, where the rule and the places are read.
-use Rattle.std.proofs.Common.{◌≡◌, ◌≢◌, ℕ, ◌<◌, ◌≤◌, List, length, take, drop, slice_get, Some, Contains, subst, sym, ap, ◌∙◌, arith, zero, suc, [], ◌∷◌}
+use Rattle.std.proofs.Common.{◌≡◌, ℕ, ◌<◌, ◌≤◌, List, length, take, drop, slice_get, Some, Contains, subst, sym, ap, ◌∙◌, arith, zero, suc, [], ◌∷◌}
 use Rattle.std.specs.List.{AllZip}
 use Rattle.std.proofs.lemmas.List.{length-map, length-take}
 use Rattle.std.proofs.lemmas.Option.{same_Some, slice_get_within}
@@ -9,7 +9,7 @@ use Rattle.esto_term.specs.declared.term.Term.{Term}
 use Rattle.esto_constraint.specs.Constraints.{rule_of, rules_of}
 use Rattle.esto_constraint.specs.declared.rule.Constraint.{Constraint}
 use Rattle.esto_semantics.specs.Facts.{terms_of}
-use Rattle.esto_semantics.specs.Rules.{Rule, IsRule, tuple, equality, denial, body_of}
+use Rattle.esto_semantics.specs.Rules.{Rule, body_of}
 use Rattle.esto_semantics.specs.declared.fact.Fact.{Fact}
 use Rattle.esto_views.specs.declared.expansion.ExpandedFact.{ExpandedFact}
 use Rattle.esto_world_laws.specs.Derived.{AreDerived, Claims, Follows}
@@ -23,11 +23,6 @@ use Rattle.esto_cert.specs.Certificates.{made_at}
 use Rattle.esto_derive.specs.Writing.{terms_at}
 use Rattle.esto_derive.proofs.LoopLemmas.{terms_stated}
 use Rattle.esto_derive.proofs.WriteLemmas.{IsStep, step_of, long_enough, facts_are, named_before, stated_in_all}
-
-pub has_body : (rule : Rule) → IsRule rule → body_of rule ≢ []
-has_body (tuple body head) is = is.has_body
-has_body (equality body left right) is = is.has_body
-has_body (denial body) is = is.has_body
 
 in_drop : (count : ℕ) (xs : List ℕ) (x : ℕ) → Contains (drop count xs) x → Contains xs x
 in_drop zero xs x inside = inside

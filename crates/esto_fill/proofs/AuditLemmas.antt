@@ -10,7 +10,7 @@ use Rattle.std.proofs.lemmas.Cmp.{nat_list_cmp_total}
 use Rattle.std.proofs.lemmas.Option.{same_Some}
 use Rattle.esto_constraint.specs.Matches.{AreMet}
 use Rattle.esto_plan.specs.Rows.{IsRowOf, held_by}
-use Rattle.esto_query.proofs.MatchLemmas.{Sends-match, images_same}
+use Rattle.esto_query.proofs.MatchLemmas.{images_same}
 use Rattle.esto_query.specs.declared.query.Name.{Name}
 use Rattle.esto_run.specs.Stores.{IsFileRow}
 use Rattle.esto_semantics.specs.Facts.{terms_of}
@@ -21,6 +21,7 @@ use Rattle.esto_semantics.specs.Rules.{Rule, AreRules, body_of, Meets}
 use Rattle.esto_semantics.specs.Standing.{RulesStand}
 use Rattle.esto_semantics.specs.declared.fact.Fact.{Fact}
 use Rattle.esto_semantics.specs.declared.fact.Value.TheVariants.{Text}
+use Rattle.esto_semantics.proofs.FactLemmas.{Sends-match}
 use Rattle.esto_stores.specs.Rows.{Row}
 use Rattle.esto_term.specs.declared.term.Term.{Term}
 use Rattle.esto_term.proofs.ListLemmas.{Contains-at, Contains-flat_from, Contains-filter_from, agree-from_map, map_agree}

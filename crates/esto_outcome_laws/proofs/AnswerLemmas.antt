@@ -1,35 +1,21 @@
 -- The answers of a query over finitely many facts stand in a list, and whether it maps to another, head to head, is decided.
-use Rattle.std.proofs.Common.{◌≡◌, inl, inr, ℕ, List, [], ◌∷◌, ◌++◌, map, Contains, refl, sym, ap, ◌∙◌, subst}
+use Rattle.std.proofs.Common.{◌≡◌, inl, inr, ℕ, List, ◌++◌, map, Contains, refl, sym, ap, ◌∙◌, subst}
 use Rattle.std.proofs.lemmas.List.Elements.{Contains-append_cases, Contains-append_left, Contains-append_right}
 use Rattle.esto_term.specs.declared.term.Term.{Term}
 use Rattle.esto_term.specs.declared.term.Term.TheVariants.{Const}
 use Rattle.esto_term.proofs.ChoiceLemmas.{Decided, decided_both, decided_as}
-use Rattle.esto_term.proofs.DistinctLemmas.{decided_contains}
-use Rattle.esto_term.proofs.ListLemmas.{Contains-nil, Contains-rest, Contains-head, Contains-cases, Contains-map, Contains-map_from, Contains-flat, map_agree}
-use Rattle.esto_semantics.specs.Facts.{image, terms_of, Mentions}
+use Rattle.esto_term.proofs.ListLemmas.{Contains-map, Contains-map_from, Contains-flat, map_agree}
+use Rattle.esto_semantics.specs.Facts.{terms_of, Mentions}
 use Rattle.esto_semantics.specs.Instances.{MapsTo}
 use Rattle.esto_semantics.specs.Maps.{AreFlat, IsFlat, IsFixedBy, Keeps, Sends}
 use Rattle.esto_semantics.specs.Queries.{ConjunctiveQuery, IsAnswerInto}
 use Rattle.esto_semantics.specs.declared.fact.Fact.{Fact}
-use Rattle.esto_semantics.proofs.FactLemmas.{decided_fact, SendsInto-agree, Mentions-sent}
+use Rattle.esto_semantics.proofs.FactLemmas.{SendsInto-agree, Mentions-sent, decided_sends}
 use Rattle.esto_semantics.proofs.TermLemmas.{decided_term}
 use Rattle.esto_chase_laws.proofs.MakingLemmas.{terms_of-Mentions}
 use Rattle.esto_reading_laws.proofs.DecisionLemmas.{same_list}
 use Rattle.esto_outcome_laws.proofs.ListedLemmas.{Listed}
 use Rattle.esto_outcome_laws.proofs.MapLemmas.{AreMaps, maps_listed, map_decided}
-
-decided_sends : {V : Type 0} → ((thing other : V) → Decided (thing ≡ other)) → (facts : List (Fact V)) (m : Term → V) (atoms : List (Fact Term))
-    → Decided (Sends m atoms facts)
-decided_sends decide facts m [] = inl (λ fact none. absurd (Contains-nil fact none))
-decided_sends decide facts m (first ∷ rest) = by (decided_contains (decided_fact decide) facts (image m first)) (decided_sends decide facts m rest)
-  where
-    by : Decided (Contains facts (image m first)) → Decided (Sends m rest facts) → Decided (Sends m (first ∷ rest) facts)
-    by (inl here) (inl later) = inl (λ fact inside. elim (Contains-cases first rest fact inside) [
-      | inl is ↦ subst (λ it. Contains facts (image m it)) is here
-      | inr further ↦ later fact further
-    ])
-    by (inl here) (inr not) = inr (λ sends. not (λ fact inside. sends fact (Contains-rest first rest fact inside)))
-    by (inr not) later = inr (λ sends. not (sends first (Contains-head first rest)))
 
 pub mentioned : {V : Type 0} (facts : List (Fact V)) (thing : V) → Mentions facts thing → Contains (terms_of facts) thing
 mentioned {V} facts thing (fact, inside, in_fact) = Contains-flat (λ (fact : Fact V). fact.terms) facts fact thing inside in_fact

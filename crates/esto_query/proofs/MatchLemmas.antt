@@ -19,15 +19,9 @@ use Rattle.esto_query.proofs.MapLemmas.{image_values, changed, changed-here, cha
 use Rattle.esto_query.proofs.ValuationLemmas.{Keeps-map_of, Extends-map_of}
 use Rattle.esto_query.proofs.SoundLemmas.{mentions_decided}
 use Rattle.esto_term.proofs.ChoiceLemmas.{Decided}
-use Rattle.esto_term.proofs.ListLemmas.{Contains-at, Contains-head, Contains-nil, Contains-rest}
+use Rattle.esto_term.proofs.ListLemmas.{Contains-head, Contains-nil, Contains-rest}
 
 -- ---- by places and by membership
-
-pub Sends-match : (m : Term → Term) (body facts : List (Fact Term)) (places : List ℕ) → IsMatch m body facts places → Sends m body facts
-Sends-match m [] facts places match atom inside = absurd (Contains-nil atom inside)
-Sends-match m (a ∷ more) facts [] match atom inside = absurd match
-Sends-match m (a ∷ more) facts (p ∷ ps) match atom (zero, l, e) = subst (λ b. Contains facts (image m b)) e (Contains-at facts p (image m a) match.0)
-Sends-match m (a ∷ more) facts (p ∷ ps) match atom (suc k, l, e) = Sends-match m more facts ps match.1 atom (k, omega arith, e)
 
 pub match-Sends : (m : Term → Term) (body facts : List (Fact Term)) → Sends m body facts → (places : List ℕ) × IsMatch m body facts places
 match-Sends m [] facts sends = ([], tt)

@@ -1,12 +1,16 @@
--- Facts under maps: images, what maps send where, and what facts mention.
-use Rattle.std.proofs.Common.{◌≡◌, ◌⊎◌, inl, inr, List, [], ◌∷◌, ◌++◌, map, length, Contains, refl, sym, ap, subst, arith}
+-- Facts under maps: images, what maps send where, matches, and what facts mention.
+use Rattle.std.proofs.Common.{◌≡◌, ◌⊎◌, inl, inr, List, [], ◌∷◌, ◌++◌, map, length, Contains, refl, sym, ap, subst, arith, ℕ}
 use Rattle.std.proofs.lemmas.Bool.{cases_eq}
 use Rattle.std.proofs.lemmas.List.Elements.{Contains-append_cases}
 use Rattle.esto_semantics.specs.Facts.{image, Mentions}
 use Rattle.esto_semantics.specs.Maps.{SendsInto, Sends}
 use Rattle.esto_semantics.specs.declared.fact.Fact.{Fact}
+use Rattle.esto_semantics.specs.Matches.{IsMatch}
 use Rattle.esto_term.proofs.ChoiceLemmas.{Decided}
 use Rattle.esto_term.proofs.ListLemmas.{Contains-map, Contains-map_from, map_agree, map_itself, map_then}
+use Rattle.esto_term.proofs.ListLemmas.{Contains-at, Contains-cases, Contains-head, Contains-nil, Contains-rest}
+use Rattle.esto_term.proofs.DistinctLemmas.{decided_contains}
+use Rattle.esto_term.specs.declared.term.Term.{Term}
 
 -- ---- the image of a fact
 
@@ -88,3 +92,26 @@ module _ {V : Type 0} (decide : (thing other : V) → Decided (thing ≡ other))
       by (inl is) (inl same) = inl (λ i. record { relation = is i; terms = same i })
       by (inl is) (inr apart) = inr (λ same. apart (ap (λ (it : Fact V). it.terms) same))
       by (inr apart) same = inr (λ is. apart (ap (λ (it : Fact V). it.relation) is))
+
+  -- whether a map sends atoms to facts
+  pub decided_sends : (facts : List (Fact V)) (m : Term → V) (atoms : List (Fact Term)) → Decided (Sends m atoms facts)
+  decided_sends facts m [] = inl (λ fact none. absurd (Contains-nil fact none))
+  decided_sends facts m (first ∷ rest) = by (decided_contains decided_fact facts (image m first)) (decided_sends facts m rest)
+    where
+      by : Decided (Contains facts (image m first)) → Decided (Sends m rest facts) → Decided (Sends m (first ∷ rest) facts)
+      by (inl here) (inl later) = inl (λ fact inside. elim (Contains-cases first rest fact inside) [
+        | inl is ↦ subst (λ it. Contains facts (image m it)) is here
+        | inr further ↦ later fact further
+      ])
+      by (inl here) (inr not) = inr (λ sends. not (λ fact inside. sends fact (Contains-rest first rest fact inside)))
+      by (inr not) later = inr (λ sends. not (sends first (Contains-head first rest)))
+
+-- ---- matches
+
+pub Sends-match : (m : Term → Term) (body facts : List (Fact Term)) (places : List ℕ) → IsMatch m body facts places → Sends m body facts
+Sends-match m [] facts places match atom inside = absurd (Contains-nil atom inside)
+Sends-match m (first ∷ rest) facts [] match atom inside = absurd match
+Sends-match m (first ∷ rest) facts (place ∷ places) match atom inside = elim (Contains-cases first rest atom inside) [
+  | inl is ↦ subst (λ it. Contains facts (image m it)) is (Contains-at facts place (image m first) match.0)
+  | inr later ↦ Sends-match m rest facts places match.1 atom later
+]

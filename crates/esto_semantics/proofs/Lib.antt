@@ -26,3 +26,5 @@ pub mod ListedLemmas
 pub mod WeightLemmas
 pub mod PickLemmas
 pub mod AnsweringLemmas
+pub mod RuleLemmas
+pub mod ValueLemmas

@@ -13,6 +13,7 @@ use Rattle.esto_semantics.specs.Sets.{Has}
 use Rattle.esto_semantics.specs.declared.fact.Fact.{Fact}
 use Rattle.esto_semantics.proofs.CanonicalLemmas.{Mentions-terms_of}
 use Rattle.esto_semantics.proofs.TermLemmas.{Const-apart-Plain, Plain-apart-Made}
+use Rattle.esto_semantics.proofs.RuleLemmas.{has_body}
 use Rattle.esto_chase_laws.specs.Making.{extended}
 use Rattle.esto_chase_laws.proofs.MakingLemmas.{extended-flat, terms_of-Mentions}
 use Rattle.esto_views.specs.declared.expansion.ExpandedFact.{ExpandedFact}
@@ -156,11 +157,6 @@ module _ (expanded : List ExpandedFact) (rules : List Rule) (are_rules : AreRule
     facts_some [] (atom ∷ body) (fact ∷ chosen) full stated are among = absurd stated
     facts_some (place ∷ facts) (atom ∷ body) (fact ∷ chosen) full stated are among =
         place_some place (Stated fact) (among place (Contains-head place facts)) stated.0
-
-    has_body : (rule : Rule) → IsRule rule → body_of rule ≢ []
-    has_body (tuple body head) is = is.has_body
-    has_body (equality body left right) is = is.has_body
-    has_body (denial body) is = is.has_body
 
     step_rests : (number : ℕ) (rule : Rule) → Contains rules rule → (claim : Claim) → FollowsBy entries number rule places claim
         → RestsOn expanded (IsAbout claim) product

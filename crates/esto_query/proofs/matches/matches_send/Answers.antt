@@ -1,4 +1,5 @@
-use Rattle.esto_query.proofs.MatchLemmas.{Sends-match, match-Sends}
+use Rattle.esto_semantics.proofs.FactLemmas.{Sends-match}
+use Rattle.esto_query.proofs.MatchLemmas.{match-Sends}
 use Rattle.esto_query.proofs.matches.matches_send.Goals as goal
 
 pub returns : goal.returns

@@ -6,12 +6,13 @@ use Rattle.esto_constraint.specs.Constraints.{rule_of}
 use Rattle.esto_semantics.specs.Facts.{terms_of}
 use Rattle.esto_semantics.specs.Rules.{Rule}
 use Rattle.esto_semantics.specs.declared.fact.Fact.{Fact}
+use Rattle.esto_semantics.proofs.RuleLemmas.{has_body}
 use Rattle.esto_term.specs.declared.term.Term.{Term}
 use Rattle.esto_cert.specs.declared.line.Line.TheVariants.{Step}
 use Rattle.esto_derive.specs.Printing.{line_text}
 use Rattle.esto_derive.specs.Writing.{AddsNew, lines_at}
 use Rattle.esto_derive.proofs.LoopLemmas.{if_ok_with}
-use Rattle.esto_derive.proofs.UseLemmas.{number_within, rule_there, splits, facts_there, facts_below, links_below, asked, made_by, has_body}
+use Rattle.esto_derive.proofs.UseLemmas.{number_within, rule_there, splits, facts_there, facts_below, links_below, asked, made_by}
 use Rattle.esto_derive.proofs.WriteLemmas.{step_goes}
 use Rattle.esto_derive.proofs.writing.Writer.write_step.Goals as goal
 
