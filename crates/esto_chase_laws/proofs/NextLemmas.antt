@@ -1,9 +1,8 @@
 -- A state has one match that is next, and so one step or one clash.
 use Rattle.std.proofs.Common.{◌≡◌, ◌⊎◌, inl, inr, ℕ, List, [], ◌∷◌, map, Contains, slice_get, Some, refl, sym, ap, ◌∙◌, subst}
+use Rattle.std.specs.Ordering.{ordering_reverse, nat_cmp}
+use Rattle.std.specs.declared.cmp.Ordering.TheVariants.{Less, Greater}
 use Rattle.std.specs.Cmp.Lexicographic.{slice_cmp}
-use Rattle.std.specs.Ordering.{nat_cmp, ordering_reverse}
-use Rattle.std.specs.declared.cmp.Ordering.{Ordering}
-use Rattle.std.specs.declared.cmp.Ordering.TheVariants.{Less, Equal as Same, Greater}
 use Rattle.std.proofs.lemmas.Bool.{cases_order}
 use Rattle.std.proofs.lemmas.Cmp.{nat_list_cmp_total}
 use Rattle.std.proofs.lemmas.Map.Lookups.{exact_bytes}
@@ -12,10 +11,11 @@ use Rattle.esto_term.specs.declared.term.Term.{Term}
 use Rattle.esto_term.specs.declared.term.Term.TheVariants.{Const}
 use Rattle.esto_term.proofs.ListLemmas.{Contains-nil, Contains-cases, Contains-at, map_agree, agree-from_map}
 use Rattle.esto_term.proofs.OrderLemmas.{term_cmp_total}
+use Rattle.esto_term.proofs.TotalOrderLemmas.{at_most_both}
 use Rattle.esto_semantics.specs.Facts.{image}
 use Rattle.esto_semantics.specs.Instances.{IsFinished}
 use Rattle.esto_semantics.specs.Maps.{Keeps, AgreeOn, IsFixedBy}
-use Rattle.esto_semantics.specs.Matches.{IsMatch, IsAtMost, IsActive}
+use Rattle.esto_semantics.specs.Matches.{IsMatch, IsActive}
 use Rattle.esto_semantics.specs.Queries.{ConjunctiveQuery}
 use Rattle.esto_semantics.specs.Rules.{Rule, tuple, equality, denial, body_of, AreRules, MeetsInto}
 use Rattle.esto_semantics.specs.declared.fact.Fact.{Fact}
@@ -30,15 +30,6 @@ use Rattle.esto_chase_laws.specs.declared.clash.Clash.TheVariants.{Equal, Denied
 use Rattle.esto_chase_laws.proofs.MakingLemmas.{extended_agree}
 
 -- ---- two matches that are next are one
-
-at_most_both : (places others : List ℕ) → IsAtMost places others → IsAtMost others places → places ≡ others
-at_most_both places others there back = by (slice_cmp nat_cmp places others) refl (nat_list_cmp_total.antisymm others places)
-  where
-    by : (order : Ordering) → slice_cmp nat_cmp places others ≡ order
-        → slice_cmp nat_cmp others places ≡ ordering_reverse (slice_cmp nat_cmp places others) → places ≡ others
-    by Less told reversed = absurd (back (reversed ∙ ap ordering_reverse told))
-    by Same told reversed = exact_bytes places others told
-    by Greater told reversed = absurd (there told)
 
 either_before : (one : Rule) (i : ℕ) (other : Rule) (j : ℕ) → (i ≡ j) ⊎ (IsTriedBefore one i other j ⊎ IsTriedBefore other j one i)
 either_before one i other j = elim (cases_order (kind_of one) (kind_of other)) [
@@ -90,7 +81,7 @@ module _ (rules : List Rule) (facts : List (Fact Term)) (i j : ℕ) (one two : R
   next_active = subst (λ rule. IsActive rule facts m places) same_rule next.active
 
   pub same_places : places ≡ others
-  same_places = at_most_both places others (next.least other others again_active) (again.least m places next_active)
+  same_places = at_most_both (slice_cmp nat_cmp) nat_list_cmp_total exact_bytes places others (next.least other others again_active) (again.least m places next_active)
 
   pub same_map : AgreeOn ◌≡◌ (body_of one) m other
   same_map =

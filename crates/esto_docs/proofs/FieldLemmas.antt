@@ -1,9 +1,8 @@
 -- The fields of written objects.
-use Rattle.std.proofs.Common.{◌≡◌, ◌≢◌, ◌⊎◌, ◌∙◌, ℕ, List, map, Some, None, inl, inr, refl, sym, ap, nat_cmp, Ordering, Less, Equal, Greater, is_eq}
+use Rattle.std.proofs.Common.{◌≡◌, ◌≢◌, ◌⊎◌, ◌∙◌, ℕ, List, map, Some, None, inl, inr, refl, sym, ap, nat_cmp, Ordering, Less, Equal, Greater}
+use Rattle.std.proofs.lemmas.Map.Lookups.{exact_bytes}
 use Rattle.std.specs.Cmp.Lexicographic.{slice_cmp}
 use Rattle.std.specs.Ordering.{match_ordering}
-use Rattle.std.proofs.lemmas.Map.Text.{is_eq-slice_cmp}
-use Rattle.std.proofs.lemmas.Slice.Eq.{bytes_eq-Decides}
 use Rattle.serde_json.specs.Data.{Data, string, array, object, Items, Members, no_members, member, put}
 use Rattle.esto_docmodel.specs.Forests.{name, Forest, none, Node, node, HasKid}
 use Rattle.esto_docmodel.specs.Shapes.{shape, shape_step, shaped_field, row, named_row}
@@ -51,9 +50,6 @@ field_to q (member k d ms) u (inr h) = inr (field_to q ms u h)
 abbrev pub NoField : List ℕ → Members → Type 0
 NoField k ms = (u : Node) → HasField k ms u → ⊥
 
-same_key : (k l : List ℕ) → slice_cmp nat_cmp k l ≡ Equal → k ≡ l
-same_key k l e = (bytes_eq-Decides k l).0 (sym (is_eq-slice_cmp k l) ∙ ap is_eq e)
-
 -- ---- after a `put`, under another name
 
 other_into : (o : Ordering) (q k l : List ℕ) (d e : Data) (ms more : Members) (u : Node) → slice_cmp nat_cmp k l ≡ o → q ≢ k
@@ -61,7 +57,7 @@ other_into : (o : Ordering) (q k l : List ℕ) (d e : Data) (ms more : Members) 
     → HasField q (match_ordering o (member k d (member l e ms)) (member l d ms) (member l e more)) u → HasField q (member l e ms) u
 other_into Less q k l d e ms more u is n next (inl h) = absurd (n (sym h.0))
 other_into Less q k l d e ms more u is n next (inr h) = h
-other_into Equal q k l d e ms more u is n next (inl h) = absurd (n (sym (same_key k l is ∙ h.0)))
+other_into Equal q k l d e ms more u is n next (inl h) = absurd (n (sym (exact_bytes k l is ∙ h.0)))
 other_into Equal q k l d e ms more u is n next (inr h) = inr h
 other_into Greater q k l d e ms more u is n next (inl h) = inl h
 other_into Greater q k l d e ms more u is n next (inr h) = inr (next h)
@@ -70,7 +66,7 @@ other_from : (o : Ordering) (q k l : List ℕ) (d e : Data) (ms more : Members) 
     → (HasField q ms u → HasField q more u)
     → HasField q (member l e ms) u → HasField q (match_ordering o (member k d (member l e ms)) (member l d ms) (member l e more)) u
 other_from Less q k l d e ms more u is n next h = inr h
-other_from Equal q k l d e ms more u is n next (inl h) = absurd (n (sym (same_key k l is ∙ h.0)))
+other_from Equal q k l d e ms more u is n next (inl h) = absurd (n (sym (exact_bytes k l is ∙ h.0)))
 other_from Equal q k l d e ms more u is n next (inr h) = inr h
 other_from Greater q k l d e ms more u is n next (inl h) = inl h
 other_from Greater q k l d e ms more u is n next (inr h) = inr (next h)
@@ -99,7 +95,7 @@ same_into Greater k l d e ms more u is no_field next (inr h) = next h
 same_from : (o : Ordering) (k l : List ℕ) (d e : Data) (ms more : Members) → slice_cmp nat_cmp k l ≡ o → HasField k more (node_of d)
     → HasField k (match_ordering o (member k d (member l e ms)) (member l d ms) (member l e more)) (node_of d)
 same_from Less k l d e ms more is next = inl (refl, refl)
-same_from Equal k l d e ms more is next = inl (sym (same_key k l is), refl)
+same_from Equal k l d e ms more is next = inl (sym (exact_bytes k l is), refl)
 same_from Greater k l d e ms more is next = inr next
 
 pub put_same_into : (k : List ℕ) (d : Data) (ms : Members) (u : Node) → NoField k ms → HasField k (put k d ms) u → u ≡ node_of d

@@ -9,11 +9,11 @@ use Rattle.std.proofs.lemmas.Cmp.{tied_itself}
 use Rattle.std.proofs.lemmas.Option.{get_or_from_slice_get, same_Some, slice_get_within}
 use Rattle.esto_term.proofs.ChoiceLemmas.{not_less_itself}
 use Rattle.esto_term.proofs.ListLemmas.{Contains-at, place-from_Contains}
+use Rattle.esto_term.proofs.CompareLemmas.{rows_total}
 use Rattle.esto_query.specs.Rows.{IsAscending, row_cmp}
 use Rattle.esto_term.specs.declared.term.Term.{Term}
 use Rattle.esto_fill.specs.Differences.{IsInOne, AreOne}
 use Rattle.esto_fill.specs.Placing.{IsApart}
-use Rattle.esto_fill.proofs.OrderLemmas.{row_cmp_total}
 
 module _ {A : Type 0} (cmp : A → A → Ordering) (total : IsTotalOrder cmp) where
   abbrev Ascend : List A → Type 0
@@ -103,11 +103,11 @@ module _ {A : Type 0} (cmp : A → A → Ordering) (total : IsTotalOrder cmp) wh
 -- ---- rows of terms
 
 module _ (rows others : List (List Term)) (ascends : IsAscending rows) (place : ℕ) (row : List Term) (at : slice_get rows place ≡ Some row)
-    (same : AreSameBelow row_cmp row_cmp_total rows others place)
+    (same : AreSameBelow row_cmp rows_total rows others place)
     (ahead : (later : ℕ) (other : List Term) → place ≤ later → slice_get others later ≡ Some other → row_cmp row other ≡ Less) where
   pub is_apart : IsApart rows others row
   is_apart = record {
     inside = Contains-at rows place row at;
-    outside = outside row_cmp row_cmp_total rows others ascends place row at same ahead;
-    least = least row_cmp row_cmp_total rows others ascends place row at same ahead;
+    outside = outside row_cmp rows_total rows others ascends place row at same ahead;
+    least = least row_cmp rows_total rows others ascends place row at same ahead;
   }

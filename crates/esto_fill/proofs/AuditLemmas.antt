@@ -8,6 +8,7 @@ use Rattle.std.specs.declared.cmp.Ordering.TheVariants.{Greater}
 use Rattle.std.proofs.lemmas.Bool.{cases_order}
 use Rattle.std.proofs.lemmas.Cmp.{nat_list_cmp_total}
 use Rattle.std.proofs.lemmas.Option.{same_Some}
+use Rattle.std.proofs.lemmas.Map.Lookups.{exact_bytes}
 use Rattle.esto_constraint.specs.Matches.{AreMet}
 use Rattle.esto_plan.specs.Rows.{IsRowOf, held_by}
 use Rattle.esto_query.proofs.MatchLemmas.{images_same}
@@ -26,6 +27,7 @@ use Rattle.esto_stores.specs.Rows.{Row}
 use Rattle.esto_term.specs.declared.term.Term.{Term}
 use Rattle.esto_term.proofs.ListLemmas.{Contains-at, Contains-flat_from, Contains-filter_from, agree-from_map, map_agree}
 use Rattle.esto_term.proofs.PlaceLemmas.{Contains-take}
+use Rattle.esto_term.proofs.TotalOrderLemmas.{at_most_both}
 use Rattle.esto_fill.specs.Databases.{database_of}
 use Rattle.esto_fill.specs.Differences.{AreOne, Audits, HoldViewRows, IsFirstApart, IsFirstBroken, IsInOne, IsOfView, at}
 use Rattle.esto_fill.specs.Laws.{AuditsAreOne, AuditsAreOverFiles}
@@ -35,7 +37,7 @@ use Rattle.esto_fill.specs.declared.auditing.Difference.TheVariants.{Rule as Bro
 use Rattle.esto_fill.proofs.DifferenceLemmas.{apart_same, first_rules, meets_met}
 use Rattle.esto_fill.proofs.FilledLemmas.{same_texts}
 use Rattle.esto_fill.proofs.LawLemmas.{once_one}
-use Rattle.esto_fill.proofs.OrderLemmas.{at_most_both, places_exact, texts_exact, texts_total}
+use Rattle.esto_fill.proofs.OrderLemmas.{texts_exact, texts_total}
 use Rattle.esto_fill.proofs.ValueLemmas.{facts_stand}
 
 -- ---- the rules
@@ -79,7 +81,7 @@ module _ (rules : List Rule) (names : List (List Name)) (facts : List (Fact Term
         let active = subst (λ (it : Rule). IsActive it facts one.m one.places) same one.active in
         let least = subst (λ (it : Rule). (m : Term → Term) (others : List ℕ) → IsActive it facts m others → IsAtMost one.places others) same one.least in
         let places : one.places ≡ two.places =
-        at_most_both (slice_cmp nat_cmp) nat_list_cmp_total places_exact one.places two.places (least two.m two.places two.active)
+        at_most_both (slice_cmp nat_cmp) nat_list_cmp_total exact_bytes one.places two.places (least two.m two.places two.active)
         (two.least one.m one.places active) in (
           one.counted ∙ ap suc is ∙ sym two.counted,
           records_one (body_of two.rule) two.own one.m two.m two.places cells its

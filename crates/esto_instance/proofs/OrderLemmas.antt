@@ -1,22 +1,21 @@
 -- The orders of facts and of entries, and an index in order.
-use Rattle.std.proofs.Common.{◌≡◌, ◌≢◌, inl, inr, ℕ, ◌<◌, ◌≤◌, Bool, true, false, List, [], ◌∷◌, length, get_or, ltb, refl, sym, ap, ◌∙◌, subst, Bor, arith}
-use Rattle.std.specs.Cmp.{IsTotalOrder, IsStrictWeakOrder}
+use Rattle.std.proofs.Common.{◌≡◌, ◌≢◌, inl, inr, ℕ, ◌<◌, ◌≤◌, Bool, true, false, List, length, get_or, ltb, refl, sym, ap, ◌∙◌, subst, arith}
+use Rattle.std.specs.Cmp.{IsTotalOrder}
 use Rattle.std.specs.Cmp.Lexicographic.{slice_cmp}
-use Rattle.std.specs.Fn.{Mut, Called, ComparesAs}
-use Rattle.std.specs.List.Sorted.{IsPartitionedBy, IsPartitionPoint, IsSortedBy}
+use Rattle.std.specs.List.Sorted.{IsPartitionedBy, IsPartitionPoint}
 use Rattle.std.specs.Ordering.{nat_cmp, ordering_then, ordering_reverse, is_lt}
 use Rattle.std.specs.declared.cmp.Ordering.{Ordering}
 use Rattle.std.specs.declared.cmp.Ordering.TheVariants.{Less, Equal, Greater}
-use Rattle.std.proofs.lemmas.Bool.{cases_lt, false≢true}
+use Rattle.std.proofs.lemmas.Bool.{cases_lt}
 use Rattle.std.proofs.lemmas.Bool.Decides.{nat_tests}
 use Rattle.std.proofs.lemmas.Cmp.{lists_total, nat_cmp_total, on_total, then_total}
-use Rattle.std.proofs.lemmas.Fn.{always_returns_same}
 use Rattle.std.proofs.lemmas.List.{get_or_default}
-use Rattle.std.proofs.lemmas.List.Sorted.{ranks_by, sorted_far}
 use Rattle.std.proofs.lemmas.Map.Lookups.{exact_unsigned}
 use Rattle.esto_term.specs.Order.{term_cmp}
 use Rattle.esto_term.specs.declared.term.Term.{Term}
-use Rattle.esto_term.proofs.OrderLemmas.{term_cmp_total, term_cmp_exact}
+use Rattle.esto_term.proofs.OrderLemmas.{term_cmp_total}
+use Rattle.esto_term.proofs.TotalOrderLemmas.{both_equal, below, is_less, not_less}
+use Rattle.esto_term.proofs.CompareLemmas.{rows_exact}
 use Rattle.esto_semantics.specs.declared.fact.Fact.{Fact}
 use Rattle.esto_instance.specs.Fresh.{fact_cmp, entry_cmp, IsInOrder, IsFirstRank}
 use Rattle.esto_instance.specs.declared.fresh.Entry.{Entry}
@@ -27,69 +26,19 @@ fact_cmp_total : IsTotalOrder fact_cmp
 fact_cmp_total =
     then_total (on_total (λ (fact : Fact Term). fact.relation) nat_cmp_total) (on_total (λ (fact : Fact Term). fact.terms) (lists_total term_cmp_total))
 
-both_equal : (one two : Ordering) → ordering_then one two ≡ Equal → (one ≡ Equal) × (two ≡ Equal)
-both_equal Less two told = absurd (cc)
-both_equal Equal two told = (refl, told)
-both_equal Greater two told = absurd (cc)
-
-rows_same : (row other : List Term) → slice_cmp term_cmp row other ≡ Equal → row ≡ other
-rows_same [] [] told = refl
-rows_same [] (term ∷ others) told = absurd (cc)
-rows_same (term ∷ row) [] told = absurd (cc)
-rows_same (term ∷ row) (other ∷ others) told =
-    let parts = both_equal (term_cmp term other) (slice_cmp term_cmp row others) told in
-    let first = term_cmp_exact term other parts.0 in
-    let rest = rows_same row others parts.1 in
-    cc
-
 fact_cmp_exact : (fact other : Fact Term) → fact_cmp fact other ≡ Equal → fact ≡ other
 fact_cmp_exact fact other told =
     let parts = both_equal (nat_cmp fact.relation other.relation) (slice_cmp term_cmp fact.terms other.terms) told in
     let relation = exact_unsigned fact.relation other.relation parts.0 in
-    let terms = rows_same fact.terms other.terms parts.1 in
+    let terms = rows_exact fact.terms other.terms parts.1 in
     λ i. record { relation = relation i; terms = terms i }
 
 -- ---- the order of entries
 
-entry_cmp_total : IsTotalOrder entry_cmp
+pub entry_cmp_total : IsTotalOrder entry_cmp
 entry_cmp_total = then_total (on_total (λ (entry : Entry). entry.fact.now) fact_cmp_total) (on_total (λ (entry : Entry). entry.rank) nat_cmp_total)
 
-abbrev entry_lt : Entry → Entry → Bool
-entry_lt entry other = is_lt (entry_cmp entry other)
-
-entries_weak : IsStrictWeakOrder entry_lt
-entries_weak = ranks_by entry_cmp_total (λ (entry : Entry). entry)
-
-not_less : (order : Ordering) → is_lt order ≡ false → order ≢ Less
-not_less order told less = false≢true (sym told ∙ ap is_lt less)
-
-is_less : (order : Ordering) → is_lt order ≡ true → order ≡ Less
-is_less Less told = refl
-is_less Equal told = absurd (false≢true told)
-is_less Greater told = absurd (false≢true told)
-
-from_sorted : (index : List Entry) → IsSortedBy entry_lt index → IsInOrder index
-from_sorted index sorted i j d le lt =
-    not_less (entry_cmp (get_or index j d) (get_or index i d)) (sorted_far entry_lt entries_weak index sorted i j d le lt)
-
-pub from_sort : {F : Type 0} {g : Mut F (Bor Entry × (Bor Entry × Unit {0})) Ordering} {f : F} (index : List Entry)
-    → ((lt : Entry → Entry → Bool) → IsStrictWeakOrder lt → ComparesAs g lt f → IsSortedBy lt index)
-    → ((a : Bor Entry × (Bor Entry × Unit {0})) (r : Ordering) (f' : F) → Called g f a r f' → (r ≡ entry_cmp a.0.now a.1.0.now) × (f' ≡ f))
-    → IsInOrder index
-from_sort {g = g} {f = f} index sorted calls =
-    from_sorted index (sorted entry_lt entries_weak
-    (always_returns_same g (λ a r. is_lt r ≡ is_lt (entry_cmp a.0.now a.1.0.now)) f (λ a r f' k. (ap is_lt (calls a r f' k).0, (calls a r f' k).1))))
-
 -- ---- the first entry of a fact
-
--- what comes no later than something less is less
-below : (one two three : Fact Term) → fact_cmp two one ≢ Less → fact_cmp two three ≡ Less → fact_cmp one three ≡ Less
-below one two three no_later less = by (fact_cmp two one) refl
-  where
-    by : (order : Ordering) → fact_cmp two one ≡ order → fact_cmp one three ≡ Less
-    by Less told = absurd (no_later told)
-    by Equal told = sym (fact_cmp_total.congr two one three told) ∙ less
-    by Greater told = fact_cmp_total.trans one two three (fact_cmp_total.antisymm one two ∙ ap ordering_reverse told) less
 
 equal_by : (fact other : Fact Term) → fact_cmp fact other ≢ Less → fact_cmp other fact ≢ Less → fact ≡ other
 equal_by fact other up down = by (fact_cmp fact other) refl
@@ -128,7 +77,7 @@ module _ (index : List Entry) (fact : Fact Term) (order : IsInOrder index) where
   lesser_parted i j d le lt told =
       let x = get_or index i d in
       let y = get_or index j d in
-      ap is_lt (below x.fact.now y.fact.now fact (facts_rise x y (order i j d le lt)) (is_less (fact_cmp y.fact.now fact) told))
+      ap is_lt (below fact_cmp fact_cmp_total x.fact.now y.fact.now fact (facts_rise x y (order i j d le lt)) (is_less (fact_cmp y.fact.now fact) told))
 
   module _ (first : ℕ) (parted : IsPartitionPoint (λ (entry : Entry). is_lesser entry ≡ true) (λ (entry : Entry). is_lesser entry ≡ false) index first) where
     -- an entry of the fact stands no earlier

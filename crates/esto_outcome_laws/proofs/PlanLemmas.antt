@@ -7,6 +7,7 @@ use Rattle.esto_term.specs.declared.term.Term.TheVariants.{Const}
 use Rattle.esto_term.proofs.ChoiceLemmas.{Decided, in_order}
 use Rattle.esto_term.proofs.DistinctLemmas.{decided_contains}
 use Rattle.esto_term.proofs.ListLemmas.{Contains-nil, Contains-head, Contains-rest, Contains-cases, thing_at}
+use Rattle.esto_term.proofs.CompareLemmas.{rows_total, rows_exact}
 use Rattle.esto_semantics.specs.Maps.{AreFlat, IsConstant, IsFlat}
 use Rattle.esto_semantics.specs.Queries.{ConjunctiveQuery, IsQuery}
 use Rattle.esto_semantics.specs.declared.fact.Fact.{Fact}
@@ -16,7 +17,6 @@ use Rattle.esto_plan_laws.specs.Cores.{with_head, Retracts, AreLeft}
 use Rattle.esto_plan_laws.proofs.LeftLemmas.{left-among}
 use Rattle.esto_query.specs.Rows.{row_cmp}
 use Rattle.esto_query.specs.declared.query.Name.{Name}
-use Rattle.esto_fill.proofs.OrderLemmas.{row_cmp_total, row_cmp_exact}
 use Rattle.esto_views.specs.Plans.{plan_query}
 use Rattle.esto_views.specs.Soundness.{IsSoundPlan}
 use Rattle.esto_views.specs.declared.plan.Plan.{Plan}
@@ -37,7 +37,7 @@ use Rattle.esto_outcome_laws.proofs.AnswerLemmas.{answers_listed, maps_decided}
 view_rows : (view : ConjunctiveQuery) → IsQuery view → (facts : List (Fact Term)) → (rows : List (List Term)) × AreRowsOf view facts rows
 view_rows view is facts =
     let all = answers_listed Const (λ term. term) (λ text. refl) decided_term view is.flat_body is.safe facts in
-    let ordered = in_order row_cmp row_cmp_total all.0 (λ row other one two. row_cmp_exact row other) in (
+    let ordered = in_order row_cmp rows_total all.0 (λ row other one two. rows_exact row other) in (
       ordered.0,
       record {
         exact = λ row. ((λ inside. (all.1 row).0 ((ordered.1 row).0 inside)), (λ is_row. (ordered.1 row).1 ((all.1 row).1 is_row)));

@@ -11,6 +11,7 @@ use Rattle.std.proofs.lemmas.Option.{same_Some, slice_get_within}
 use Rattle.esto_term.specs.declared.term.Term.{Term}
 use Rattle.esto_term.specs.declared.term.Term.TheVariants.{Const}
 use Rattle.esto_term.proofs.ListLemmas.{map_at}
+use Rattle.esto_term.proofs.PlaceLemmas.{earlier_or_last}
 use Rattle.esto_semantics.specs.Facts.{image}
 use Rattle.esto_semantics.specs.Maps.{Keeps}
 use Rattle.esto_semantics.specs.declared.fact.Fact.{Fact}
@@ -24,9 +25,6 @@ use Rattle.esto_query.specs.declared.index.Index.{Index}
 use Rattle.esto_query.specs.declared.table.Entry.{Entry}
 use Rattle.esto_query.proofs.NumberLemmas.{number_is}
 use Rattle.esto_query.proofs.BucketLemmas.{AreRising-more, put_keeps, put_adds, put_rises}
-
-cases_next : (k n : ℕ) → k < n + 1 → (k < n) ⊎ (k ≡ n)
-cases_next k n l = grind arith
 
 cases_lt : (a b : ℕ) → (a < b) ⊎ (b ≤ a)
 cases_lt a b = grind arith
@@ -43,7 +41,7 @@ module _ (fact : Fact Term) (columns : Columns) (names : List Term) (place n : �
   pub AddsTerms-skip : false ≡ is_among columns fact.relation n → AddsTerms fact columns names place (n + 1) old now
   AddsTerms-skip apart = record {
     kept = adds.kept;
-    added = λ column term l there among. elim (cases_next column n l) [
+    added = λ column term l there among. elim (earlier_or_last column n l) [
       | inl before ↦ adds.added column term before there among
       | inr here ↦ absurd (false≢true (apart ∙ ap (is_among columns fact.relation) (sym here) ∙ among))
     ];
@@ -53,7 +51,7 @@ module _ (fact : Fact Term) (columns : Columns) (names : List Term) (place n : �
       → new ≡ now ++ entry_of (key_of fact.relation n number) place ∷ [] → AddsTerms fact columns names place (n + 1) old new
   AddsTerms-put term number new at is grown = record {
     kept = λ entry inside. stays entry (adds.kept entry inside);
-    added = λ column other l there among. elim (cases_next column n l) [
+    added = λ column other l there among. elim (earlier_or_last column n l) [
       | inl before ↦ λ its is_its. stays (entry_of (key_of fact.relation column its) place) (adds.added column other before there among its is_its)
       | inr here ↦ λ its is_its.
           let same : term ≡ other = same_Some term other (sym at ∙ ap (slice_get fact.terms) (sym here) ∙ there) in
@@ -83,7 +81,7 @@ AreInBuckets-none facts relations rising = record { has = λ place fact l. absur
 pub AreInBuckets-next : (facts : List (Fact Term)) (fact : Fact Term) (n : ℕ) (relations new : List (List ℕ)) → slice_get facts n ≡ Some fact
     → 0 < length relations → new ≡ with_place relations fact.relation n → AreInBuckets facts n relations → AreInBuckets facts (n + 1) new
 AreInBuckets-next facts fact n relations new at some grown so_far = record {
-  has = λ place other l there. elim (cases_next place n l) [
+  has = λ place other l there. elim (earlier_or_last place n l) [
     | inl before ↦ put_keeps relations new fact.relation n some grown other.relation place (so_far.has place other before there)
     | inr here ↦
         subst (λ (f : Fact Term). Contains (places_at new f.relation) place) (fact_is facts fact other place n here at there)
@@ -98,7 +96,7 @@ AreListed-none facts columns names terms place column fact term l = absurd (omeg
 pub AreListed-next : (facts : List (Fact Term)) (columns : Columns) (names : List Term) (fact : Fact Term) (n : ℕ) (terms new : List Entry)
     → slice_get facts n ≡ Some fact → AddsTerms fact columns names n (length fact.terms) terms new → AreListed facts columns names n terms
     → AreListed facts columns names (n + 1) new
-AreListed-next facts columns names fact n terms new at adds listed place column other term l stands number is = elim (cases_next place n l) [
+AreListed-next facts columns names fact n terms new at adds listed place column other term l stands number is = elim (earlier_or_last place n l) [
   | inl before ↦ adds.kept (entry_of (key_of other.relation column number) place) (listed place column other term before stands number is)
   | inr here ↦
       subst (λ p. Contains new (entry_of (key_of other.relation column number) p)) (sym here)

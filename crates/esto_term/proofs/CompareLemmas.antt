@@ -1,7 +1,8 @@
--- What the order of terms answers at each two kinds of terms, and that it tells equal terms from others.
+-- What the order of terms answers at each two kinds of terms, and that it tells equal terms from others; rows of terms.
 use Rattle.std.proofs.Common.{Bool, IsTrue, ◌↔◌, subst, ◌≡◌, ℕ, List, refl, sym, ◌∙◌}
-use Rattle.std.specs.Cmp.{Equal-is}
-use Rattle.std.proofs.lemmas.Cmp.{tied_itself}
+use Rattle.std.specs.Cmp.{Equal-is, IsTotalOrder}
+use Rattle.std.proofs.lemmas.Cmp.{tied_itself, lists_total}
+use Rattle.std.proofs.lemmas.Map.Lookups.{CmpEqualImpliesEq}
 use Rattle.std.specs.declared.cmp.Ordering.{Ordering}
 use Rattle.std.specs.declared.cmp.Ordering.TheVariants.{Less, Equal, Greater}
 use Rattle.std.specs.Ordering.{ordering_then, nat_cmp, is_eq}
@@ -12,6 +13,7 @@ use Rattle.esto_term.specs.Nesting.{nesting}
 use Rattle.esto_term.specs.Order.{term_cmp}
 use Rattle.esto_term.proofs.NestingLemmas.{nesting-Made}
 use Rattle.esto_term.proofs.OrderLemmas.{term_cmp-levels, term_cmp_total, term_cmp_exact}
+use Rattle.esto_term.proofs.TotalOrderLemmas.{lists_exact}
 
 -- ---- one comparison after another
 
@@ -94,3 +96,11 @@ equal_tested left right test is = (
   λ holds. term_cmp_exact left right ((Equal-is _).0 (sym is ∙ holds)),
   λ same. is ∙ (Equal-is _).1 (term_cmp-same left right same),
 )
+
+-- ---- rows of terms
+
+pub rows_total : IsTotalOrder (slice_cmp term_cmp)
+rows_total = lists_total term_cmp_total
+
+pub rows_exact : CmpEqualImpliesEq (slice_cmp term_cmp)
+rows_exact = lists_exact term_cmp term_cmp_exact

@@ -47,6 +47,16 @@ below {A} cmp total one two three no_later less = by (cmp two one) refl
     by Equal told = sym (total.congr two one three told) ∙ less
     by Greater told = total.trans one two three (total.antisymm one two ∙ ap ordering_reverse told) less
 
+-- two things of which neither comes after the other are one
+pub at_most_both : {A : Type 0} (cmp : A → A → Ordering) (total : IsTotalOrder cmp) → ((x y : A) → cmp x y ≡ Equal → x ≡ y) → (x y : A) → cmp x y ≢ Greater
+    → cmp y x ≢ Greater → x ≡ y
+at_most_both cmp total exact x y up down = by (cmp x y) refl
+  where
+    by : (order : Ordering) → cmp x y ≡ order → x ≡ y
+    by Less less = absurd (down (total.antisymm y x ∙ ap ordering_reverse less))
+    by Equal same = exact x y same
+    by Greater more = absurd (up more)
+
 -- what is sorted by a total order stands in order: no item comes after a greater one
 pub in_order-sorted : {A : Type 0} {F : Type 0} {g : Mut F (Bor A × (Bor A × Unit {0})) Ordering} {f : F} (cmp : A → A → Ordering) → IsTotalOrder cmp
     → (items : List A)

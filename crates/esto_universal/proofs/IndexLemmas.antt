@@ -1,58 +1,31 @@
 -- The order of entries, the entries of terms, and the first place of a term.
 use Rattle.std.proofs.Common.{◌≡◌, ◌≢◌, inl, inr, ℕ, ◌+◌, ◌<◌, ◌≤◌, Bool, true, false, List, [], ◌∷◌, ◌++◌, length, get_or, ltb, take}
-use Rattle.std.proofs.Common.{slice_get, Contains, None, Some, Option, refl, sym, ap, ◌∙◌, subst, Bor, arith}
+use Rattle.std.proofs.Common.{slice_get, Contains, None, Some, Option, refl, sym, ap, ◌∙◌, subst, arith}
 use Rattle.std.specs.Prelude.{MatchOption}
-use Rattle.std.specs.Cmp.{IsTotalOrder, IsStrictWeakOrder}
-use Rattle.std.specs.Fn.{Mut, Called, ComparesAs}
-use Rattle.std.specs.List.Sorted.{IsPartitionedBy, IsPartitionPoint, IsPermutation, IsSortedBy}
+use Rattle.std.specs.Cmp.{IsTotalOrder}
+use Rattle.std.specs.List.Sorted.{IsPartitionedBy, IsPartitionPoint, IsPermutation}
 use Rattle.std.specs.Ordering.{nat_cmp, ordering_then, ordering_reverse, is_lt, is_eq}
 use Rattle.std.specs.declared.cmp.Ordering.{Ordering}
 use Rattle.std.specs.declared.cmp.Ordering.TheVariants.{Less, Equal, Greater}
 use Rattle.std.proofs.lemmas.Bool.{cases_lt, cases_order, false≢true}
 use Rattle.std.proofs.lemmas.Bool.Decides.{nat_tests}
 use Rattle.std.proofs.lemmas.Cmp.{nat_cmp_total, on_total, then_total}
-use Rattle.std.proofs.lemmas.Fn.{always_returns_same}
 use Rattle.std.proofs.lemmas.List.{get_or_default, length-take}
 use Rattle.std.proofs.lemmas.List.Elements.{Contains-append_left, Contains-push, Contains-push_cases}
-use Rattle.std.proofs.lemmas.List.Sorted.{Contains-permutation, IsPermutation-sym, ranks_by, sorted_far}
+use Rattle.std.proofs.lemmas.List.Sorted.{Contains-permutation, IsPermutation-sym}
 use Rattle.esto_term.specs.Order.{term_cmp}
 use Rattle.esto_term.specs.declared.term.Term.{Term}
 use Rattle.esto_term.proofs.ListLemmas.{Contains-nil, at_left, at_end, at_pushed, place-from_Contains}
 use Rattle.esto_term.proofs.PlaceLemmas.{Contains-take, Contains-take_from, take-item}
 use Rattle.esto_term.proofs.OrderLemmas.{term_cmp_total, term_cmp_exact}
+use Rattle.esto_term.proofs.TotalOrderLemmas.{below, is_less, not_less}
 use Rattle.esto_universal.specs.Indexes.{entry_cmp, AreEntries, IsInOrder, IsIndex, HasNoEntry, IsFirstEntry, IsFirstPlace}
 use Rattle.esto_universal.specs.declared.index.Entry.{Entry}
 
 -- ---- the order of entries
 
-entry_cmp_total : IsTotalOrder entry_cmp
+pub entry_cmp_total : IsTotalOrder entry_cmp
 entry_cmp_total = then_total (on_total (λ (entry : Entry). entry.term.now) term_cmp_total) (on_total (λ (entry : Entry). entry.place) nat_cmp_total)
-
-abbrev entry_lt : Entry → Entry → Bool
-entry_lt entry other = is_lt (entry_cmp entry other)
-
-entries_weak : IsStrictWeakOrder entry_lt
-entries_weak = ranks_by entry_cmp_total (λ (entry : Entry). entry)
-
-not_less : (order : Ordering) → is_lt order ≡ false → order ≢ Less
-not_less order told less = false≢true (sym told ∙ ap is_lt less)
-
-is_less : (order : Ordering) → is_lt order ≡ true → order ≡ Less
-is_less Less told = refl
-is_less Equal told = absurd (false≢true told)
-is_less Greater told = absurd (false≢true told)
-
-from_sorted : (index : List Entry) → IsSortedBy entry_lt index → IsInOrder index
-from_sorted index sorted i j d le lt =
-    not_less (entry_cmp (get_or index j d) (get_or index i d)) (sorted_far entry_lt entries_weak index sorted i j d le lt)
-
-pub from_sort : {F : Type 0} {g : Mut F (Bor Entry × (Bor Entry × Unit {0})) Ordering} {f : F} (index : List Entry)
-    → ((lt : Entry → Entry → Bool) → IsStrictWeakOrder lt → ComparesAs g lt f → IsSortedBy lt index)
-    → ((a : Bor Entry × (Bor Entry × Unit {0})) (r : Ordering) (f' : F) → Called g f a r f' → (r ≡ entry_cmp a.0.now a.1.0.now) × (f' ≡ f))
-    → IsInOrder index
-from_sort {g = g} {f = f} index sorted calls =
-    from_sorted index (sorted entry_lt entries_weak
-    (always_returns_same g (λ a r. is_lt r ≡ is_lt (entry_cmp a.0.now a.1.0.now)) f (λ a r f' k. (ap is_lt (calls a r f' k).0, (calls a r f' k).1))))
 
 -- ---- the entries of terms
 
@@ -94,15 +67,6 @@ entries_moved terms entries index are permuted = record {
 
 -- ---- the first entry of a term
 
--- what comes no later than something less is less
-below : (one two three : Term) → term_cmp two one ≢ Less → term_cmp two three ≡ Less → term_cmp one three ≡ Less
-below one two three no_later less = by (term_cmp two one) refl
-  where
-    by : (order : Ordering) → term_cmp two one ≡ order → term_cmp one three ≡ Less
-    by Less told = absurd (no_later told)
-    by Equal told = sym (term_cmp_total.congr two one three told) ∙ less
-    by Greater told = term_cmp_total.trans one two three (term_cmp_total.antisymm one two ∙ ap ordering_reverse told) less
-
 tied : (term : Term) → term_cmp term term ≡ Equal
 tied term = by (term_cmp term term) refl (term_cmp_total.antisymm term term)
   where
@@ -132,7 +96,7 @@ module _ (index : List Entry) (term : Term) (order : IsInOrder index) where
   lesser_parted i j d le lt told =
       let x = get_or index i d in
       let y = get_or index j d in
-      ap is_lt (below x.term.now y.term.now term (terms_rise x y (order i j d le lt)) (is_less (term_cmp y.term.now term) told))
+      ap is_lt (below term_cmp term_cmp_total x.term.now y.term.now term (terms_rise x y (order i j d le lt)) (is_less (term_cmp y.term.now term) told))
 
   module _ (first : ℕ) (parted : IsPartitionPoint (λ (entry : Entry). is_lesser entry ≡ true) (λ (entry : Entry). is_lesser entry ≡ false) index first) where
     -- an entry of the term stands no earlier

@@ -1,8 +1,8 @@
 use Rattle.esto_query.specs.Rows.{row_cmp}
+use Rattle.esto_term.proofs.CompareLemmas.{rows_total}
 use Rattle.esto_fill.proofs.ApartLemmas.{AreSameBelow}
-use Rattle.esto_fill.proofs.OrderLemmas.{row_cmp_total}
 use Rattle.esto_fill.proofs.apart.first_apart.Given as goal
 
 -- the lists are the same so far
 abbrev pub invariant-rows : goal.invariant-rows
-invariant-rows l = AreSameBelow row_cmp row_cmp_total l.rows l.others l.place
+invariant-rows l = AreSameBelow row_cmp rows_total l.rows l.others l.place
