@@ -13,6 +13,7 @@ use Rattle.esto_semantics.specs.declared.fact.Fact.{Fact}
 use Rattle.esto_semantics.specs.declared.fact.Value.{Value}
 use Rattle.esto_semantics.specs.declared.fact.Value.TheVariants.{Text, Node}
 use Rattle.esto_semantics.proofs.TermLemmas.{decided_term}
+use Rattle.esto_semantics.proofs.ValueLemmas.{Text-same, Text-apart-Node}
 use Rattle.esto_world_laws.specs.Laws.{HasMatch, IsReadAs}
 use Rattle.esto_world_laws.specs.Worlds.{Linked, Reaches, here}
 use Rattle.esto_world_laws.specs.declared.entry.Claim.{Claim}
@@ -24,15 +25,9 @@ abbrev text_of : Value → List ℕ
 text_of (Text text) = text
 text_of (Node node) = []
 
-Text-same : (text other : List ℕ) → Text text ≡ Text other → text ≡ other
-Text-same text other is = ap text_of is
-
 value_cases : (value : Value) → ((text : List ℕ) × (value ≡ Text text)) ⊎ ((node : ℕ) × (value ≡ Node node))
 value_cases (Text text) = inl (text, refl)
 value_cases (Node node) = inr (node, refl)
-
-Text-apart-Node : (text : List ℕ) (node : ℕ) → Text text ≡ Node node → ⊥
-Text-apart-Node text node is = cc
 
 decided_mention : (facts : List (Fact Term)) (term : Term) → Decided (Mentions facts term)
 decided_mention facts term = elim (decided_contains decided_term (terms_of facts) term) [

@@ -11,6 +11,7 @@ use Rattle.esto_semantics.specs.Facts.{Mentions}
 use Rattle.esto_semantics.specs.Maps.{AreFlat, IsFlat}
 use Rattle.esto_semantics.specs.Queries.{ConjunctiveQuery, IsQuery}
 use Rattle.esto_semantics.specs.declared.fact.Fact.{Fact}
+use Rattle.esto_semantics.proofs.TermLemmas.{Plain-same}
 use Rattle.esto_term.specs.declared.term.Term.{Term}
 use Rattle.esto_term.specs.declared.term.Term.TheVariants.{Plain}
 use Rattle.esto_term.proofs.ListLemmas.{Contains-cases, Contains-head, Contains-map, Contains-nil, Contains-one, Contains-rest}
@@ -88,9 +89,6 @@ two_flat first second term inside = elim (two (Plain first) (Plain second) term 
   | inr is ↦ subst IsFlat is (variable second)
 ]
 
-pub same_plain : (number other : ℕ) → Plain number ≡ Plain other → number ≡ other
-same_plain number other same = cc
-
 module _ (relation : ℕ) where
   abbrev view_atom : Fact Term
   view_atom = record { relation = relation; terms = Plain 0 ∷ Plain 1 ∷ [] }
@@ -106,8 +104,8 @@ module _ (relation : ℕ) where
   view_named names many variable (fact, there, inside) =
       let here = subst (λ (it : Fact Term). Contains it.terms (Plain variable)) (sym (Contains-one view_atom fact there)) inside in
       elim (two (Plain 0) (Plain 1) (Plain variable) here) [
-        | inl is ↦ let same = same_plain 0 variable is in omega (arith, many, same)
-        | inr is ↦ let same = same_plain 1 variable is in omega (arith, many, same)
+        | inl is ↦ let same = Plain-same 0 variable is in omega (arith, many, same)
+        | inr is ↦ let same = Plain-same 1 variable is in omega (arith, many, same)
       ]
 
   pub view_sound : (head : List Term) (body : List (Fact Term)) (names : List Name) → head ≡ (made_view relation).head → body ≡ (made_view relation).body
@@ -170,8 +168,8 @@ module _ (relation_of : ℕ → ℕ) (size : ℕ) (some : 0 < size) where
       let found = mapped_from (chain_atom relation_of) size fact there in
       let many = named_below names names_are in
       elim (two (Plain found.0) (Plain (found.0 + 1)) (Plain variable) (subst (λ (it : Fact Term). Contains it.terms (Plain variable)) found.2 inside)) [
-        | inl is ↦ let same = same_plain found.0 variable is in omega (arith, many, same, found.1)
-        | inr is ↦ let same = same_plain (found.0 + 1) variable is in omega (arith, many, same, found.1)
+        | inl is ↦ let same = Plain-same found.0 variable is in omega (arith, many, same, found.1)
+        | inr is ↦ let same = Plain-same (found.0 + 1) variable is in omega (arith, many, same, found.1)
       ]
 
   -- it is a query

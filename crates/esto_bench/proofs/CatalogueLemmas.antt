@@ -23,6 +23,7 @@ use Rattle.esto_semantics.specs.Maps.{IsVariable}
 use Rattle.esto_semantics.specs.Queries.{ConjunctiveQuery}
 use Rattle.esto_semantics.specs.WellFormed.{IsQueryOver}
 use Rattle.esto_semantics.specs.declared.fact.Fact.{Fact}
+use Rattle.esto_semantics.proofs.TermLemmas.{Plain-same}
 use Rattle.esto_term.proofs.ListLemmas.{Contains-at, Contains-cases, Contains-map, Contains-map_from, Contains-nil, Contains-one, map_at, map_then, range_at}
 use Rattle.esto_term.proofs.DistinctLemmas.{distinct_cons, distinct_none}
 use Rattle.esto_term.specs.declared.term.Term.{Term}
@@ -34,7 +35,7 @@ use Rattle.esto_bench.specs.Case.{without_inputs}
 use Rattle.esto_bench.specs.Made.{AreMadeFragments}
 use Rattle.esto_bench.specs.declared.case.TheConstants.{MAX_SIZE}
 use Rattle.esto_bench.proofs.BothLemmas.{both_from, both_long, mapped_from}
-use Rattle.esto_bench.proofs.CaseLemmas.{is_relation_name, numbered_apart, same_plain}
+use Rattle.esto_bench.proofs.CaseLemmas.{is_relation_name, numbered_apart}
 
 -- ---- relations
 
@@ -149,7 +150,7 @@ module _ (size : ℕ) (fragments : List FragmentDef) (are : AreMadeFragments siz
       (distinct_cons (Plain 1) [] (Contains-nil (Plain 1)) distinct_none)
     where
       apart : Plain 1 ≡ Plain 0 → ⊥
-      apart same = omega (arith, same_plain 1 0 same)
+      apart same = omega (arith, Plain-same 1 0 same)
 
   variable_of : (term : Term) → Contains (Plain 0 ∷ Plain 1 ∷ []) term → IsVariable term
   variable_of term inside = elim (Contains-cases (Plain 0) (Plain 1 ∷ []) term inside) [

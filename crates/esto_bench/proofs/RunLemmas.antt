@@ -1,6 +1,6 @@
 -- The made rows as contents of files, and the query's answers over them.
 use Rattle.std.proofs.Common.{◌≡◌, ◌≢◌, ◌↔◌, ◌⊎◌, ◌<◌, ◌+◌, ◌*◌, ◌/◌, ℕ, List, [], ◌∷◌, ◌++◌, map, length, slice_get, Some, None, Contains, All, AllPairs, Err}
-use Rattle.std.proofs.Common.{refl, sym, ap, subst, ◌∙◌, inl, inr, arith, get_or}
+use Rattle.std.proofs.Common.{sym, ap, subst, ◌∙◌, inl, inr, arith, get_or}
 use Rattle.std.specs.Prelude.{codes, IfSome}
 use Rattle.std.specs.Cmp.Lexicographic.{slice_cmp}
 use Rattle.std.specs.Ordering.{nat_cmp}
@@ -29,6 +29,7 @@ use Rattle.esto_semantics.specs.Queries.{IsAnswer}
 use Rattle.esto_semantics.specs.declared.fact.Fact.{Fact}
 use Rattle.esto_semantics.specs.declared.fact.Value.{Value}
 use Rattle.esto_semantics.specs.declared.fact.Value.TheVariants.{Text}
+use Rattle.esto_semantics.proofs.ValueLemmas.{same_texts}
 use Rattle.esto_stores.specs.Rows.{Row}
 use Rattle.esto_stores.specs.Table.{table_rows, table_fault}
 use Rattle.esto_term.proofs.DistinctLemmas.{distinct_map}
@@ -122,21 +123,6 @@ rising_apart rows rises place other fill there within same =
     not_less_itself (slice_cmp (slice_cmp nat_cmp)) (lists_total (lists_total nat_cmp_total)) (get_or rows place fill)
     (subst (λ it. slice_cmp (slice_cmp nat_cmp) (get_or rows place fill) it ≡ Less) (sym same) (rises place other fill there within))
 
-values_apart : (row other : Row) → map Text row ≡ map Text other → row ≡ other
-values_apart [] [] same = refl
-values_apart [] (cell ∷ cells) same = absurd (cc)
-values_apart (cell ∷ cells) [] same = absurd (cc)
-values_apart (cell ∷ cells) (other ∷ others) same =
-    let first : cell ≡ other = first_cell cell other (map Text cells) (map Text others) same in
-    let rest : cells ≡ others = values_apart cells others (rest_cells cell other (map Text cells) (map Text others) same) in
-    λ i. first i ∷ rest i
-  where
-    first_cell : (one other : List ℕ) (rest others : List Value) → Text one ∷ rest ≡ Text other ∷ others → one ≡ other
-    first_cell one other rest others same = cc
-
-    rest_cells : (one other : List ℕ) (rest others : List Value) → Text one ∷ rest ≡ Text other ∷ others → rest ≡ others
-    rest_cells one other rest others same = cc
-
 module _ (over_files : AnswersAreOverFiles) (answers : RewritingsAnswerQueries) (named : ChosenAreNamed) (size : ℕ) (catalogue : Catalogue)
     (made : IsMadeCatalogue size catalogue) (plan : Plan) (over : IsPlanOver plan catalogue.fragments) (item : Listed)
     (is_item : IsItemOfCase size plan item) (opened : List Held) (are : AreOpenedBelow catalogue (2 * size) opened) where
@@ -178,7 +164,7 @@ module _ (over_files : AnswersAreOverFiles) (answers : RewritingsAnswerQueries) 
       → AllPairs ◌≢◌ rows → CountsAnswers size (length rows)
   counted rows exact once = (
     map (map Text) rows,
-    distinct_map (map Text) rows (λ row other inside other_inside same. values_apart row other same) once,
+    distinct_map (map Text) rows (λ row other inside other_inside same. same_texts row other same) once,
     (λ values. (
       (λ inside. let found = Contains-map_from (map Text) rows values inside in
           (law values).1 (found.0, sym found.2, (files found.0).0 ((exact found.0).0 found.1))),

@@ -10,16 +10,11 @@ use Rattle.esto_semantics.specs.Queries.{ConjunctiveQuery}
 use Rattle.esto_semantics.specs.declared.fact.Fact.{Fact}
 use Rattle.esto_semantics.specs.declared.fact.Value.{Value}
 use Rattle.esto_term.proofs.DistinctLemmas.{no_more_than}
+use Rattle.esto_term.proofs.ListLemmas.{first_same, rest_same}
 use Rattle.esto_term.specs.declared.term.Term.{Term}
 use Rattle.esto_universal.specs.PlannedLaws.{PlanOfRunIsOne}
 use Rattle.esto_views.specs.Plans.{fact_of, plan_query}
 use Rattle.esto_bench.specs.Summary.{SummariesAreOne}
-
-first_same : {A : Type 0} (one other : A) (rest others : List A) → one ∷ rest ≡ other ∷ others → one ≡ other
-first_same one other rest others same = cc
-
-rest_same : {A : Type 0} (one other : A) (rest others : List A) → one ∷ rest ≡ other ∷ others → rest ≡ others
-rest_same one other rest others same = cc
 
 -- the sets of a plan's atoms determine the weights
 totals_one : WeightIsOne → (weights : List ℕ) (atoms : List (Fact Term)) (items others : List Listed) → sets_of items ≡ sets_of others

@@ -7,18 +7,13 @@ use Rattle.std.proofs.lemmas.List.{get_or-set_same, get_or-set_other, get_or-rep
 use Rattle.std.proofs.lemmas.List.Elements.{Contains-append_left, Contains-push, Contains-push_cases}
 use Rattle.esto_semantics.specs.Sets.{Has, Within}
 use Rattle.esto_semantics.proofs.PlaceLemmas.{Has-within}
+use Rattle.esto_term.proofs.ChoiceLemmas.{same_truth}
 use Rattle.esto_bits.specs.Kept.{is_within}
 
 -- ---- truth values
 
 pub false-not_true : false ≡ true → ⊥
 false-not_true e = cc
-
--- two truth values that imply one another are equal
-same_truth : (one other : Bool) → (one ≡ true → other ≡ true) → (other ≡ true → one ≡ true) → one ≡ other
-same_truth true other there back = sym (there refl)
-same_truth false true there back = back refl
-same_truth false false there back = refl
 
 -- of two truth values that differ the other is false where the one is true, and true where it is false
 pub other_false : (one other : Bool) → not (beq one other) ≡ true → one ≡ true → other ≡ false

@@ -7,7 +7,7 @@ use Rattle.std.proofs.lemmas.List.{length-map, map-append, take_more}
 use Rattle.std.proofs.lemmas.List.Elements.{Contains-push_cases}
 use Rattle.std.proofs.lemmas.List.FromFn.{length-map-range_with_len, map-range_with_len_more}
 use Rattle.esto_course.specs.Course.{judges, gives, refuses}
-use Rattle.esto_term.proofs.ListLemmas.{Contains-cases, Contains-map_from, Contains-nil}
+use Rattle.esto_term.proofs.ListLemmas.{Contains-cases, Contains-map_from, Contains-nil, map_one}
 use Rattle.esto_read.specs.declared.words.DataModel.{DataModel}
 use Rattle.esto_catalog.specs.Access.{is_usual_input, letter_of, usual_pattern, written_pattern, IsPattern, ArePatterns, IsWeight, allows_access, allows_weight}
 use Rattle.esto_catalog.specs.declared.access.TheConstants.{MAX_PATTERNS, MAX_WEIGHT}
@@ -22,17 +22,6 @@ letter_one true true same = refl
 letter_one true false same = absurd (omega (arith, same))
 letter_one false true same = absurd (omega (arith, same))
 letter_one false false same = refl
-
-map_one : {A B : Type 0} (f : A → B) → ((x y : A) → f x ≡ f y → x ≡ y) → (xs ys : List A) → map f xs ≡ map f ys → xs ≡ ys
-map_one f one [] [] same = refl
-map_one f one [] (y ∷ ys) same = absurd cc
-map_one f one (x ∷ xs) [] same = absurd cc
-map_one f one (x ∷ xs) (y ∷ ys) same =
-    let first : f x ≡ f y = cc in
-    let rest : map f xs ≡ map f ys = cc in
-    let head = one x y first in
-    let tail = map_one f one xs ys rest in
-    λ i. head i ∷ tail i
 
 pattern_one : (pattern other : List Bool) → written_pattern pattern ≡ written_pattern other → pattern ≡ other
 pattern_one = map_one letter_of letter_one

@@ -44,6 +44,7 @@ use Rattle.esto_read.specs.declared.read.NamedQuery.{NamedQuery}
 use Rattle.esto_semantics.specs.Rules.{Rule}
 use Rattle.esto_semantics.specs.declared.fact.Fact.{Fact}
 use Rattle.esto_term.specs.declared.term.Term.{Term}
+use Rattle.esto_term.proofs.ListLemmas.{map_one}
 use Rattle.esto_views.specs.Fragments.{views_of, patterns_of, weights_of}
 use Rattle.esto_views.specs.declared.fragments.FragmentDef.{FragmentDef}
 use Rattle.esto_text.specs.declared.version.Version.{Version}
@@ -550,16 +551,6 @@ error_of bytes (Fault fault) (refused because stops) = stops
 error_of bytes (NotAcyclic cycle) (refused because stops) = stops
 error_of bytes OutOfMemory (refused because stops) = tt
 
-some_names : (names others : List (List ℕ)) → map Some names ≡ map Some others → names ≡ others
-some_names [] [] same = refl
-some_names [] (other ∷ others) same = cc
-some_names (name ∷ names) [] same = cc
-some_names (name ∷ names) (other ∷ others) same =
-    let first : name ≡ other = cc in
-    let rest : map Some names ≡ map Some others = cc in
-    let all = some_names names others rest in
-    λ i. first i ∷ all i
-
 -- the uniqueness of ranks and of least cycles
 abbrev pub HaveOneRanks : Type 0
 HaveOneRanks = (rules : List Rule) (count : ℕ) (ranks others : List ℕ) → AreRanks (IsEdge rules) count ranks → AreRanks (IsEdge rules) count others
@@ -588,7 +579,7 @@ module _ (one_ranks : HaveOneRanks) (one_cycle : HaveOneCycle) (version : Versio
       → cycle ≡ other
   same_cycle cycle other (least, names) (least', names') =
       let relations : cycle.relations ≡ other.relations = one_cycle (all_rules version datasets own) _ _ least least' in
-      let all : cycle.names ≡ other.names = some_names _ _ (names ∙ (ap (map (slice_get (names_of (schema_of datasets)))) relations ∙ sym names')) in
+      let all : cycle.names ≡ other.names = map_one Some same_Some _ _ (names ∙ (ap (map (slice_get (names_of (schema_of datasets)))) relations ∙ sym names')) in
       λ i. record { relations = relations i; names = all i }
 
   ranked_determined : IsDeterminedUpTo AreSameRanked (is_ranked version datasets own)

@@ -2,7 +2,7 @@
 use Rattle.std.proofs.Common.{◌≡◌, ◌↔◌, ℕ, ◌+◌, ◌<◌, List, [], ◌∷◌, ◌++◌, length, map, Some, slice_get, Contains, sym, ap, ◌∙◌, subst}
 use Rattle.std.proofs.lemmas.List.{length-map}
 use Rattle.esto_term.specs.declared.term.Term.{Term}
-use Rattle.esto_term.proofs.ListLemmas.{map_at, map_at-from}
+use Rattle.esto_term.proofs.ListLemmas.{map_at, map_at-from, first_same, rest_same}
 use Rattle.esto_query.specs.Making.{query_of}
 use Rattle.esto_semantics.specs.Expansions.{IsExpansion}
 use Rattle.esto_semantics.specs.Facts.{image}
@@ -22,12 +22,6 @@ use Rattle.esto_cert.specs.Showing.{VerdictsAreMoved}
 
 -- ---- the expanded facts of one plan are those of the other
 
-first_one : {A : Type 0} (one other : A) (rest more : List A) → one ∷ rest ≡ other ∷ more → one ≡ other
-first_one one other rest more same = cc
-
-rest_one : {A : Type 0} (one other : A) (rest more : List A) → one ∷ rest ≡ other ∷ more → rest ≡ more
-rest_one one other rest more same = cc
-
 module _ (fragments others : List FragmentDef) (views : views_of fragments ≡ views_of others) where
   -- the other fragment of the number, whose view is the same
   viewed : (number : ℕ) (fragment : FragmentDef) → slice_get fragments number ≡ Some fragment
@@ -45,7 +39,7 @@ module _ (fragments others : List FragmentDef) (views : views_of fragments ≡ v
   expanded_moved number first [] (atom ∷ again) expanded same is = absurd (cc)
   expanded_moved number first (atom ∷ atoms) [] expanded same is = absurd (cc)
   expanded_moved number first (atom ∷ atoms) (own ∷ again) expanded same (fragment, at, (next, (m, spread, (rest, is, later)))) =
-      let atom_is : atom_of atom ≡ atom_of own = first_one (atom_of atom) (atom_of own) (map atom_of atoms) (map atom_of again) same in
+      let atom_is : atom_of atom ≡ atom_of own = first_same (atom_of atom) (atom_of own) (map atom_of atoms) (map atom_of again) same in
       let (other, at_other, view_is) = viewed atom.fragment fragment at in (
         other,
         subst (λ (it : ℕ). slice_get others it ≡ Some other) (ap (λ (it : Fact Term). it.relation) atom_is) at_other,
@@ -58,7 +52,7 @@ module _ (fragments others : List FragmentDef) (views : views_of fragments ≡ v
             (
               rest,
               is ∙ ap (λ (it : ConjunctiveQuery). placed number 0 (map (image m) it.body) ++ rest) view_is,
-              expanded_moved (number + 1) next atoms again rest (rest_one (atom_of atom) (atom_of own) (map atom_of atoms) (map atom_of again) same)
+              expanded_moved (number + 1) next atoms again rest (rest_same (atom_of atom) (atom_of own) (map atom_of atoms) (map atom_of again) same)
                   later,
             ),
           ),

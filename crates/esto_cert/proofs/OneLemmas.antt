@@ -10,7 +10,7 @@ use Rattle.esto_term.specs.declared.term.Term.{Term}
 use Rattle.esto_term.specs.declared.term.Term.TheVariants.{Plain}
 use Rattle.esto_term.proofs.ChoiceLemmas.{one_list}
 use Rattle.esto_term.proofs.DistinctLemmas.{decided_contains}
-use Rattle.esto_term.proofs.ListLemmas.{agree-from_map, map_agree, map_at, place-from_Contains}
+use Rattle.esto_term.proofs.ListLemmas.{agree-from_map, map_agree, map_at, place-from_Contains, first_same, rest_same}
 use Rattle.esto_constraint.specs.Constraints.{rules_of}
 use Rattle.esto_query.specs.Making.{query_of}
 use Rattle.esto_query.specs.declared.query.Query.{Query}
@@ -86,12 +86,6 @@ module _ (are_queries : (query : Query) → IsQuery (query_of query)) (fragments
       same_Some _ _ (sym (map_at viewed fragments number fragment at) ∙ ap (λ (it : List ConjunctiveQuery). slice_get it number) views
       ∙ map_at viewed others number other at_other)
 
-  first_one : {A : Type 0} (one other : A) (rest more : List A) → one ∷ rest ≡ other ∷ more → one ≡ other
-  first_one one other rest more same = cc
-
-  rest_one : {A : Type 0} (one other : A) (rest more : List A) → one ∷ rest ≡ other ∷ more → rest ≡ more
-  rest_one one other rest more same = cc
-
   pub expanded_one : (number first : ℕ) (atoms again : List PlanAtom) (expanded other : List ExpandedFact) → map atom_of atoms ≡ map atom_of again
       → AreExpanded fragments number first atoms expanded → AreExpanded others number first again other → expanded ≡ other
   expanded_one number first [] [] expanded other same is is_other = is ∙ sym is_other
@@ -99,7 +93,7 @@ module _ (are_queries : (query : Query) → IsQuery (query_of query)) (fragments
   expanded_one number first (atom ∷ atoms) [] expanded other same is is_other = absurd (cc)
   expanded_one number first (atom ∷ atoms) (own ∷ again) expanded other same (fragment, at, (next, (m, spread, (rest, is, later))))
       (fragment_too, at_too, (after, (n, spread_too, (more, is_too, later_too)))) =
-      let atom_is : atom_of atom ≡ atom_of own = first_one (atom_of atom) (atom_of own) (map atom_of atoms) (map atom_of again) same in
+      let atom_is : atom_of atom ≡ atom_of own = first_same (atom_of atom) (atom_of own) (map atom_of atoms) (map atom_of again) same in
       let view_is : query_of fragment.view ≡ query_of fragment_too.view =
       same_view atom.fragment fragment fragment_too at
       (subst (λ (it : ℕ). slice_get others it ≡ Some fragment_too) (sym (ap (λ (it : Fact Term). it.relation) atom_is)) at_too) in
@@ -112,7 +106,7 @@ module _ (are_queries : (query : Query) → IsQuery (query_of query)) (fragments
       let nexts : next ≡ after =
       same_next (query_of fragment.view) (are_queries fragment.view) atom.terms first next after m n spread again_spread in
       let rests : rest ≡ more =
-      expanded_one (number + 1) next atoms again rest more (rest_one (atom_of atom) (atom_of own) (map atom_of atoms) (map atom_of again) same) later
+      expanded_one (number + 1) next atoms again rest more (rest_same (atom_of atom) (atom_of own) (map atom_of atoms) (map atom_of again) same) later
       (subst (λ (it : ℕ). AreExpanded others (number + 1) it again more) (sym nexts) later_too) in
       is ∙ (λ i. placed number 0 (images i) ++ rests i) ∙ sym is_too
 

@@ -1,8 +1,8 @@
 -- What a round adds, step by step.
-use Rattle.std.proofs.Common.{◌≡◌, ◌&&◌, false, ◌<◌, ◌≤◌, ◌+◌, inl, inr, ℕ, Bool, true, cond, List, [], ◌∷◌, ◌++◌, length, map, take, get_or, slice_get, Contains, Some, refl}
+use Rattle.std.proofs.Common.{◌≡◌, ◌<◌, ◌≤◌, ◌+◌, inl, inr, ℕ, Bool, true, cond, List, [], ◌∷◌, ◌++◌, length, map, take, get_or, slice_get, Contains, Some, refl}
 use Rattle.std.proofs.Common.{sym, ap, ◌∙◌, subst, arith}
 use Rattle.std.specs.List.{AllZip}
-use Rattle.std.proofs.lemmas.Bool.{cases_order}
+use Rattle.std.proofs.lemmas.Bool.{cases_order, and_parts}
 use Rattle.std.proofs.lemmas.List.{take_all}
 use Rattle.std.proofs.lemmas.List.Elements.{Contains-append_cases, Contains-append_left, Contains-append_right, Contains-push_cases}
 use Rattle.std.proofs.lemmas.Option.{slice_get_within}
@@ -143,10 +143,6 @@ module _ (rules : List Rule) (number : ℕ) (body head : List (Fact Term)) (at :
 
 -- ---- all ways of a rule
 
-and_second : (one other : Bool) → (one && other) ≡ true → other ≡ true
-and_second true other is = is
-and_second false other is = cc
-
 frontier_head : (body head : List (Fact Term)) (term : Term) → Contains (frontier body head) term → Contains (terms_of head) term
 frontier_head body head term inside = elim (joined_from same_term same_term-Decides (filter (is_variable_of head) (terms_of body)) [] term inside) [
   | inl none ↦ absurd (Contains-nil term none)
@@ -154,7 +150,7 @@ frontier_head body head term inside = elim (joined_from same_term same_term-Deci
 ]
   where
     both : is_variable_of head term ≡ true → is_member same_term (terms_of head) term ≡ true
-    both is = and_second (is_variable_level (out-Term term)) (is_member same_term (terms_of head) term) is
+    both is = (and_parts (is_variable_level (out-Term term)) (is_member same_term (terms_of head) term) is).1
 
 -- what a rule asks for depends on what the terms meet that tell it
 IsAsked-agree : (number : ℕ) (rule : Rule) (m other : Term → Term) → ((term : Term) → Contains (terms_asked rule) term → m term ≡ other term) → (claim : Claim)

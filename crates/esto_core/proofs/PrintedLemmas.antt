@@ -1,16 +1,13 @@
 -- The printed plan: it is one, what cored plans keep of a plan it keeps too, and its head is as long as the query's.
-use Rattle.std.proofs.Common.{◌≡◌, ◌≢◌, Bool, true, false, IsTrue, List, [], ◌∷◌, map, length, sym, ap, subst, ◌∙◌}
+use Rattle.std.proofs.Common.{◌≡◌, ◌≢◌, Bool, true, false, IsTrue, List, [], ◌∷◌, length, sym, ap, subst, ◌∙◌}
 use Rattle.std.proofs.lemmas.Bool.{false≢true}
-use Rattle.std.proofs.lemmas.List.{length-map}
 use Rattle.std.specs.Prelude.{AllPairs}
-use Rattle.esto_term.specs.declared.term.Term.{Term}
-use Rattle.esto_term.proofs.ListLemmas.{Contains-head, Contains-one}
+use Rattle.esto_term.proofs.ListLemmas.{Contains-head, Contains-one, one_length}
 use Rattle.esto_semantics.specs.Containment.{IsSatisfiable}
 use Rattle.esto_semantics.specs.Instances.{MapsTo}
 use Rattle.esto_semantics.specs.Queries.{ConjunctiveQuery}
 use Rattle.esto_semantics.specs.Rules.{Rule}
 use Rattle.esto_semantics.specs.Unions.{ReceivesUnions}
-use Rattle.esto_semantics.specs.declared.fact.Value.{Value}
 use Rattle.esto_plan_laws.specs.CoreLaws.{CoreIsDistinct}
 use Rattle.esto_plan_laws.specs.Cores.{AreLeft, HasNoRetract}
 use Rattle.esto_views.specs.Plans.{plan_query}
@@ -62,12 +59,6 @@ printed_plan-one one cored_one core rules views names query plan other are_rules
     printed-one cored_one core printed.stated again.stated plan other same.0 same.1 printed.printed again.printed
 
 -- ---- the head
-
--- two lists of terms that one row is made of are of one length
-one_length : (one other : Term → Value) (terms others : List Term) (row : List Value) → row ≡ map one terms → row ≡ map other others
-    → length terms ≡ length others
-one_length one other terms others row is is_other =
-    sym (length-map terms one) ∙ sym (ap length is) ∙ ap length is_other ∙ length-map others other
 
 -- the head of a plan that receives unions for a satisfiable query is as long as the query's, since the plan answers what the query answers
 pub same_length-received : (rules : List Rule) (views : List ConjunctiveQuery) (query plan : ConjunctiveQuery) → MapsTo plan plan

@@ -34,6 +34,7 @@ use Rattle.esto_semantics.specs.Unions.{IsUnionAnswer}
 use Rattle.esto_semantics.specs.declared.fact.Fact.{Fact}
 use Rattle.esto_semantics.specs.declared.fact.Value.{Value}
 use Rattle.esto_semantics.specs.declared.fact.Value.TheVariants.{Text, Node}
+use Rattle.esto_semantics.proofs.ValueLemmas.{same_texts}
 use Rattle.esto_stores.specs.Rows.{Row}
 use Rattle.esto_term.proofs.ListLemmas.{Contains-filter, Contains-flat, Contains-flat_from, Contains-map, Contains-map_from}
 use Rattle.esto_term.proofs.ZipLemmas.{zip_left}
@@ -64,9 +65,6 @@ texts_back : (row : Row) → map value_text (map Text row) ≡ row
 unfolding value_text
 texts_back [] = refl
 texts_back (text ∷ row) = ap (λ rest. text ∷ rest) (texts_back row)
-
-same_texts : (row other : Row) → map Text row ≡ map Text other → row ≡ other
-same_texts row other same = sym (texts_back row) ∙ ap (map value_text) same ∙ texts_back other
 
 module _ (answer : RunsAnswerUnions) (catalogue : Catalogue) (queries : List Query) (number : Option ℕ) (members : List Member)
     (are : AreMembersOf catalogue queries members) (others : List ConjunctiveQuery) (chosen : AreChosen number members others) where

@@ -23,6 +23,7 @@ use Rattle.esto_semantics.specs.Standing.{RulesStand}
 use Rattle.esto_semantics.specs.declared.fact.Fact.{Fact}
 use Rattle.esto_semantics.specs.declared.fact.Value.TheVariants.{Text}
 use Rattle.esto_semantics.proofs.FactLemmas.{Sends-match}
+use Rattle.esto_semantics.proofs.ValueLemmas.{same_texts}
 use Rattle.esto_stores.specs.Rows.{Row}
 use Rattle.esto_term.specs.declared.term.Term.{Term}
 use Rattle.esto_term.proofs.ListLemmas.{Contains-at, Contains-flat_from, Contains-filter_from, agree-from_map, map_agree}
@@ -35,7 +36,6 @@ use Rattle.esto_fill.specs.Records.{IsRecordOf, cell_of, is_named, one_at_least}
 use Rattle.esto_fill.specs.declared.auditing.Difference.{Difference}
 use Rattle.esto_fill.specs.declared.auditing.Difference.TheVariants.{Rule as Broken, Missing, Extra}
 use Rattle.esto_fill.proofs.DifferenceLemmas.{apart_same, first_rules, meets_met}
-use Rattle.esto_fill.proofs.FilledLemmas.{same_texts}
 use Rattle.esto_fill.proofs.LawLemmas.{once_one}
 use Rattle.esto_fill.proofs.OrderLemmas.{texts_exact, texts_total}
 use Rattle.esto_fill.proofs.ValueLemmas.{facts_stand}

@@ -1,5 +1,5 @@
 -- The text of a fragment's file, and what it says when it is read.
-use Rattle.std.proofs.Common.{◌≡◌, ◌↔◌, ℕ, Bool, true, false, if◌then◌else◌, List, [], ◌∷◌, ◌++◌, length, map, get_or, Option, None, Some, Contains, refl, sym}
+use Rattle.std.proofs.Common.{◌≡◌, ◌↔◌, ℕ, Bool, true, false, if◌then◌else◌, List, ◌++◌, length, map, get_or, Option, None, Some, Contains, refl, sym}
 use Rattle.std.proofs.Common.{ap, ◌∙◌, subst}
 use Rattle.std.specs.Prelude.{All, IfSome, Ok, Err, drop, nat_eq}
 use Rattle.std.specs.List.{starts_with}
@@ -19,6 +19,7 @@ use Rattle.esto_semantics.specs.Facts.{Database}
 use Rattle.esto_semantics.specs.Queries.{ConjunctiveQuery, IsAnswer}
 use Rattle.esto_semantics.specs.declared.fact.Value.{Value}
 use Rattle.esto_semantics.specs.declared.fact.Value.TheVariants.{Text}
+use Rattle.esto_semantics.proofs.ValueLemmas.{same_texts}
 use Rattle.esto_stores.specs.Keys.{key_rows, key_fault}
 use Rattle.esto_stores.specs.Rows.{Row}
 use Rattle.esto_stores.specs.Table.{table_rows, table_fault}
@@ -40,17 +41,6 @@ mark_dropped text = by (starts_with nat_eq text MARK) refl
     by false told = ap (λ b. if b then drop (length MARK) text else text) told
 
 -- ---- rows
-
--- rows of texts are the same where their values are
-pub same_texts : (row other : Row) → map Text row ≡ map Text other → row ≡ other
-same_texts [] [] same = refl
-same_texts [] (cell ∷ other) same = absurd (cc)
-same_texts (cell ∷ row) [] same = absurd (cc)
-same_texts (cell ∷ row) (its ∷ other) same =
-    let values : Text cell ≡ Text its = cc in
-    let first : cell ≡ its = cc in
-    let rest = same_texts row other cc in
-    λ i. first i ∷ rest i
 
 pub in_rows : (Rows : List Value → Type 0) (rows : List Row) → AreExactly Rows rows → (row : Row) → Contains rows row ↔ Rows (map Text row)
 in_rows Rows rows exact row = (

@@ -24,6 +24,7 @@ use Rattle.esto_semantics.specs.Unions.{IsUnionAnswer}
 use Rattle.esto_semantics.specs.declared.fact.Fact.{Fact}
 use Rattle.esto_semantics.specs.declared.fact.Value.{Value}
 use Rattle.esto_semantics.specs.declared.fact.Value.TheVariants.{Text, Node}
+use Rattle.esto_semantics.proofs.ValueLemmas.{same_texts}
 use Rattle.esto_stores.specs.KeyText.{row_fault}
 use Rattle.esto_stores.specs.Rows.{Row}
 use Rattle.esto_stores.specs.TableText.{table_text}
@@ -40,7 +41,7 @@ use Rattle.esto_fill.specs.declared.filled.FillError.{FillError}
 use Rattle.esto_fill.specs.declared.filled.FillError.TheVariants as filled
 use Rattle.esto_fill.specs.declared.rows.AnswerError.{AnswerError}
 use Rattle.esto_fill.specs.declared.rows.AnswerError.TheVariants as answer
-use Rattle.esto_fill.proofs.FilledLemmas.{in_rows, same_texts}
+use Rattle.esto_fill.proofs.FilledLemmas.{in_rows}
 
 -- ---- facts and faults
 

@@ -1,6 +1,6 @@
 -- The columns in which facts have nodes, and views whose rows have none.
 use Rattle.std.proofs.Common.{◌≡◌, inl, inr, ℕ, Bool, true, false, ◌&&◌, ◌==◌, not, List, [], ◌∷◌, map, slice_get, Contains, refl, sym, ap, ◌∙◌, subst, arith}
-use Rattle.std.proofs.lemmas.Bool.{and_parts, false≢true, or_left, or_right}
+use Rattle.std.proofs.lemmas.Bool.{and_parts, false≢true, or_left, or_right, and_from}
 use Rattle.std.proofs.lemmas.Bool.Decides.{nat_tests}
 use Rattle.std.specs.List.{list_any}
 use Rattle.std.specs.Prelude.{◌||◌}
@@ -24,10 +24,6 @@ pub not_false : (b : Bool) → not b ≡ true → b ≡ false
 not_false true e = absurd (false≢true e)
 not_false false e = refl
 
-true_both : (a b : Bool) → a ≡ true → b ≡ true → (a && b) ≡ true
-true_both true b e f = f
-true_both false b e f = absurd (false≢true e)
-
 module _ (relation column : ℕ) where
   -- whether it is the column
   abbrev is_it : Column → Bool
@@ -44,7 +40,7 @@ module _ (relation column : ℕ) where
   is_told it is =
       let one : it.relation ≡ relation = ap (λ (its : Column). its.relation) is in
       let two : it.column ≡ column = ap (λ (its : Column). its.column) is in
-      true_both (it.relation == relation) (it.column == column) (grind (arith, nat_tests, one)) (grind (arith, nat_tests, two))
+      and_from (it.relation == relation) (it.column == column) (grind (arith, nat_tests, one)) (grind (arith, nat_tests, two))
 
   pub among : (columns : List Column) → list_any (λ it. (it.relation == relation) && (it.column == column)) columns ≡ true
       → Contains columns (column_of relation column)

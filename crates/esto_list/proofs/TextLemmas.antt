@@ -17,7 +17,3 @@ module _ {A : Type 0} (text_of : ℕ → A → List ℕ) (things : List A) (plac
 
   pub each_end : length things ≤ place → text ≡ whole
   each_end past = sym (append-nil text) ∙ ap (λ them. text ++ each_from text_of place them) (sym (drop_all place things past)) ∙ so_far
-
--- two texts that are put at the end
-pub two_more : (text middle more first second : List ℕ) → middle ≡ text ++ first → more ≡ middle ++ second → more ≡ text ++ (first ++ second)
-two_more text middle more first second one two = two ∙ ap (λ it. it ++ second) one ∙ append_assoc text first second

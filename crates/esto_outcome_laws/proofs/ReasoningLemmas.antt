@@ -37,7 +37,7 @@ use Rattle.esto_semantics.specs.Queries.{ConjunctiveQuery, IsQuery, IsAnswer}
 use Rattle.esto_semantics.specs.Rules.{Rule, AreRules}
 use Rattle.esto_constraint.specs.Constraints.{rules_of}
 use Rattle.esto_term.specs.declared.term.Term.{Term}
-use Rattle.esto_term.proofs.ChoiceLemmas.{Decided, decided_as}
+use Rattle.esto_term.proofs.ChoiceLemmas.{Decided, decided_as, decided_each}
 use Rattle.esto_term.proofs.ListLemmas.{Contains-nil, thing_at}
 use Rattle.esto_universal.proofs.PlannedLemmas.{head_stays}
 use Rattle.esto_views.specs.Plans.{plan_query}
@@ -49,7 +49,7 @@ use Rattle.esto_outcome_laws.proofs.AnswerLemmas.{maps_decided}
 use Rattle.esto_outcome_laws.proofs.CourseLemmas.{ends_by, ends_judged, ends_refused, ends_then, judges_accepts, judges_goes}
 use Rattle.esto_outcome_laws.proofs.PlanLemmas.{renamed_exists}
 use Rattle.esto_outcome_laws.proofs.PlannedLemmas.{are_rules, chases}
-use Rattle.esto_outcome_laws.proofs.RewritingLemmas.{decided_each, minimal_listed, some_decided}
+use Rattle.esto_outcome_laws.proofs.RewritingLemmas.{minimal_listed, some_decided}
 
 pub demands_ends : {lack : Type 0} (condition : Type 0) (error : Status) → IsCaused ⊥ error → Decided condition → Ends lack (demands condition error)
 unfolding demands

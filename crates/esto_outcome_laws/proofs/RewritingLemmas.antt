@@ -2,9 +2,9 @@
 use Rattle.std.proofs.Common.{◌≡◌, ◌↔◌, inl, inr, ℕ, ◌<◌, Bool, List, [], ◌∷◌, length, Some, slice_get, Contains, sym, ap}
 use Rattle.std.proofs.Common.{◌∙◌, subst}
 use Rattle.esto_term.specs.declared.term.Term.{Term}
-use Rattle.esto_term.proofs.ChoiceLemmas.{Decided, decided_as, decided_below, kept}
+use Rattle.esto_term.proofs.ChoiceLemmas.{Decided, decided_as, decided_below, kept, decided_each}
 use Rattle.esto_term.proofs.DistinctLemmas.{decided_contains}
-use Rattle.esto_term.proofs.ListLemmas.{Contains-nil, Contains-head, Contains-rest, Contains-cases, Contains-at, Contains-map, Contains-map_from, thing_at}
+use Rattle.esto_term.proofs.ListLemmas.{Contains-nil, Contains-head, Contains-at, Contains-map, Contains-map_from, thing_at}
 use Rattle.esto_semantics.specs.Access.{Patterns, IsExecutable, IsAccessiblePart}
 use Rattle.esto_semantics.specs.AccessLaws.{PartExists, PartIsOne, ExecutableIsOwnPart}
 use Rattle.esto_semantics.specs.Containment.{IsContained}
@@ -39,18 +39,6 @@ use Rattle.esto_reading_laws.proofs.DecisionLemmas.{same_bool, same_list}
 use Rattle.esto_reading_laws.proofs.RuleLemmas.{fixed}
 
 -- ---- what is decided
-
-pub decided_each : {X : Type 0} (P : X → Type 0) → ((x : X) → Decided (P x)) → (xs : List X) → Decided ((x : X) → Contains xs x → P x)
-decided_each P decide [] = inl (λ x none. absurd (Contains-nil x none))
-decided_each P decide (first ∷ rest) = by (decide first) (decided_each P decide rest)
-  where
-    by : Decided (P first) → Decided ((x : _) → Contains rest x → P x) → Decided ((x : _) → Contains (first ∷ rest) x → P x)
-    by (inl here) (inl later) = inl (λ x inside. elim (Contains-cases first rest x inside) [
-      | inl is ↦ subst P is here
-      | inr further ↦ later x further
-    ])
-    by (inl here) (inr not) = inr (λ all. not (λ x inside. all x (Contains-rest first rest x inside)))
-    by (inr not) later = inr (λ all. not (all first (Contains-head first rest)))
 
 pub some_decided : (set : List Bool) → Decided ((number : ℕ) × Has set number)
 some_decided set = decided_as ((λ (number, below, has). (number, has)), (λ (number, has). (number, Has-within set number has, has)))

@@ -4,6 +4,7 @@ use Rattle.std.specs.Fmt.{decimal}
 use Rattle.std.specs.Prelude.{codes}
 use Rattle.std.proofs.lemmas.List.Elements.{All-head, All-tail}
 use Rattle.esto_term.specs.declared.term.Term.{Term}
+use Rattle.esto_term.proofs.ListLemmas.{first_same, rest_same}
 use Rattle.esto_list.specs.Items.{sets_of, totals_of, IsPickOf}
 use Rattle.esto_list.specs.Names.{met_atoms, met_terms}
 use Rattle.esto_list.specs.Text.{each_from, fragment_name, atom_line, terms_text, count_line, item_line, pick_line, list_text}
@@ -26,12 +27,6 @@ use Rattle.esto_planning.specs.Alike.{ItemsAreOne, ListTextIsMoved, ListTextIsOn
 
 same_item : (item other : Listed) → item.set ≡ other.set → item.order ≡ other.order → item.weight ≡ other.weight → item ≡ other
 same_item item other set order weight = λ i. record { set = set i; order = order i; weight = weight i }
-
-pub first_same : {A : Type 0} (one other : A) (rest others : List A) → one ∷ rest ≡ other ∷ others → one ≡ other
-first_same one other rest others same = cc
-
-pub rest_same : {A : Type 0} (one other : A) (rest others : List A) → one ∷ rest ≡ other ∷ others → rest ≡ others
-rest_same one other rest others same = cc
 
 module _ (one_order : StatedOrderIsOne) (one_weight : WeightIsOne) (patterns : Patterns) (weights : List ℕ) (atoms : List (Fact Term)) where
   abbrev pub HasOrder : Listed → Type 0

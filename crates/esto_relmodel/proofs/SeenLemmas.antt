@@ -1,6 +1,6 @@
 -- Rows found by a test that tells which rows are the same.
-use Rattle.std.proofs.Common.{inl, inr, ◌≡◌, ℕ, Bool, true, false, ◌&&◌, cond, not, List, [], ◌∷◌, ◌++◌, map, Contains, refl, sym, ap, ◌∙◌, subst}
-use Rattle.std.proofs.lemmas.Bool.{and_parts, false≢true}
+use Rattle.std.proofs.Common.{inl, inr, ◌≡◌, ℕ, Bool, true, false, cond, not, List, [], ◌∷◌, ◌++◌, map, Contains, refl, sym, ap, ◌∙◌, subst}
+use Rattle.std.proofs.lemmas.Bool.{and_parts, false≢true, and_from}
 use Rattle.std.proofs.lemmas.List.{map-append}
 use Rattle.std.proofs.lemmas.Slice.Eq.{bytes_eq-Decides}
 use Rattle.std.specs.Bool.{Decides}
@@ -12,10 +12,6 @@ use Rattle.esto_term.proofs.ListLemmas.{Contains-cases, Contains-head, Contains-
 use Rattle.esto_relmodel.specs.Once.{IsAdded}
 
 -- ---- the test of two rows
-
-true_both : (a b : Bool) → a ≡ true → b ≡ true → (a && b) ≡ true
-true_both true b e f = f
-true_both false b e f = absurd (false≢true e)
 
 module _ {C : Type 0} (bytes : C → List ℕ) where
   same_from : (xs ys : List C) → pointwise (λ x y. bytes_eq (bytes x) (bytes y)) xs ys ≡ true → map bytes xs ≡ map bytes ys
@@ -41,7 +37,7 @@ module _ {C : Type 0} (bytes : C → List ℕ) where
   from_same [] [] same = refl
   from_same [] (y ∷ ys) same = absurd (no_cons same)
   from_same (x ∷ xs) [] same = absurd (no_cons (sym same))
-  from_same (x ∷ xs) (y ∷ ys) same = true_both (bytes_eq (bytes x) (bytes y)) (pointwise (λ a b. bytes_eq (bytes a) (bytes b)) xs ys)
+  from_same (x ∷ xs) (y ∷ ys) same = and_from (bytes_eq (bytes x) (bytes y)) (pointwise (λ a b. bytes_eq (bytes a) (bytes b)) xs ys)
       ((bytes_eq-Decides (bytes x) (bytes y)).1 (heads same)) (from_same xs ys (tails same))
 
   -- whether the cells of one row are those of another, whose cells are known

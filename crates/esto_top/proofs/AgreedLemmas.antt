@@ -28,11 +28,11 @@ use Rattle.esto_semantics.specs.Queries.{ConjunctiveQuery}
 use Rattle.esto_semantics.specs.declared.fact.Fact.{Fact}
 use Rattle.esto_semantics.specs.declared.fact.Value.{Value}
 use Rattle.esto_semantics.specs.declared.fact.Value.TheVariants.{Text}
+use Rattle.esto_semantics.proofs.ValueLemmas.{same_texts}
 use Rattle.esto_stores.specs.Rows.{Row}
 use Rattle.esto_term.specs.declared.term.Term.{Term}
 use Rattle.esto_views.specs.Fragments.{views_of}
 use Rattle.esto_views.specs.Plans.{plan_query}
-use Rattle.esto_fill.proofs.FilledLemmas.{same_texts}
 use Rattle.esto_top.specs.DataOutcomes.{OutcomesAgree}
 use Rattle.esto_top.specs.Outcome.{Says}
 use Rattle.esto_top.specs.Outcome.Says.{replies, refuses}

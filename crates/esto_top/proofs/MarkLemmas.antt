@@ -11,9 +11,7 @@ use Rattle.esto_cert.specs.declared.line.Line.{Line}
 use Rattle.esto_fill.specs.Filled.{without_mark}
 use Rattle.esto_opening.specs.Fetch.{HasWithin}
 use Rattle.esto_ports.specs.Files.{Files, Holds}
-
-first_one : {A : Type 0} (one other : A) (more others : List A) → one ∷ more ≡ other ∷ others → one ≡ other
-first_one one other more others same = cc
+use Rattle.esto_term.proofs.ListLemmas.{first_same}
 
 no_first : {A : Type 0} (one : A) (more : List A) → [] ≡ one ∷ more → ⊥
 no_first one more same = cc
@@ -43,11 +41,11 @@ not_first rest (part ∷ parts) line lines are say = by (slice_split (λ byte. b
   where
     begins : (other : List ℕ) → 239 ∷ other ≡ part → ⊥
     begins other is = none-some line
-        (sym (part_apart other) ∙ ap line_of is ∙ first_one (line_of part) (Some line) (map line_of parts) (map Some lines) say)
+        (sym (part_apart other) ∙ ap line_of is ∙ first_same (line_of part) (Some line) (map line_of parts) (map Some lines) say)
 
     by : (others : List (List ℕ)) → onto_first 239 others ≡ (part ∷ parts) ++ [] ∷ [] → ⊥
-    by [] is = begins [] (first_one (239 ∷ []) part [] (parts ++ [] ∷ []) is)
-    by (first ∷ others) is = begins first (first_one (239 ∷ first) part others (parts ++ [] ∷ []) is)
+    by [] is = begins [] (first_same (239 ∷ []) part [] (parts ++ [] ∷ []) is)
+    by (first ∷ others) is = begins first (first_same (239 ∷ first) part others (parts ++ [] ∷ []) is)
 
 unmarked : (bytes : List ℕ) (parts : List (List ℕ)) (line : Line) (lines : List Line) → slice_split (λ byte. byte == 10) bytes ≡ parts ++ [] ∷ []
     → map line_of parts ≡ map Some (line ∷ lines) → starts_with nat_eq bytes (239 ∷ 187 ∷ 191 ∷ []) ≡ false

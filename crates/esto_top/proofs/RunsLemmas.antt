@@ -25,6 +25,7 @@ use Rattle.esto_semantics.specs.Queries.{ConjunctiveQuery, IsAnswer}
 use Rattle.esto_semantics.specs.Rules.{Meets}
 use Rattle.esto_semantics.specs.declared.fact.Fact.{Fact}
 use Rattle.esto_semantics.specs.declared.fact.Value.TheVariants.{Text}
+use Rattle.esto_semantics.proofs.ValueLemmas.{same_texts}
 use Rattle.esto_stores.specs.Rows.{Row}
 use Rattle.esto_term.specs.declared.term.Term.{Term}
 use Rattle.esto_views.specs.Fragments.{views_of, patterns_of}
@@ -34,7 +35,6 @@ use Rattle.esto_opening.specs.Answers.{IsCaused}
 use Rattle.esto_opening.specs.Fragments.{IsReadableFragment, opens_fragments}
 use Rattle.esto_opening.specs.Readable.{AreReadable, OpenedAreReadable, ReadableAreOpened, TellsOfFile}
 use Rattle.esto_opening.specs.Readable.TellsOfFile.{fails, is_longer, has_fault}
-use Rattle.esto_fill.proofs.FilledLemmas.{same_texts}
 use Rattle.esto_data.proofs.AlikeLemmas.{same_rows_text}
 use Rattle.esto_opening.proofs.StatusLemmas.{same_clash}
 use Rattle.esto_top.specs.Grammar.{course_of, is_list_number}

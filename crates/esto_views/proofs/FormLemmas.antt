@@ -1,6 +1,5 @@
 -- The form of a plan that receives unions for a satisfiable query.
-use Rattle.std.proofs.Common.{◌≡◌, List, [], ◌∷◌, map, Contains, length, inl, inr, sym, ap, subst, ◌∙◌}
-use Rattle.std.proofs.lemmas.List.{length-map}
+use Rattle.std.proofs.Common.{List, [], ◌∷◌, Contains, length, inl, inr, sym, ap, subst, ◌∙◌}
 use Rattle.esto_term.specs.declared.term.Term.{Term}
 use Rattle.esto_semantics.specs.Containment.{IsSatisfiable}
 use Rattle.esto_semantics.specs.Instances.{MapsTo}
@@ -10,17 +9,10 @@ use Rattle.esto_semantics.specs.Rewritings.{IsPlanFor}
 use Rattle.esto_semantics.specs.Rules.{Rule}
 use Rattle.esto_semantics.specs.Unions.{ReceivesUnions}
 use Rattle.esto_semantics.specs.declared.fact.Fact.{Fact}
-use Rattle.esto_semantics.specs.declared.fact.Value.{Value}
 use Rattle.esto_views.specs.Plans.{fact_of, plan_query}
 use Rattle.esto_views.specs.Soundness.{IsSoundPlan}
 use Rattle.esto_views.specs.declared.plan.Plan.{Plan}
-use Rattle.esto_term.proofs.ListLemmas.{Contains-head, Contains-map_from, Contains-one}
-
--- two rows that one row is made of are of one length
-one_length : (one other : Term → Value) (head other_head : List Term) (row : List Value) → row ≡ map one head → row ≡ map other other_head
-    → length head ≡ length other_head
-one_length one other head other_head row is is_other =
-    sym (length-map head one) ∙ sym (ap length is) ∙ ap length is_other ∙ length-map other_head other
+use Rattle.esto_term.proofs.ListLemmas.{Contains-head, Contains-map_from, Contains-one, one_length}
 
 -- a plan's atoms are over constants and variables
 flat_atoms : (plan : Plan) → IsSoundPlan plan.atoms plan.head plan.names → AreFlat (plan_query plan).body

@@ -1,9 +1,9 @@
 -- An extension of a match to a rule's head in a database, chosen by the values of the frontier alone, and the value that this choice gives each term.
-use Rattle.std.proofs.Common.{◌≡◌, ◌&&◌, ℕ, Bool, true, false, cond, List, [], ◌∷◌, map, length, slice_get, Option, Some, None, refl, sym, ap, ◌∙◌}
+use Rattle.std.proofs.Common.{◌≡◌, ℕ, Bool, true, false, cond, List, [], ◌∷◌, map, length, slice_get, Option, Some, None, refl, sym, ap, ◌∙◌}
 use Rattle.std.proofs.Common.{inl, inr, Contains, subst, arith}
 use Rattle.std.specs.List.{filter}
 use Rattle.std.specs.Set.{is_member}
-use Rattle.std.proofs.lemmas.Bool.{cases_eq}
+use Rattle.std.proofs.lemmas.Bool.{cases_eq, and_parts}
 use Rattle.std.proofs.lemmas.List.{length-map}
 use Rattle.esto_term.specs.Finite.{lists_within}
 use Rattle.esto_term.specs.Order.{same_term}
@@ -11,10 +11,10 @@ use Rattle.esto_term.specs.declared.term.Term.{Term, out-Term, fold-roll-Term}
 use Rattle.esto_term.specs.declared.term.Term.TheVariants.{Const, Plain, Made, rolls-Const, rolls-Plain, rolls-Made}
 use Rattle.esto_term.specs.declared.term.Term.TheOpen.{Term-F}
 use Rattle.esto_term.specs.declared.term.Term.TheFolds.{fold-Term}
-use Rattle.esto_term.proofs.ChoiceLemmas.{Decided, decided_both, decided_in}
+use Rattle.esto_term.proofs.ChoiceLemmas.{Decided, decided_both, decided_in, decided_each}
 use Rattle.esto_term.proofs.DistinctLemmas.{decided_contains}
 use Rattle.esto_term.proofs.FiniteLemmas.{Contains-lists_within}
-use Rattle.esto_term.proofs.ListLemmas.{Contains-nil, Contains-head, Contains-rest, Contains-cases, Contains-map, Contains-map_from, Contains-flat}
+use Rattle.esto_term.proofs.ListLemmas.{Contains-nil, Contains-cases, Contains-map, Contains-map_from, Contains-flat}
 use Rattle.esto_term.proofs.ListLemmas.{Contains-filter_from, map_agree}
 use Rattle.esto_semantics.specs.Facts.{Database, image, Mentions, terms_of}
 use Rattle.esto_semantics.specs.Maps.{Keeps, Sends}
@@ -30,16 +30,6 @@ use Rattle.esto_chase_laws.proofs.JoinedLemmas.{joined_from}
 use Rattle.esto_chase_laws.proofs.MakingLemmas.{in_terms-Decides, terms_of-Mentions}
 
 -- ---- decisions
-
-all_of : {X : Type 0} (P : X → Type 0) → ((x : X) → Decided (P x)) → (xs : List X) → Decided ((x : X) → Contains xs x → P x)
-all_of P d [] = inl (λ x c. absurd (Contains-nil x c))
-all_of {X} P d (x ∷ xs) = elim (d x) [
-  | inl p ↦ elim (all_of P d xs) [
-    | inl r ↦ inl (λ y c. elim (Contains-cases x xs y c) [ inl e ↦ subst (λ (w : X). P w) e p | inr t ↦ r y t ])
-    | inr m ↦ inr (λ h. m (λ y c. h y (Contains-rest x xs y c)))
-  ]
-  | inr n ↦ inr (λ h. n (h x (Contains-head x xs)))
-]
 
 list_decided : {X : Type 0} → ((x y : X) → Decided (x ≡ y)) → (xs ys : List X) → Decided (xs ≡ ys)
 list_decided d [] [] = inl refl
@@ -64,10 +54,6 @@ fact_decided = decided_fact value_decided
 
 -- ---- the frontier is in the head
 
-both_true : (answer member : Bool) → (answer && member) ≡ true → member ≡ true
-both_true true member told = told
-both_true false member told = absurd (let wrong : false ≡ true = told in cc)
-
 pub frontier_head : (body head : List (Fact Term)) (term : Term) → Contains (frontier body head) term → Mentions head term
 frontier_head body head term inside =
     elim (joined_from same_term same_term-Decides (filter (is_variable_of head) (terms_of body)) [] term inside) [
@@ -75,7 +61,7 @@ frontier_head body head term inside =
       | inr passed ↦
           let told = (Contains-filter_from (is_variable_of head) (terms_of body) term passed).1 in
           terms_of-Mentions head term ((in_terms-Decides head term).0
-          (both_true (is_variable_level (out-Term term)) (is_member same_term (terms_of head) term) told))
+          (and_parts (is_variable_level (out-Term term)) (is_member same_term (terms_of head) term) told).1)
     ]
 
 -- ---- a choice of an extension, by the frontier's values alone
@@ -106,7 +92,7 @@ module _ (database : Database) (body head : List (Fact Term)) (xs : List Value) 
 
   extension_decided : (m : Term → Value) → Decided (IsExtension m)
   extension_decided m = decided_both (list_decided value_decided (map m (frontier body head)) xs)
-      (all_of (λ atom. Contains database (image m atom)) (λ atom. decided_contains fact_decided database (image m atom)) head)
+      (decided_each (λ atom. Contains database (image m atom)) (λ atom. decided_contains fact_decided database (image m atom)) head)
 
   abbrev domain : List Value
   domain = terms_of database

@@ -1,6 +1,7 @@
 use Rattle.std.proofs.Common.{◌++◌}
+use Rattle.esto_term.proofs.ListLemmas.{two_more}
 use Rattle.esto_list.specs.Text.{comma_before, term_text}
-use Rattle.esto_list.proofs.TextLemmas.{each_turn, each_end, two_more}
+use Rattle.esto_list.proofs.TextLemmas.{each_turn, each_end}
 use Rattle.esto_list.proofs.printing.put_each_term.Goals as goal
 
 pub terms-preserved : goal.terms-preserved

@@ -1,8 +1,9 @@
 use Rattle.std.proofs.Common.{◌+◌, ◌++◌, get_or}
 use Rattle.std.proofs.lemmas.List.{get_or_default}
 use Rattle.std.specs.Fmt.{decimal}
+use Rattle.esto_term.proofs.ListLemmas.{two_more}
 use Rattle.esto_list.specs.Text.{comma_before}
-use Rattle.esto_list.proofs.TextLemmas.{each_turn, each_end, two_more}
+use Rattle.esto_list.proofs.TextLemmas.{each_turn, each_end}
 use Rattle.esto_list.proofs.printing.put_numbers.Goals as goal
 
 pub numbers-preserved : goal.numbers-preserved
