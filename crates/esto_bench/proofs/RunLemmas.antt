@@ -1,5 +1,5 @@
 -- The made rows as contents of files, and the query's answers over them.
-use Rattle.std.proofs.Common.{◌≡◌, ◌≢◌, ◌↔◌, ◌⊎◌, ◌<◌, ◌+◌, ◌*◌, ◌/◌, ℕ, List, [], ◌∷◌, ◌++◌, map, length, slice_get, Some, None, Contains, All, AllPairs, Err}
+use Rattle.std.proofs.Common.{◌≡◌, ◌≢◌, ◌↔◌, ◌<◌, ◌+◌, ◌*◌, ◌/◌, ℕ, List, [], ◌∷◌, ◌++◌, map, length, slice_get, Some, None, Contains, All, AllPairs, Err}
 use Rattle.std.proofs.Common.{sym, ap, subst, ◌∙◌, inl, inr, arith, get_or}
 use Rattle.std.specs.Prelude.{codes, IfSome}
 use Rattle.std.specs.Cmp.Lexicographic.{slice_cmp}
@@ -34,6 +34,7 @@ use Rattle.esto_stores.specs.Rows.{Row}
 use Rattle.esto_stores.specs.Table.{table_rows, table_fault}
 use Rattle.esto_term.proofs.DistinctLemmas.{distinct_map}
 use Rattle.esto_term.proofs.ListLemmas.{Contains-at, Contains-map, Contains-map_from, Contains-nil, thing_at}
+use Rattle.esto_term.proofs.PlaceLemmas.{earlier_or_last}
 use Rattle.esto_term.specs.declared.term.Term.{Term}
 use Rattle.esto_views.specs.Plans.{fact_of, plan_query, IsPlanOver}
 use Rattle.esto_views.specs.declared.fragments.FragmentDef.{FragmentDef}
@@ -111,9 +112,6 @@ module _ (size : ℕ) (catalogue : Catalogue) (made : IsMadeCatalogue size catal
           (ap (table_rows made_columns) (sym is) ∙ say)
     ];
   }
-    where
-      earlier_or_last : (fragment number : ℕ) → fragment < number + 1 → (fragment < number) ⊎ (fragment ≡ number)
-      earlier_or_last fragment number within = grind arith
 
 -- ---- the answers
 

@@ -1,12 +1,11 @@
 -- The numbers of a set with one number more, and the test for subsets.
 use Rattle.std.proofs.Common.{◌≡◌, ◌≢◌, ◌↔◌, ◌⊎◌, ℕ, zero, suc, ◌+◌, ◌<◌, Bool, true, false, not, ◌&&◌, ◌||◌, List, [], ◌∷◌, ◌++◌, length, get_or, set, take}
-use Rattle.std.proofs.Common.{Contains, slice_index_or, replicate, IsTrue, refl, sym, ap, ◌∙◌, subst, inl, inr, arith}
+use Rattle.std.proofs.Common.{Contains, slice_index_or, IsTrue, refl, sym, ap, ◌∙◌, subst, inl, inr, arith}
 use Rattle.std.proofs.lemmas.Bool.{cases_lt}
 use mathlib.Core.Bool.{beq}
-use Rattle.std.proofs.lemmas.List.{get_or-set_same, get_or-set_other, get_or-replicate, length-replicate, take_more}
+use Rattle.std.proofs.lemmas.List.{get_or-set_same, get_or-set_other, take_more}
 use Rattle.std.proofs.lemmas.List.Elements.{Contains-append_left, Contains-push, Contains-push_cases}
 use Rattle.esto_semantics.specs.Sets.{Has, Within}
-use Rattle.esto_semantics.proofs.PlaceLemmas.{Has-within}
 use Rattle.esto_term.proofs.ChoiceLemmas.{same_truth}
 use Rattle.esto_bits.specs.Kept.{is_within}
 
@@ -45,11 +44,6 @@ both-second false other e = absurd (false-not_true e)
 -- what says whether a set has a number is the set's own answer
 pub answer_is : (row : List Bool) (number : ℕ) (answer : Bool) → IsTrue answer ↔ Has row number → answer ≡ slice_index_or row number false
 answer_is row number answer says = same_truth answer (slice_index_or row number false) says.0 says.1
-
-pub Has-replicate : (count number : ℕ) → Has (replicate count false) number → ⊥
-Has-replicate count number has =
-    let below : number < count = subst (λ n. number < n) (length-replicate count false) (Has-within (replicate count false) number has) in
-    false-not_true (sym (get_or-replicate count number false false below) ∙ has)
 
 -- with one number more a set has that number, and all that it had
 pub Has-set : (row : List Bool) (added number : ℕ) → added < length row → Has (set row added true) number ↔ ((number ≡ added) ⊎ Has row number)

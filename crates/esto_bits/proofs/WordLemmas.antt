@@ -13,7 +13,8 @@ use Rattle.esto_semantics.specs.Sets.{Has, Within, united}
 use Rattle.esto_bits.specs.Words.{bit_of, set_of, words_for, AreWordsBelow, LackNoBit, HaveBitsOf}
 use Rattle.esto_semantics.proofs.SetLemmas.{has_united, length-united, within_same}
 use Rattle.esto_semantics.proofs.PlaceLemmas.{Has-within}
-use Rattle.esto_bits.proofs.SetLemmas.{Has-replicate, Has-set}
+use Rattle.esto_semantics.proofs.AccessLemmas.{none_has}
+use Rattle.esto_bits.proofs.SetLemmas.{Has-set}
 
 -- the words keep the set: they are words below its count, and it is the set that they keep
 pub record Keep (words : List ℕ) (count : ℕ) (row : List Bool) : Type 0 where
@@ -96,7 +97,7 @@ pub keep-empty : (many count : ℕ) → many ≡ words_for count → Keep (repli
 keep-empty many count enough =
     keep_from (replicate many 0) count (replicate count false) (length-replicate many 0 ∙ enough, λ number beyond. bit_of-empty many number)
     (sym (length-replicate count false))
-    (λ number. (λ has. absurd (Has-replicate count number has), λ one. absurd (omega (arith, one, bit_of-empty many number))))
+    (λ number. (λ has. absurd (none_has count number has), λ one. absurd (omega (arith, one, bit_of-empty many number))))
 
 -- ---- one number more
 

@@ -4,7 +4,7 @@ use Rattle.std.specs.Prelude.{Contains, All, slice_index, IsUtf8}
 use Rattle.std.specs.Coded.{Coded, Coded-set, code_by, coded×, coded_list, coded_option, coded_ℕ, coded_bool, le_prop}
 use Rattle.std.specs.List.{list_any}
 use Rattle.std.proofs.Math.Logic.{∥∥₁_elim, ∥∥₁_map}
-use Rattle.std.proofs.lemmas.Bool.{and_parts, eqb-true, false≢true}
+use Rattle.std.proofs.lemmas.Bool.{and_parts, eqb-true, false≢true, and_from}
 use Rattle.std.proofs.lemmas.Str.{IsUtf8-from_is_utf8, is_utf8-from_IsUtf8}
 use Rattle.esto_acyclic.proofs.EdgeLemmas.{joins_edges}
 use Rattle.esto_acyclic.specs.Graphs.{AreRanks, Arrives, IsWalk, IsWithin, Joins}
@@ -133,10 +133,7 @@ found : (edges : List (ℕ × ℕ)) (relations : List ℕ) (from to : ℕ) → I
 found edges [] from to same = eq-eqb from to same
 found edges (relation ∷ relations) from to (next, is, edge, walk) =
     any_of (λ (e : ℕ × ℕ). eqb e.0 from && reaches edges (length relations) e.1 to) edges (from, next) edge
-    (both (eqb from from) (reaches edges (length relations) next to) (eq-eqb from from refl) (found edges relations next to walk)) where
-      both : (a b : Bool) → a ≡ true → b ≡ true → (a && b) ≡ true
-      both true b holds is = is
-      both false b holds is = absurd (false≢true holds)
+    (and_from (eqb from from) (reaches edges (length relations) next to) (eq-eqb from from refl) (found edges relations next to walk))
 
 arrives_of : (edges : List (ℕ × ℕ)) (count to : ℕ) → arrives edges count to ≡ true → Arrives (Joins edges) to count
 arrives_of edges zero to is = (to, [], refl, refl)

@@ -1,11 +1,11 @@
 -- The set of the atoms of numbers.
-use Rattle.std.proofs.Common.{zero, suc, ◌≡◌, ◌⊎◌, ◌↔◌, inl, inr, ℕ, ◌+◌, ◌<◌, ◌≤◌, Bool, true, false, nat_lt, if◌then◌else◌, List, [], ◌∷◌, drop, length}
+use Rattle.std.proofs.Common.{◌≡◌, ◌⊎◌, ◌↔◌, inl, inr, ℕ, ◌+◌, ◌<◌, ◌≤◌, Bool, true, false, nat_lt, if◌then◌else◌, List, [], ◌∷◌, drop, length}
 use Rattle.std.proofs.Common.{get_or, replicate, Some, Contains, subst, refl, sym, ap, ◌∙◌, arith}
-use Rattle.std.proofs.lemmas.Bool.{false≢true}
 use Rattle.std.proofs.lemmas.Bool.Decides.{nat_tests}
 use Rattle.std.proofs.lemmas.List.{drop_all, drop_more, length-replicate}
 use Rattle.esto_term.proofs.ListLemmas.{Contains-cases, Contains-head, Contains-nil, Contains-rest}
 use Rattle.esto_semantics.specs.Sets.{Has}
+use Rattle.esto_semantics.proofs.AccessLemmas.{none_has}
 use Rattle.esto_course.specs.Course.{Stops, judges}
 use Rattle.esto_course.specs.Course.Stops.{refused}
 use Rattle.esto_views.specs.declared.plan.Plan.{Plan}
@@ -32,17 +32,12 @@ pub record IsNamedSoFar (count : ℕ) (numbers left : List ℕ) (set : List Bool
   pub exact : (atom : ℕ) → (Has set atom ⊎ Contains left (atom + 1)) ↔ Contains numbers (atom + 1)
 
 module _ (count : ℕ) (numbers : List ℕ) where
-  nothing_has : (size atom : ℕ) → Has (replicate size false) atom → ⊥
-  nothing_has zero atom has = false≢true has
-  nothing_has (suc size) zero has = false≢true has
-  nothing_has (suc size) (suc atom) has = nothing_has size atom has
-
   pub named_none : (set : List Bool) → set ≡ replicate count false → IsNamedSoFar count numbers numbers set
   named_none set is = record {
     none_above = refl;
     over = ap length is ∙ length-replicate count false;
     exact = λ atom. (
-      (λ either. elim either [ inl own ↦ absurd (nothing_has count atom (subst (λ (it : List Bool). Has it atom) is own)) | inr left ↦ left ]),
+      (λ either. elim either [ inl own ↦ absurd (none_has count atom (subst (λ (it : List Bool). Has it atom) is own)) | inr left ↦ left ]),
       inr,
     );
   }

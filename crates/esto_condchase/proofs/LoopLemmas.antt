@@ -7,7 +7,6 @@ use Rattle.esto_constraint.specs.Constraints.{rules_of}
 use Rattle.esto_constraint.specs.declared.rule.Constraint.{Constraint}
 use Rattle.std.proofs.lemmas.List.{take_all, append-nil, length-replicate}
 use Rattle.std.proofs.lemmas.List.Elements.{Contains-append_left, Contains-push_cases}
-use Rattle.esto_bits.proofs.SetLemmas.{Has-replicate}
 use Rattle.esto_semantics.specs.Rules.{Rule}
 use Rattle.esto_semantics.specs.Sets.{Has}
 use Rattle.esto_semantics.specs.declared.fact.Fact.{Fact}
@@ -19,6 +18,7 @@ use Rattle.esto_world_laws.specs.Steps.{AreAnswered, AreJoined}
 use Rattle.esto_world_laws.specs.Derived.{AreDerived}
 use Rattle.esto_semantics.specs.Maps.{AreFlat}
 use Rattle.esto_semantics.specs.Rules.{AreRules}
+use Rattle.esto_semantics.proofs.AccessLemmas.{none_has}
 use Rattle.esto_term.specs.Nesting.{greatest_u64}
 use Rattle.esto_chase_laws.specs.Bounds.{RanksRise}
 use Rattle.esto_views.specs.Expanded.{facts_of}
@@ -36,7 +36,7 @@ use Rattle.esto_condchase.proofs.CoverLemmas.{added_there}
 pub one_number : (old new : List Bool) (count atom : ℕ) → old ≡ replicate count false → ((number : ℕ) → Has new number ↔ ((number ≡ atom) ⊎ Has old number))
     → (number : ℕ) → Has new number ↔ (number ≡ atom)
 one_number old new count atom is has number = (
-  (λ in_new. elim ((has number).0 in_new) [ inl is_atom ↦ is_atom | inr before ↦ absurd (Has-replicate count number (subst (λ it. Has it number) is before)) ]),
+  (λ in_new. elim ((has number).0 in_new) [ inl is_atom ↦ is_atom | inr before ↦ absurd (none_has count number (subst (λ it. Has it number) is before)) ]),
   (λ is_atom. (has number).1 (inl is_atom)),
 )
 

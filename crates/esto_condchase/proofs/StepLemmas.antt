@@ -16,7 +16,7 @@ use Rattle.esto_views.specs.Spreads.{substituted}
 use Rattle.esto_semantics.specs.Sets.{Within, united}
 use Rattle.esto_semantics.specs.declared.fact.Fact.{Fact}
 use Rattle.esto_semantics.proofs.SetLemmas.{length-united}
-use Rattle.esto_bits.proofs.SetLemmas.{Has-replicate}
+use Rattle.esto_semantics.proofs.AccessLemmas.{none_has}
 use Rattle.esto_term.proofs.ListLemmas.{Contains-nil, Contains-at, Contains-head, Contains-one, thing_at, place-from_Contains, map_at, at_left, HoldsBelow}
 use Rattle.esto_term.proofs.PlaceLemmas.{Contains-take, item_at}
 use Rattle.esto_term.proofs.ZipLemmas.{zip_both, zip_by_places, zip_weaker}
@@ -717,7 +717,7 @@ never_passed entries m terms owns at read d read_term e goal links within within
     elim (from_world entries set read (m read_term) (passes_at entries m terms owns set passes at read read_term at_own at_term)) [
       | inl is ↦ unlike is
       | inr link ↦ passed_unlinked entries m terms owns at 0 [] (λ _. ⊥) read d read_term e goal links within within_terms read_is read_term_is goal_is live
-          (λ place inside. absurd (let below = inside.1 in omega (arith, below, none))) set read read_term (λ number has. absurd (Has-replicate 0 number has))
+          (λ place inside. absurd (let below = inside.1 in omega (arith, below, none))) set read read_term (λ number has. absurd (none_has 0 number has))
           passes at_own at_term unlike link
     ]
 
@@ -725,7 +725,7 @@ pub all_old : (entries : List Entry) (m : Term → Term) (terms owns : List Term
     → ((at : ℕ) → at < few → IsPassedAt entries m terms owns floor [] (λ _. ⊥) at)
     → (set : List Bool) → PassesIn entries m terms owns set → PassesIn (take floor entries) m terms owns set
 all_old entries m terms owns floor few rows past each set passes =
-    elim (anew_end entries m terms owns floor [] (λ _. ⊥) rows (λ at below. each at (omega (arith, below, past))) set (λ number has. absurd (Has-replicate 0 number has))
+    elim (anew_end entries m terms owns floor [] (λ _. ⊥) rows (λ at below. each at (omega (arith, below, past))) set (λ number has. absurd (none_has 0 number has))
     passes) [ inl never ↦ absurd never | inr all ↦ all ]
 
 -- ---- what the earlier terms tell

@@ -1,5 +1,5 @@
 -- The files of the datasets that are needed, opened one after the other.
-use Rattle.std.proofs.Common.{◌≡◌, ◌↔◌, ◌⊎◌, ◌<◌, ◌≤◌, ◌+◌, ℕ, suc, List, [], ◌∷◌, ◌++◌, drop, length, get_or, Contains, slice_get, Option, Some, None, Result}
+use Rattle.std.proofs.Common.{◌≡◌, ◌↔◌, ◌<◌, ◌≤◌, ◌+◌, ℕ, suc, List, [], ◌∷◌, ◌++◌, drop, length, get_or, Contains, slice_get, Option, Some, None, Result}
 use Rattle.std.proofs.Common.{Ok, Err, refl, sym, ap, subst, ◌∙◌, arith, inl, inr}
 use Rattle.std.specs.Prelude.{AllPairs, IfSome, IsSome}
 use Rattle.std.specs.Result.{IsErrAnd}
@@ -23,7 +23,7 @@ use Rattle.esto_ports.specs.declared.file_fault.FileError.TheVariants.{Fault}
 use Rattle.esto_ports.specs.declared.file_fault.FileFault.{FileFault}
 use Rattle.esto_semantics.specs.declared.fact.Fact.{Fact}
 use Rattle.esto_term.proofs.ListLemmas.{Contains-cases, Contains-head, Contains-nil}
-use Rattle.esto_term.proofs.PlaceLemmas.{item_at}
+use Rattle.esto_term.proofs.PlaceLemmas.{item_at, earlier_or_last}
 use Rattle.esto_term.specs.declared.term.Term.{Term}
 use Rattle.esto_opening.specs.Answers.{IsWant, IsCaused}
 use Rattle.esto_opening.specs.Asked.{AsksIn}
@@ -325,9 +325,6 @@ none_needed datasets Needs = record {
 
 module _ (datasets : List Dataset) (Needs : Dataset → Type 0) (count : ℕ) (dataset : Dataset) (at : slice_get datasets count ≡ Some dataset) (old new : List ℕ)
     (so_far : AreNeededBelow datasets Needs count old) where
-  earlier_or_last : (number : ℕ) → number < count + 1 → (number < count) ⊎ (number ≡ count)
-  earlier_or_last number within = grind arith
-
   last_is : (number : ℕ) → number ≡ count → (other : Dataset) → slice_get datasets number ≡ Some other → dataset ≡ other
   last_is number last other there = same_Some dataset other (sym at ∙ ap (slice_get datasets) (sym last) ∙ there)
 
@@ -341,7 +338,7 @@ module _ (datasets : List Dataset) (Needs : Dataset → Type 0) (count : ℕ) (d
           | inr none ↦ absurd (Contains-nil number none)
         ]
       ]),
-      (λ found. elim (earlier_or_last number found.0) [
+      (λ found. elim (earlier_or_last number count found.0) [
         | inl earlier ↦ Contains-append_left old (count ∷ []) number ((so_far.exact number).1 (earlier, found.1))
         | inr last ↦ subst (Contains (old ++ count ∷ [])) (sym last) (Contains-append_right old (count ∷ []) count (Contains-head count []))
       ]),
@@ -353,7 +350,7 @@ module _ (datasets : List Dataset) (Needs : Dataset → Type 0) (count : ℕ) (d
   skips not_needed is = subst (AreNeededBelow datasets Needs (count + 1)) (sym is) (record {
     exact = λ number. (
       (λ inside. let found = (so_far.exact number).0 inside in (omega (arith, found.0), found.1)),
-      (λ found. elim (earlier_or_last number found.0) [
+      (λ found. elim (earlier_or_last number count found.0) [
         | inl earlier ↦ (so_far.exact number).1 (earlier, found.1)
         | inr last ↦ absurd (not_needed (subst Needs (sym (last_is number last found.1.0 found.1.1)) found.1.2))
       ]),

@@ -1,7 +1,7 @@
 -- The run of the sets that are chosen for the members of a union.
-use Rattle.std.proofs.Common.{◌≡◌, ◌↔◌, ◌<◌, ℕ, Bool, List, length, get_or, map, filter, All, Contains, slice_get, Option, Some, None, refl, sym, ap, subst}
+use Rattle.std.proofs.Common.{◌≡◌, ◌↔◌, ◌<◌, ℕ, Bool, List, length, get_or, map, filter, Contains, slice_get, Option, Some, None, refl, sym, ap, subst}
 use Rattle.std.proofs.Common.{◌∙◌}
-use Rattle.std.proofs.lemmas.Option.{slice_get_within, slice_get_read, get_or_from_slice_get}
+use Rattle.std.proofs.lemmas.Option.{slice_get_within, slice_get_read}
 use Rattle.esto_catalog.specs.declared.catalogue.Catalogue.{Catalogue}
 use Rattle.esto_chase_laws.specs.declared.clash.Clash.{Clash}
 use Rattle.esto_course.specs.Course.{Stops, judges, gives, and_then}
@@ -33,6 +33,7 @@ use Rattle.esto_stores.specs.Rows.{Row}
 use Rattle.esto_term.specs.declared.term.Term.{Term}
 use Rattle.esto_term.proofs.ListLemmas.{Contains-at, Contains-filter_from, Contains-flat, Contains-flat_from, Contains-map, Contains-map_from}
 use Rattle.esto_term.proofs.ZipLemmas.{zip_right}
+use Rattle.esto_term.proofs.PlaceLemmas.{all_at}
 use Rattle.esto_union.specs.Unions.{IsListedIn}
 use Rattle.esto_views.specs.Fragments.{patterns_of}
 use Rattle.esto_views.specs.Plans.{IsPlanOver, fact_of, plan_query}
@@ -48,10 +49,6 @@ use Rattle.esto_disjuncts.specs.declared.members.Member.TheVariants.{Planned, Cl
 -- ---- picks can be run
 
 module _ (form : PlanHasForm) (over : PlanIsOver) (catalogue : Catalogue) (queries : List Query) where
-  all_at : (P : Listed → Type 0) (items : List Listed) → All P items → (place : ℕ) (item : Listed) → slice_get items place ≡ Some item → P item
-  all_at P items all place item is =
-      subst P (get_or_from_slice_get items place item item is) (all place item (slice_get_within items place item is))
-
   runnable : (query : Query) (plan : Plan) (items : List Listed) → IsMemberOf catalogue queries query (Planned plan items) → (number : Option ℕ) (pick : Pick)
       → IsPickFrom plan items number pick → IsRunnable catalogue.fragments pick
   runnable query plan items is number pick (plan_is, (item, (place, is_place, there), set_is, order_is)) = record {

@@ -10,7 +10,7 @@ use Rattle.std.proofs.lemmas.List.Sorted.{Contains-permutation, IsPermutation-sy
 use Rattle.std.proofs.lemmas.Map.Made.{is_member-Decides}
 use Rattle.std.proofs.lemmas.Option.{slice_get_within, get_or_from_slice_get}
 use Rattle.esto_term.specs.declared.term.Term.{Term}
-use Rattle.esto_term.proofs.ListLemmas.{Contains-cases, Contains-head, Contains-nil, Contains-rest, at_left, at_pushed, at_right}
+use Rattle.esto_term.proofs.ListLemmas.{Contains-cases, Contains-head, Contains-nil, Contains-rest, at_left, at_pushed, at_right, Contains-pushed}
 use Rattle.esto_term.proofs.PlaceLemmas.{Contains-take, Contains-take_from, drop-item, take-item}
 use Rattle.esto_semantics.specs.Listed.{chosen}
 use Rattle.esto_semantics.specs.declared.fact.Fact.{Fact}
@@ -32,14 +32,11 @@ module _ (IsSo Then : Fact Term → ℕ → Type 0) (fact : Fact Term) (rank : �
     (more : (it : Fact Term) (other : ℕ) → Then it other → IsSo it other ⊎ ((fact ≡ it) × (rank ≡ other)))
     (still : (it : Fact Term) (other : ℕ) → IsSo it other → Then it other) (here : Then fact rank)
     (old now new : List Entry) (entry : Entry) (pushed : new ≡ now ++ entry ∷ []) (is_entry : IsEntry fact rank entry) where
-  now_kept : (it : Entry) → Contains now it → Contains new it
-  now_kept it inside = subst (λ all. Contains all it) (sym pushed) (Contains-append_left now (entry ∷ []) it inside)
-
   adds_more : Adds IsSo old now → Adds Then old new
   adds_more so_far = record {
-    kept = λ it inside. now_kept it (so_far.kept it inside);
+    kept = λ it inside. Contains-pushed now new entry it pushed (so_far.kept it inside);
     has = λ it other is. elim (more it other is) [
-      | inl earlier ↦ let found = so_far.has it other earlier in (found.0, now_kept found.0 found.1, found.2)
+      | inl earlier ↦ let found = so_far.has it other earlier in (found.0, Contains-pushed now new entry found.0 pushed found.1, found.2)
       | inr same ↦ (entry, subst (λ all. Contains all entry) (sym pushed) (Contains-push now entry), (is_entry.0 ∙ same.0, is_entry.1 ∙ same.1))
     ];
     only = λ it inside. elim (Contains-push_cases now entry it (subst (λ all. Contains all it) pushed inside)) [

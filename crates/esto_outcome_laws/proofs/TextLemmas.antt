@@ -15,6 +15,7 @@ use Rattle.esto_semantics.specs.Queries.{ConjunctiveQuery, IsAnswer, IsQuery}
 use Rattle.esto_semantics.specs.Unions.{IsUnionAnswer}
 use Rattle.esto_semantics.specs.declared.fact.Value.{Value}
 use Rattle.esto_semantics.specs.declared.fact.Value.TheVariants.{Text, Node}
+use Rattle.esto_semantics.proofs.ValueLemmas.{Text-same}
 use Rattle.esto_stores.specs.Rows.{Row}
 use Rattle.esto_term.specs.declared.term.Term.{Term}
 use Rattle.esto_term.specs.declared.term.Term.TheVariants.{Const}
@@ -33,11 +34,8 @@ use Rattle.esto_outcome_laws.proofs.ListedLemmas.{Listed, each_listed}
 pub decided_value : (value other : Value) → Decided (value ≡ other)
 decided_value (Text text) (Text other) = elim (same_list cases_eq text other) [
   | inl is ↦ inl (ap Text is)
-  | inr apart ↦ inr (λ is. apart (same text other is))
+  | inr apart ↦ inr (λ is. apart (Text-same text other is))
 ]
-  where
-    same : (text other : List ℕ) → Text text ≡ Text other → text ≡ other
-    same text other is = cc
 decided_value (Text text) (Node other) = inr (λ is. absurd (cc))
 decided_value (Node node) (Text other) = inr (λ is. absurd (cc))
 decided_value (Node node) (Node other) = elim (cases_eq node other) [

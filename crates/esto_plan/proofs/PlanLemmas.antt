@@ -12,7 +12,7 @@ use Rattle.esto_term.specs.declared.term.Term.TheVariants.{Const}
 use Rattle.esto_semantics.specs.Maps.{IsFixedBy}
 use Rattle.esto_semantics.specs.declared.fact.Fact.{Fact}
 use Rattle.esto_term.proofs.ListLemmas.{Contains-nil, Contains-cases, at_left, at_right}
-use Rattle.esto_term.proofs.PlaceLemmas.{take-item, take-there}
+use Rattle.esto_term.proofs.PlaceLemmas.{take-item, take-there, earlier_or_last}
 use Rattle.esto_plan.specs.declared.steps.Get.{Get}
 use Rattle.esto_plan.specs.declared.steps.Link.{Link}
 use Rattle.esto_plan.specs.declared.steps.Source.{Source}
@@ -121,10 +121,6 @@ module _ (old texts : List (List ℕ)) (pattern : List Bool) (bound terms : List
   kept_below : IsGetBelow texts pattern bound terms count get
   kept_below = below_grows old texts pattern bound terms count get grown below
 
-  -- a column that is settled already, or the new one
-  column_cases : (column : ℕ) → column < count + 1 → (column < count) ⊎ (column ≡ count)
-  column_cases column inside = elim (cases_lt column count) [ inl before ↦ inl before | inr past ↦ inr (omega (arith, past, inside)) ]
-
   pub add_input : slice_get pattern count ≡ Some true → CanMeet bound terms pattern → IsLinkMade texts (bound ++ take 0 terms) terms count get.inputs links
       → IsGetBelow texts pattern bound terms (count + 1) (record { fragment = get.fragment; inputs = links; filters = get.filters })
   add_input input can (term, at, made) = elim made [
@@ -150,7 +146,7 @@ module _ (old texts : List (List ℕ)) (pattern : List Bool) (bound terms : List
               (term, ap (slice_get terms) here ∙ at, subst (λ them. IsSource texts them term link.source) no_more source)
         ];
         filters = kept_below.filters;
-        complete = λ column other inside at_column. elim (column_cases column inside) [
+        complete = λ column other inside at_column. elim (earlier_or_last column count inside) [
           | inl before ↦ elim (kept_below.complete column other before at_column) [
             | inl new ↦ inl new
             | inr (found, at_found, among) ↦
@@ -185,7 +181,7 @@ module _ (old texts : List (List ℕ)) (pattern : List Bool) (bound terms : List
         columns = columns;
         inputs = kept_below.inputs;
         filters = kept_below.filters;
-        complete = λ column other inside at_column. elim (column_cases column inside) [
+        complete = λ column other inside at_column. elim (earlier_or_last column count inside) [
           | inl before ↦ kept_below.complete column other before at_column
           | inr last ↦ inl (subst (λ n. IsNew (bound ++ take n terms) other) (sym last)
               (subst (IsNew (bound ++ take count terms)) (same_Some term other (sym at ∙ ap (slice_get terms) (sym last) ∙ at_column)) new))
@@ -202,7 +198,7 @@ module _ (old texts : List (List ℕ)) (pattern : List Bool) (bound terms : List
           | inr same ↦ subst (λ (them : Link). IsLink texts (bound ++ take them.column terms) terms them) same
               (term, ap (slice_get terms) here ∙ at, subst (λ n. IsSource texts (bound ++ take n terms) term link.source) (sym here) source)
         ];
-        complete = λ column other inside at_column. elim (column_cases column inside) [
+        complete = λ column other inside at_column. elim (earlier_or_last column count inside) [
           | inl before ↦ elim (kept_below.complete column other before at_column) [
             | inl new ↦ inl new
             | inr (found, at_found, among) ↦

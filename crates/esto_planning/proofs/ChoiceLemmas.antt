@@ -1,7 +1,7 @@
 -- The item that is chosen.
-use Rattle.std.proofs.Common.{◌≡◌, ◌<◌, ◌≤◌, ◌-◌, ℕ, List, [], length, All, slice_get, Option, Some, None, refl, sym, ap, subst, ◌∙◌, arith}
+use Rattle.std.proofs.Common.{◌≡◌, ◌<◌, ◌≤◌, ◌-◌, ℕ, List, [], length, Option, Some, None, refl, sym, ap, subst, ◌∙◌, arith}
 use Rattle.std.proofs.lemmas.List.{length-map}
-use Rattle.std.proofs.lemmas.Option.{slice_get_within, get_or_from_slice_get, same_Some, none-some}
+use Rattle.std.proofs.lemmas.Option.{same_Some, none-some}
 use Rattle.esto_course.specs.Course.{Stops, judges}
 use Rattle.esto_course.specs.Course.Stops.{refused}
 use Rattle.esto_course.proofs.Determined.{judges_agree}
@@ -11,6 +11,7 @@ use Rattle.esto_semantics.specs.Access.{IsStatedOrder}
 use Rattle.esto_semantics.specs.Listed.{IsPick}
 use Rattle.esto_semantics.specs.ListedLaws.{PickIsOne}
 use Rattle.esto_term.proofs.ListLemmas.{Contains-at, Contains-map}
+use Rattle.esto_term.proofs.PlaceLemmas.{all_at}
 use Rattle.esto_views.specs.Fragments.{patterns_of}
 use Rattle.esto_views.specs.Plans.{plan_query}
 use Rattle.esto_opening.specs.Answers.{IsWant, IsCaused}
@@ -50,10 +51,6 @@ module _ (items : List Listed) (number : Option ℕ) where
 pub place_within : PlaceIsWithin
 place_within items None place is = omega (arith, is.there, length-map items (λ item. item.weight))
 place_within items (Some number) place is = is.1
-
-all_at : (P : Listed → Type 0) (items : List Listed) → All P items → (place : ℕ) (item : Listed) → slice_get items place ≡ Some item → P item
-all_at P items all place item is =
-    subst P (get_or_from_slice_get items place item item is) (all place item (slice_get_within items place item is))
 
 pub item_listed : ItemIsListed
 item_listed catalogue query plan items place item list is = record {

@@ -2,8 +2,8 @@ use Rattle.std.proofs.Common.{◌++◌, List, false, refl, ap}
 use Rattle.std.proofs.lemmas.List.{length-replicate}
 use Rattle.esto_semantics.specs.Facts.{terms_of}
 use Rattle.esto_semantics.specs.declared.fact.Fact.{Fact}
+use Rattle.esto_semantics.proofs.AccessLemmas.{none_has}
 use Rattle.esto_term.specs.declared.term.Term.{Term}
-use Rattle.esto_bits.proofs.SetLemmas.{Has-replicate}
 use Rattle.esto_condchase.specs.Ways.{empty_way}
 use Rattle.esto_condchase.proofs.WayLemmas.{found_none, found_lengths, body_all, rest_after, from_turn, counted_one}
 use Rattle.esto_condchase.proofs.FoundLemmas.{body_turn}
@@ -14,7 +14,7 @@ atoms-init c =
     let are = c.in_ok-ways.ensures in
     record {
       found = found_none c.args.known.now (terms_of c.args.body.now ++ c.args.asked.now) c.args.sides.now c.in_ok-ways.ways (empty_way c.args.count) are refl refl refl
-          (λ number has. Has-replicate c.args.count number has);
+          (λ number has. none_has c.args.count number has);
       from_is = c.new-from.ensures;
       counted = counted_one c.args.count c.in_ok-ways.ways (empty_way c.args.count) are (length-replicate c.args.count false);
     }

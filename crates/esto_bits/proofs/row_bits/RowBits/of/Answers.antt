@@ -1,7 +1,7 @@
 use Rattle.std.proofs.Common.{◌<◌, All, false, inl, inr, length, ap, sym, subst, ◌∙◌}
 use Rattle.std.proofs.lemmas.List.{length-replicate}
 use Rattle.esto_semantics.specs.Sets.{Has}
-use Rattle.esto_bits.proofs.SetLemmas.{Has-replicate}
+use Rattle.esto_semantics.proofs.AccessLemmas.{none_has}
 use Rattle.esto_bits.proofs.row_bits.RowBits.of.Goals as goal
 
 pub insert_all-requires : goal.insert_all-requires
@@ -15,7 +15,7 @@ pub returns-clause-has : goal.returns-clause-has
 returns-clause-has c = λ number. (
   λ has. elim ((c.insert_all.ensures.has number).0 has) [
     | inl named ↦ named
-    | inr before ↦ absurd (Has-replicate c.args.atoms number (subst (λ set. Has set number) c.in_ok-set.ensures before))
+    | inr before ↦ absurd (none_has c.args.atoms number (subst (λ set. Has set number) c.in_ok-set.ensures before))
   ],
   λ named. (c.insert_all.ensures.has number).1 (inl named),
 )
