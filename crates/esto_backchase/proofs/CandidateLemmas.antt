@@ -9,7 +9,7 @@ use Rattle.either.specs.Either.{MatchEither}
 use Rattle.either.specs.declared.Either.{Either}
 use Rattle.either.specs.declared.Either.TheVariants.{Left, Right}
 use Rattle.esto_term.specs.declared.term.Term.{Term}
-use Rattle.esto_term.proofs.ListLemmas.{Contains-at, Contains-cases, Contains-head, Contains-map, Contains-map_from, Contains-nil, Contains-rest}
+use Rattle.esto_term.proofs.ListLemmas.{Contains-at, Contains-cases, Contains-head, Contains-map, Contains-nil, Contains-rest}
 use Rattle.esto_term.proofs.ListLemmas.{place-from_Contains}
 use Rattle.esto_term.proofs.PlaceLemmas.{drop-item}
 use Rattle.esto_semantics.specs.Containment.{IsContained, IsSatisfiable}
@@ -20,7 +20,7 @@ use Rattle.esto_semantics.specs.Instances.{IsFinished, IsUniversalFor, MapsTo}
 use Rattle.esto_semantics.specs.Listed.{candidate}
 use Rattle.esto_semantics.specs.Maps.{AreFlat}
 use Rattle.esto_semantics.specs.Queries.{ConjunctiveQuery, IsAnswer}
-use Rattle.esto_semantics.specs.Rules.{Rule, AreRules, IsRule}
+use Rattle.esto_semantics.specs.Rules.{Rule, AreRules}
 use Rattle.esto_semantics.specs.Sets.{Has, numbers}
 use Rattle.esto_semantics.specs.Views.{IsFragmentAnswer}
 use Rattle.esto_semantics.specs.declared.fact.Fact.{Fact}
@@ -32,8 +32,6 @@ use Rattle.esto_chase_laws.specs.RunLaws.{StartsHaveTheBody}
 use Rattle.esto_chase_laws.specs.Runs.{IsStart, start_of}
 use Rattle.esto_chase_laws.specs.declared.clash.Clash.{Clash}
 use Rattle.esto_instance.specs.Instances.{state_of}
-use Rattle.esto_constraint.specs.Constraints.{rule_of, rules_of}
-use Rattle.esto_constraint.specs.declared.rule.Constraint.{Constraint}
 use Rattle.esto_views.specs.Expanded.{Expands, facts_of}
 use Rattle.esto_views.specs.Fragments.{views_of}
 use Rattle.esto_views.specs.Plans.{fact_of, plan_query}
@@ -45,14 +43,6 @@ use Rattle.esto_views.proofs.FlatLemmas.{named-flat}
 use Rattle.esto_backchase.specs.Candidates as own
 
 -- ---- rules, and the form of a plan
-
-pub rules-are : (constraints : List Constraint) → ((constraint : Constraint) → IsRule (rule_of constraint)) → AreRules (rules_of constraints)
-rules-are constraints each rule inside = let from = Contains-map_from rule_of constraints rule inside in subst IsRule from.2 (each from.0)
-
-pub plan-flat : (plan : Plan) → IsSoundPlan plan.atoms plan.head plan.names → AreFlat (plan_query plan).body
-plan-flat plan sound term (fact, there, inside) =
-    let atom = Contains-map_from fact_of plan.atoms fact there in
-    named-flat plan term (sound.named_atoms atom.0 atom.1 term (subst (λ (it : Fact Term). Contains it.terms term) (sym atom.2) inside))
 
 -- ---- sets with a number
 

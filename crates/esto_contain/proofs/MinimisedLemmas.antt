@@ -25,6 +25,7 @@ use Rattle.esto_universal.specs.Stated.{IsRenamed, IsRenamedPlan}
 use Rattle.esto_views.specs.Plans.{fact_of, plan_query}
 use Rattle.esto_views.specs.Soundness.{IsNamed, IsSoundPlan}
 use Rattle.esto_views.specs.declared.plan.Plan.{Plan}
+use Rattle.esto_views.proofs.FlatLemmas.{named-flat}
 use Rattle.esto_contain.specs.Ends.{FinishesAt}
 use Rattle.esto_contain.specs.Minimised.{instance_of}
 use Rattle.esto_contain.specs.MinimisedLaws.{MinimisedIsOne}
@@ -66,10 +67,6 @@ head_length m head other is = ap length (sym is) ∙ length-map head m
 
 -- ---- the plan of the end's facts, read as facts
 
-pub named-flat : (names : List Name) (term : Term) → IsNamed names term → IsFlat term
-named-flat names term (inl constant) = inl constant
-named-flat names term (inr (number, is, _)) = inr (number, is)
-
 module _ (plan : Plan) (sound : IsSoundPlan plan.atoms plan.head plan.names) (facts : List (Fact Term)) (are : facts ≡ map fact_of plan.atoms) where
   pub facts_named : (term : Term) → IsOfQuery (with_head plan.head facts) term → IsNamed plan.names term
   facts_named term (inr in_head) = sound.named_head term in_head
@@ -78,7 +75,7 @@ module _ (plan : Plan) (sound : IsSoundPlan plan.atoms plan.head plan.names) (fa
       sound.named_atoms atom.0 atom.1 term (subst (λ (it : Fact Term). Contains it.terms term) (sym atom.2) in_fact)
 
   pub facts_flat : (term : Term) → IsOfQuery (with_head plan.head facts) term → IsFlat term
-  facts_flat term inside = named-flat plan.names term (facts_named term inside)
+  facts_flat term inside = named-flat plan term (facts_named term inside)
 
   pub facts_renamed : (names : List Name) (rows : List (Fact Term)) (head : List Term) → IsRenamedPlan names rows head plan
       → IsRenamed names (with_head head rows) (with_head plan.head facts) plan.names

@@ -1,22 +1,22 @@
 -- The cored plan: its terms are flat, it maps to the plan and back, and it is one.
-use Rattle.std.proofs.Common.{◌≡◌, inl, inr, List, length, slice_get, Contains, sym, ap, ◌∙◌, subst}
+use Rattle.std.proofs.Common.{◌≡◌, List, length, slice_get, Contains, sym, ap, ◌∙◌, subst}
 use Rattle.std.proofs.lemmas.List.{length-map}
 use Rattle.esto_term.specs.declared.term.Term.{Term}
 use Rattle.esto_term.proofs.ListLemmas.{Contains-map, Contains-map_from}
 use Rattle.esto_semantics.specs.Facts.{image}
 use Rattle.esto_semantics.specs.Instances.{MapsTo}
-use Rattle.esto_semantics.specs.Maps.{IsFlat, AreFlat}
+use Rattle.esto_semantics.specs.Maps.{IsFlat}
 use Rattle.esto_semantics.specs.Queries.{ConjunctiveQuery}
 use Rattle.esto_semantics.specs.Rewritings.{IsPlanFor}
 use Rattle.esto_semantics.specs.declared.fact.Fact.{Fact}
 use Rattle.esto_plan_laws.specs.CoreLaws.{MapsCompose, LeftIsChosen, MapsToLeft, LeftMapsBack, LeftIsCore, LeftIsOne, RenamedIsReached, RenamedMapsBack}
 use Rattle.esto_plan_laws.specs.CoreLaws.{RenamedIsCore}
 use Rattle.esto_plan_laws.specs.Cores.{with_head, IsCore, IsRenamedTo}
-use Rattle.esto_query.specs.declared.query.Name.{Name}
 use Rattle.esto_views.specs.Plans.{fact_of, plan_query, IsPlanOver}
-use Rattle.esto_views.specs.Soundness.{IsNamed, IsSoundPlan}
+use Rattle.esto_views.specs.Soundness.{IsSoundPlan}
 use Rattle.esto_views.specs.declared.fragments.FragmentDef.{FragmentDef}
 use Rattle.esto_views.specs.declared.plan.Plan.{Plan}
+use Rattle.esto_views.proofs.FlatLemmas.{named-flat, plan_atoms-flat}
 use Rattle.esto_universal.specs.RenamedLaws.{RenamedPlanIsOne, RenamedPlanIsRenamed}
 use Rattle.esto_universal.specs.Stated.{IsRenamedPlan}
 use Rattle.esto_core.specs.Cored.{IsCoredPlan, IsPart}
@@ -24,21 +24,12 @@ use Rattle.esto_core.specs.CoredLaws.{CoredIsOne}
 
 -- ---- the terms of a plan
 
-flat-from_named : (names : List Name) (term : Term) → IsNamed names term → IsFlat term
-flat-from_named names term (inl constant) = inl constant
-flat-from_named names term (inr (number, is, _)) = inr (number, is)
-
 pub head-flat : (plan : Plan) → IsSoundPlan plan.atoms plan.head plan.names → (term : Term) → Contains plan.head term → IsFlat term
-head-flat plan sound term inside = flat-from_named plan.names term (sound.named_head term inside)
-
-pub body-flat : (plan : Plan) → IsSoundPlan plan.atoms plan.head plan.names → AreFlat (plan_query plan).body
-body-flat plan sound term (fact, there, inside) =
-    let atom = Contains-map_from fact_of plan.atoms fact there in
-    flat-from_named plan.names term (sound.named_atoms atom.0 atom.1 term (subst (λ (it : Fact Term). Contains it.terms term) (sym atom.2) inside))
+head-flat plan sound term inside = named-flat plan term (sound.named_head term inside)
 
 pub plan-IsPlanFor : (query : ConjunctiveQuery) (plan : Plan) → IsSoundPlan plan.atoms plan.head plan.names → length plan.head ≡ length query.head
     → IsPlanFor query (plan_query plan)
-plan-IsPlanFor query plan sound lengths = record { same_length = lengths; has_head = sound.has_head; flat_body = body-flat plan sound }
+plan-IsPlanFor query plan sound lengths = record { same_length = lengths; has_head = sound.has_head; flat_body = plan_atoms-flat plan sound }
 
 -- ---- the cored plan
 

@@ -5,12 +5,12 @@ use Rattle.std.specs.List.{slice_get}
 use Rattle.std.specs.List.Sorted.{IsPartitionPoint}
 use Rattle.std.proofs.lemmas.Bool.{false≢true, ltb-true, ltb-false}
 use Rattle.std.proofs.lemmas.List.{get_or_default, length-take-le, length-drop, get_or-take, get_or-drop}
-use Rattle.std.proofs.lemmas.List.Elements.{Contains-append_left, Contains-push}
+use Rattle.std.proofs.lemmas.List.Elements.{Contains-push}
 use Rattle.std.proofs.lemmas.List.Sorted.{IsNonDecreasingBy-take, IsNonDecreasingBy-drop}
 use Rattle.std.proofs.lemmas.Option.{same_Some, slice_get_within}
 use Rattle.esto_term.specs.declared.term.Term.{Term}
 use Rattle.esto_term.specs.declared.term.Term.TheVariants.{Const}
-use Rattle.esto_term.proofs.ListLemmas.{map_at}
+use Rattle.esto_term.proofs.ListLemmas.{map_at, Contains-pushed}
 use Rattle.esto_term.proofs.PlaceLemmas.{earlier_or_last}
 use Rattle.esto_semantics.specs.Facts.{image}
 use Rattle.esto_semantics.specs.Maps.{Keeps}
@@ -50,9 +50,11 @@ module _ (fact : Fact Term) (columns : Columns) (names : List Term) (place n : �
   pub AddsTerms-put : (term : Term) (number : ℕ) (new : List Entry) → slice_get fact.terms n ≡ Some term → IsNumber names term number
       → new ≡ now ++ entry_of (key_of fact.relation n number) place ∷ [] → AddsTerms fact columns names place (n + 1) old new
   AddsTerms-put term number new at is grown = record {
-    kept = λ entry inside. stays entry (adds.kept entry inside);
+    kept = λ entry inside. Contains-pushed now new (entry_of (key_of fact.relation n number) place) entry grown (adds.kept entry inside);
     added = λ column other l there among. elim (earlier_or_last column n l) [
-      | inl before ↦ λ its is_its. stays (entry_of (key_of fact.relation column its) place) (adds.added column other before there among its is_its)
+      | inl before ↦ λ its is_its.
+          Contains-pushed now new (entry_of (key_of fact.relation n number) place) (entry_of (key_of fact.relation column its) place) grown
+          (adds.added column other before there among its is_its)
       | inr here ↦ λ its is_its.
           let same : term ≡ other = same_Some term other (sym at ∙ ap (slice_get fact.terms) (sym here) ∙ there) in
           let equal : number ≡ its = number_is names other number its (subst (λ t. IsNumber names t number) same is) is_its in
@@ -63,10 +65,6 @@ module _ (fact : Fact Term) (columns : Columns) (names : List Term) (place n : �
           (Contains-push now (entry_of (key_of fact.relation n number) place)))
     ];
   }
-    where
-      stays : (entry : Entry) → Contains now entry → Contains new entry
-      stays entry inside = subst (λ all. Contains all entry) (sym grown)
-          (Contains-append_left now (entry_of (key_of fact.relation n number) place ∷ []) entry inside)
 
 -- ---- the facts
 

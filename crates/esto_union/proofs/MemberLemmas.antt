@@ -9,16 +9,14 @@ use Rattle.esto_query.specs.Making.{query_of}
 use Rattle.esto_query.specs.declared.query.Query.{Query}
 use Rattle.esto_semantics.specs.Access.{Patterns}
 use Rattle.esto_semantics.specs.Containment.{IsSatisfiable}
-use Rattle.esto_semantics.specs.Maps.{AreFlat}
 use Rattle.esto_semantics.specs.Queries.{ConjunctiveQuery}
 use Rattle.esto_semantics.specs.Rewritings.{IsPlanFor}
 use Rattle.esto_semantics.specs.Rules.{Rule}
-use Rattle.esto_semantics.specs.declared.fact.Fact.{Fact}
-use Rattle.esto_term.specs.declared.term.Term.{Term}
 use Rattle.esto_views.specs.Fragments.{views_of, patterns_of}
-use Rattle.esto_views.specs.Plans.{fact_of, plan_query}
+use Rattle.esto_views.specs.Plans.{plan_query}
 use Rattle.esto_views.specs.Soundness.{IsSoundPlan}
 use Rattle.esto_views.specs.declared.plan.Plan.{Plan}
+use Rattle.esto_views.proofs.FlatLemmas.{plan_atoms-flat}
 use Rattle.esto_union.specs.Laws.{ArePicks, HasSets, IsMember, OneHasNoSet}
 use Rattle.esto_union.specs.Unions.{queries_of, AreRewritingOf}
 
@@ -51,16 +49,8 @@ module _ (sound : (plan : Plan) → IsSoundPlan plan.atoms plan.head plan.names)
   abbrev patterns : Patterns
   patterns = patterns_of catalogue.fragments
 
-  plan-flat : (plan : Plan) → AreFlat (plan_query plan).body
-  plan-flat plan term (fact, there, inside) =
-      let atom = Contains-map_from fact_of plan.atoms fact there in
-      elim ((sound plan).named_atoms atom.0 atom.1 term (subst (λ (it : Fact Term). Contains it.terms term) (sym atom.2) inside)) [
-        | inl constant ↦ inl constant
-        | inr (number, is, below) ↦ inr (number, is)
-      ]
-
   pub form : (query : Query) (plan : Plan) → length plan.head ≡ length query.head → IsPlanFor (query_of query) (plan_query plan)
-  form query plan same = record { same_length = same; has_head = (sound plan).has_head; flat_body = plan-flat plan }
+  form query plan same = record { same_length = same; has_head = (sound plan).has_head; flat_body = plan_atoms-flat plan (sound plan) }
 
   module _ (query : Query) (plan : Plan) (sets : List (List Bool)) (member : IsMember catalogue queries query plan sets) where
     -- a listed set is one that may be chosen

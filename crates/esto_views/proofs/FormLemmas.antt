@@ -1,27 +1,16 @@
 -- The form of a plan that receives unions for a satisfiable query.
-use Rattle.std.proofs.Common.{List, [], ◌∷◌, Contains, length, inl, inr, sym, ap, subst, ◌∙◌}
-use Rattle.esto_term.specs.declared.term.Term.{Term}
+use Rattle.std.proofs.Common.{List, [], ◌∷◌, length, ap, ◌∙◌}
 use Rattle.esto_semantics.specs.Containment.{IsSatisfiable}
 use Rattle.esto_semantics.specs.Instances.{MapsTo}
-use Rattle.esto_semantics.specs.Maps.{AreFlat}
 use Rattle.esto_semantics.specs.Queries.{ConjunctiveQuery}
 use Rattle.esto_semantics.specs.Rewritings.{IsPlanFor}
 use Rattle.esto_semantics.specs.Rules.{Rule}
 use Rattle.esto_semantics.specs.Unions.{ReceivesUnions}
-use Rattle.esto_semantics.specs.declared.fact.Fact.{Fact}
-use Rattle.esto_views.specs.Plans.{fact_of, plan_query}
+use Rattle.esto_views.specs.Plans.{plan_query}
 use Rattle.esto_views.specs.Soundness.{IsSoundPlan}
 use Rattle.esto_views.specs.declared.plan.Plan.{Plan}
-use Rattle.esto_term.proofs.ListLemmas.{Contains-head, Contains-map_from, Contains-one, one_length}
-
--- a plan's atoms are over constants and variables
-flat_atoms : (plan : Plan) → IsSoundPlan plan.atoms plan.head plan.names → AreFlat (plan_query plan).body
-flat_atoms plan sound term (fact, there, inside) =
-    let atom = Contains-map_from fact_of plan.atoms fact there in
-    elim (sound.named_atoms atom.0 atom.1 term (subst (λ (it : Fact Term). Contains it.terms term) (sym atom.2) inside)) [
-      | inl constant ↦ inl constant
-      | inr variable ↦ inr (variable.0, variable.1)
-    ]
+use Rattle.esto_views.proofs.FlatLemmas.{plan_atoms-flat}
+use Rattle.esto_term.proofs.ListLemmas.{Contains-head, Contains-one, one_length}
 
 -- its head is as long as that of the query, since it answers what the query answers
 pub plan_form : ((query : ConjunctiveQuery) → MapsTo query query) → (rules : List Rule) (views : List ConjunctiveQuery) (query : ConjunctiveQuery) (plan : Plan)
@@ -34,5 +23,5 @@ plan_form own rules views query plan sound receives (database, meets, (row, answ
       same_length = ap (λ (it : ConjunctiveQuery). length it.head) (Contains-one (plan_query plan) other inside)
           ∙ one_length found.0 answer.0 other.head query.head row found.3 answer.3;
       has_head = sound.has_head;
-      flat_body = flat_atoms plan sound;
+      flat_body = plan_atoms-flat plan sound;
     }

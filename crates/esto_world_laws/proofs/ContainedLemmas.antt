@@ -10,7 +10,7 @@ use Rattle.esto_semantics.specs.ExpansionLaws.{ExpansionAnswers, PartExpandsCand
 use Rattle.esto_semantics.specs.Expansions.{IsPartOf}
 use Rattle.esto_semantics.specs.Listed.{candidate, chosen, IsSafe}
 use Rattle.esto_semantics.specs.ListedLaws.{ChosenAreNamed}
-use Rattle.esto_semantics.specs.Maps.{IsConstant, IsFixedBy, IsFlat}
+use Rattle.esto_semantics.specs.Maps.{IsConstant, IsFixedBy}
 use Rattle.esto_semantics.specs.Queries.{ConjunctiveQuery, IsQuery}
 use Rattle.esto_semantics.specs.Rules.{Rule, AreRules}
 use Rattle.esto_semantics.specs.Sets.{Has}
@@ -20,10 +20,11 @@ use Rattle.esto_semantics.proofs.PlaceLemmas.{Has-within}
 use Rattle.esto_views.specs.Expanded.{Expands, facts_of}
 use Rattle.esto_views.specs.Fragments.{views_of}
 use Rattle.esto_views.specs.Plans.{fact_of as atom_of, plan_query}
-use Rattle.esto_views.specs.Soundness.{IsNamed as IsNamedIn, IsSoundPlan}
+use Rattle.esto_views.specs.Soundness.{IsSoundPlan}
 use Rattle.esto_views.specs.declared.expansion.ExpandedFact.{ExpandedFact}
 use Rattle.esto_views.specs.declared.fragments.FragmentDef.{FragmentDef}
 use Rattle.esto_views.specs.declared.plan.Plan.{Plan}
+use Rattle.esto_views.proofs.FlatLemmas.{named-flat}
 use Rattle.esto_world_laws.specs.Contained.{IsSafelyContained, MatchedSetsAreContained}
 use Rattle.esto_world_laws.specs.Derived.{AreDerived}
 use Rattle.esto_world_laws.specs.Laws.{AreFactsOf, HasGivenHead, HasMatch, IsSound, RestsOn, MatchesRestOnAtoms, MatchesShowContainment}
@@ -34,10 +35,6 @@ decided_constant : (term : Term) → Decided (IsConstant term)
 decided_constant = term_cases (λ term. Decided (IsConstant term)) (λ text. inl (text, refl))
     (λ number. inr (λ constant. Const-apart-Plain constant.0 number (sym constant.1)))
     (λ rule variable frontier. inr (λ constant. Const-apart-Made constant.0 rule variable frontier (sym constant.1)))
-
-named-flat : (plan : Plan) (term : Term) → IsNamedIn plan.names term → IsFlat term
-named-flat plan term (inl constant) = inl constant
-named-flat plan term (inr (number, is, _)) = inr (number, is)
 
 module _ (rules : List Rule) (fragments : List FragmentDef) (plan : Plan) (expanded : List ExpandedFact)
     (expands : Expands plan fragments expanded) (are_rules : AreRules rules)

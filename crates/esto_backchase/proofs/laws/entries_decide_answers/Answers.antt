@@ -2,7 +2,8 @@ use Rattle.esto_constraint.specs.Constraints.{rules_of}
 use Rattle.esto_query.specs.Making.{query_of}
 use Rattle.esto_semantics.specs.Rewritings.{IsPlanFor}
 use Rattle.esto_views.specs.Plans.{plan_query}
-use Rattle.esto_backchase.proofs.CandidateLemmas.{plan-flat, rules-are}
+use Rattle.esto_views.proofs.FlatLemmas.{plan_atoms-flat}
+use Rattle.esto_chase.proofs.ChaseLemmas.{rules-AreRules}
 use Rattle.esto_backchase.proofs.EvidenceLemmas.{consistent}
 use Rattle.esto_backchase.proofs.TellLemmas.{told, union_told}
 use Rattle.esto_backchase.proofs.laws.entries_decide_answers.Goals as goal
@@ -13,9 +14,9 @@ returns c = record {
       let sound_plan = c.plans_are_sound.ensures plan in
       let is_query = (c.queries_are_sound.ensures query).query in
       let is_plan : IsPlanFor (query_of query) (plan_query plan) = record
-      { same_length = same_length; has_head = sound_plan.has_head; flat_body = plan-flat plan sound_plan } in
+      { same_length = same_length; has_head = sound_plan.has_head; flat_body = plan_atoms-flat plan sound_plan } in
       let decided = told (rules_of catalogue.rules) catalogue.fragments _ plan expanded expands entries are
-      (rules-are catalogue.rules c.rules_are_sound.ensures.rules) sound_plan
+      (rules-AreRules catalogue.rules c.rules_are_sound.ensures.rules) sound_plan
       c.queries_have_starts.ensures.body c.an_expansion_of_a_plan_expands_its_candidates.ensures c.an_expansion_means_the_same.ensures.answers
       c.chosen_atoms_are_named.ensures c.matched_sets_are_contained.ensures set over
       (query_of query) is_query is_plan universal c.candidates_contain_the_query.ensures.equivalent
@@ -23,7 +24,7 @@ returns c = record {
       (decided.1, decided.0);
   unions = λ catalogue queries plan entries (expanded, exact, expands, are) agree set over.
       union_told (rules_of catalogue.rules) catalogue.fragments _ plan expanded expands entries are
-      (rules-are catalogue.rules c.rules_are_sound.ensures.rules) (c.plans_are_sound.ensures plan)
+      (rules-AreRules catalogue.rules c.rules_are_sound.ensures.rules) (c.plans_are_sound.ensures plan)
       c.queries_have_starts.ensures.body c.an_expansion_of_a_plan_expands_its_candidates.ensures c.an_expansion_means_the_same.ensures.answers
       c.chosen_atoms_are_named.ensures c.matched_sets_are_contained.ensures set over
       (λ query. (c.queries_are_sound.ensures query).query) queries (agree set).0 (agree set).1;

@@ -6,9 +6,9 @@ use Rattle.esto_semantics.specs.Rewritings.{IsPlanFor}
 use Rattle.esto_semantics.specs.Sets.{Rises}
 use Rattle.esto_views.specs.Fragments.{views_of}
 use Rattle.esto_views.specs.Plans.{fact_of, plan_query}
+use Rattle.esto_views.proofs.FlatLemmas.{plan_atoms-flat}
 use Rattle.esto_backchase.specs.Candidates.{Answers}
 use Rattle.esto_backchase.specs.Searching.{Visited}
-use Rattle.esto_backchase.proofs.CandidateLemmas.{plan-flat}
 use Rattle.esto_backchase.proofs.VisitLemmas.{visited-minimal}
 use Rattle.esto_backchase.proofs.listing.answering_sets.Goals as goal
 
@@ -25,7 +25,7 @@ visit_all-requires-clause-rises c =
     let plan = c.args.plan.now in
     let sound = c.plans_are_sound.ensures plan in
     let is_plan : IsPlanFor (query_of c.args.query.now) (plan_query plan) =
-    record { same_length = c.requires.same_length; has_head = sound.has_head; flat_body = plan-flat plan sound } in
+    record { same_length = c.requires.same_length; has_head = sound.has_head; flat_body = plan_atoms-flat plan sound } in
     subst (λ count. Rises count (Answers c.args.catalogue.now c.args.query.now plan)) (length-map plan.atoms fact_of)
     (c.listed_sets_are_executable.ensures.rises (rules_of c.args.catalogue.now.rules) (views_of c.args.catalogue.now.fragments)
     (query_of c.args.query.now) (plan_query plan) is_plan c.requires.universal)

@@ -7,7 +7,7 @@ use Rattle.esto_constraint.specs.Constraints.{rules_of}
 use Rattle.esto_query.specs.Making.{query_of}
 use Rattle.esto_views.specs.Fragments.{views_of, patterns_of}
 use Rattle.esto_views.specs.Plans.{plan_query}
-use Rattle.esto_backchase.proofs.CandidateLemmas.{plan-flat}
+use Rattle.esto_views.proofs.FlatLemmas.{plan_atoms-flat}
 use Rattle.esto_backchase.proofs.listing.minimal_sets_plain.Goals as goal
 
 pub returns-clause-listed : goal.returns-clause-listed
@@ -18,7 +18,7 @@ returns-clause-listed c set =
     let views = views_of c.args.catalogue.now.fragments in
     let sound = c.plans_are_sound.ensures c.args.plan.now in
     let is_plan : IsPlanFor query plan = record
-    { same_length = c.requires.same_length; has_head = sound.has_head; flat_body = plan-flat c.args.plan.now sound } in
+    { same_length = c.requires.same_length; has_head = sound.has_head; flat_body = plan_atoms-flat c.args.plan.now sound } in
     let told : TellHolds (length plan.body) (AnswersQuery rules views query plan) c.in_ok-answering.answering.sets =
     c.listed_sets_are_executable.ensures.told rules views query plan is_plan c.requires.universal c.in_ok-answering.answering.sets
     c.in_ok-answering.ensures.minimal in
@@ -34,7 +34,7 @@ returns-clause-complete c other rewriting =
     let rules = rules_of c.args.catalogue.now.rules in
     let views = views_of c.args.catalogue.now.fragments in
     let patterns = patterns_of c.args.catalogue.now.fragments in
-    let onto = c.rewritings_map_onto_sets.ensures rules views patterns query plan other (plan-flat c.args.plan.now (c.plans_are_sound.ensures c.args.plan.now))
+    let onto = c.rewritings_map_onto_sets.ensures rules views patterns query plan other (plan_atoms-flat c.args.plan.now (c.plans_are_sound.ensures c.args.plan.now))
     c.requires.universal
     c.requires.satisfiable rewriting in (
       onto.0,

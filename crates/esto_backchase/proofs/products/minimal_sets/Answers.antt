@@ -7,7 +7,7 @@ use Rattle.esto_constraint.specs.Constraints.{rules_of}
 use Rattle.esto_query.specs.Making.{query_of}
 use Rattle.esto_views.specs.Fragments.{views_of, patterns_of}
 use Rattle.esto_views.specs.Plans.{fact_of, plan_query}
-use Rattle.esto_backchase.proofs.CandidateLemmas.{plan-flat}
+use Rattle.esto_views.proofs.FlatLemmas.{plan_atoms-flat}
 use Rattle.esto_backchase.proofs.EvidenceLemmas.{of_parts_as}
 use Rattle.esto_backchase.specs.Candidates.{Answers}
 use Rattle.esto_backchase.specs.Evidence.{MatchesIn}
@@ -23,7 +23,7 @@ returns-clause-complete c other rewriting =
     let rules = rules_of c.args.catalogue.now.rules in
     let views = views_of c.args.catalogue.now.fragments in
     let patterns = patterns_of c.args.catalogue.now.fragments in
-    let onto = c.rewritings_map_onto_sets.ensures rules views patterns query plan other (plan-flat c.args.plan.now (c.plans_are_sound.ensures c.args.plan.now))
+    let onto = c.rewritings_map_onto_sets.ensures rules views patterns query plan other (plan_atoms-flat c.args.plan.now (c.plans_are_sound.ensures c.args.plan.now))
     c.requires.universal c.requires.satisfiable rewriting in (
       onto.0,
       onto.2,

@@ -7,7 +7,8 @@ use Rattle.esto_query.specs.Making.{query_of}
 use Rattle.esto_semantics.specs.Listed.{HasCandidate}
 use Rattle.esto_views.specs.Fragments.{views_of}
 use Rattle.esto_views.specs.Plans.{fact_of, plan_query}
-use Rattle.esto_backchase.proofs.CandidateLemmas.{plan-flat, size-none, size-some}
+use Rattle.esto_views.proofs.FlatLemmas.{plan_atoms-flat}
+use Rattle.esto_backchase.proofs.CandidateLemmas.{size-none, size-some}
 use Rattle.esto_backchase.proofs.candidates.Search.answers.Goals as goal
 
 pub returns-then-size-eq0 : goal.returns-then-size-eq0
@@ -28,7 +29,7 @@ returns c =
     let safe = c.is_safe.ensures.0 c.if-not-is_safe.false in
     let equivalent = c.candidates_contain_the_query.ensures.equivalent (rules_of it.catalogue.now.rules) (views_of it.catalogue.now.fragments)
     (query_of it.query.now) (plan_query it.plan.now) set
-    (record { same_length = c.requires.search.same_length; has_head = sound.has_head; flat_body = plan-flat it.plan.now sound })
+    (record { same_length = c.requires.search.same_length; has_head = sound.has_head; flat_body = plan_atoms-flat it.plan.now sound })
     c.requires.search.universal has_candidate safe in
     IfOk-weaker c.is_contained.result _ _
     (λ _ contained. (

@@ -6,7 +6,8 @@ use Rattle.esto_chase_laws.specs.Runs.{IsStart}
 use Rattle.esto_constraint.specs.Constraints.{rules_of}
 use Rattle.esto_query.specs.Making.{query_of}
 use Rattle.esto_instance.specs.Instances.{state_of}
-use Rattle.esto_backchase.proofs.CandidateLemmas.{chosen-starts, contained-received, rules-are}
+use Rattle.esto_chase.proofs.ChaseLemmas.{rules-AreRules}
+use Rattle.esto_backchase.proofs.CandidateLemmas.{chosen-starts, contained-received}
 use Rattle.esto_backchase.proofs.candidates.Search.is_contained.Goals as goal
 
 pub start_for-requires : goal.start_for-requires
@@ -38,7 +39,7 @@ returns c =
     let contained = contained-received it.plan.now it.catalogue.now.fragments it.expanded.now c.requires.search.expands c.args.set.now c.requires.count
     c.queries_have_starts.ensures.body rules (query_of it.query.now) c.an_expansion_of_a_plan_expands_its_candidates.ensures
     c.an_expansion_means_the_same.ensures.contained c.an_expansion_means_the_same.ensures.answers
-    (rules-are it.catalogue.now.rules c.rules_are_sound.ensures.rules) (state_of c.in_ok-start.start) c.in_ok-start.ensures.state c.in_ok-outcome.outcome
+    (rules-AreRules it.catalogue.now.rules c.rules_are_sound.ensures.rules) (state_of c.in_ok-start.start) c.in_ok-start.ensures.state c.in_ok-outcome.outcome
     c.in_ok-outcome.ensures.run c.in_ok-outcome.ensures.universal c.in_ok-outcome.ensures.satisfiable in
     IfOk-weaker c.is_received-answer.result _ _ (λ _ received. (λ holds. contained.0 (received.0 holds), λ is. received.1 (contained.1 is)))
     c.is_received-answer.ensures
