@@ -11,7 +11,7 @@ use Rattle.esto_semantics.specs.Sets.{numbers, numbers_from}
 use Rattle.esto_bits.specs.Words.{bit_of}
 use Rattle.esto_bits.proofs.NumberLemmas.{later_numbers, later_numbers-has, later_numbers-lacks, later_numbers-end}
 use Rattle.esto_bits.proofs.SetLemmas.{false-not_true}
-use Rattle.esto_bits.proofs.WordLemmas.{Keep, Has-bit, count_is}
+use Rattle.esto_bits.proofs.WordLemmas.{Keep, Has-bit, count_is, bit_of-place}
 
 -- ---- the bits of a word
 
@@ -33,13 +33,6 @@ ones_from word place =
     ∙ add_comm (count_ones ((word / 2 ^ place) / 2)) (count_ones (word / 2 ^ place % 2))
     ∙ ap (λ n. n + count_ones ((word / 2 ^ place) / 2)) (one_bit (word / 2 ^ place % 2) low)
     ∙ ap (λ n. bit_at word place + count_ones n) halved
-
--- a bit of a word is the bit of a number
-bit_of-place : (words : List ℕ) (place low : ℕ) → low < 64 → bit_of words (64 * place + low) ≡ bit_at (slice_index_or words place 0) low
-bit_of-place words place low small =
-    let word_of : (64 * place + low) / 64 ≡ place = omega arith in
-    let bit_in : (64 * place + low) % 64 ≡ low = omega arith in
-    ap (λ q. bit_at (slice_index_or words q 0) ((64 * place + low) % 64)) word_of ∙ ap (bit_at (slice_index_or words place 0)) bit_in
 
 -- ---- the numbers of a set
 

@@ -21,6 +21,13 @@ pub record Keep (words : List ℕ) (count : ℕ) (row : List Bool) : Type 0 wher
   pub below : AreWordsBelow words count
   pub is : set_of words count ≡ row
 
+-- a bit of a word is the bit of a number
+pub bit_of-place : (words : List ℕ) (place low : ℕ) → low < 64 → bit_of words (64 * place + low) ≡ bit_at (slice_index_or words place 0) low
+bit_of-place words place low small =
+    let word_of : (64 * place + low) / 64 ≡ place = omega arith in
+    let bit_in : (64 * place + low) % 64 ≡ low = omega arith in
+    ap (λ q. bit_at (slice_index_or words q 0) ((64 * place + low) % 64)) word_of ∙ ap (bit_at (slice_index_or words place 0)) bit_in
+
 -- ---- the numbers of the set are those whose bit is 1
 
 test-one : (n : ℕ) → n == 1 ≡ true → n ≡ 1
@@ -177,13 +184,6 @@ module _ (words : List ℕ) (count : ℕ) (row : List Bool) (keep : Keep words c
       sym (bit_at_and (slice_index_or words (number / 64) 0) (slice_index_or words' (number / 64) 0) (number % 64))
       ∙ ap (λ w. bit_at w (number % 64)) (lack (number / 64)) in
       (Has-bit words' count' row' keep' number).1 (omega (arith, one, both, bit_at-lt (slice_index_or words' (number / 64) 0) (number % 64)))
-
-  -- a bit of a word is the bit of a number
-  bit_of-place : (vs : List ℕ) (place low : ℕ) → low < 64 → bit_of vs (64 * place + low) ≡ bit_at (slice_index_or vs place 0) low
-  bit_of-place vs place low small =
-      let word_of : (64 * place + low) / 64 ≡ place = omega arith in
-      let bit_in : (64 * place + low) % 64 ≡ low = omega arith in
-      ap (λ q. bit_at (slice_index_or vs q 0) ((64 * place + low) % 64)) word_of ∙ ap (bit_at (slice_index_or vs place 0)) bit_in
 
   pub words_from_within : ((place : ℕ) → slice_index_or words place 0 < 2 ^ 64) → Within row row' → LackNoBit words words'
   words_from_within fits within place =

@@ -11,8 +11,8 @@ use Rattle.esto_semantics.specs.Access.{Patterns, HasPattern, MeetsPattern, IsAc
 use Rattle.esto_semantics.specs.Listed.{chosen, candidate}
 use Rattle.esto_semantics.specs.Maps.{IsFixedBy}
 use Rattle.esto_semantics.specs.Queries.{ConjunctiveQuery, IsAnswerInto}
-use Rattle.esto_semantics.specs.Sets.{Has}
 use Rattle.esto_semantics.specs.declared.fact.Fact.{Fact}
+use Rattle.esto_semantics.proofs.PlaceLemmas.{chosen-from_Has, Has-from_chosen}
 use Rattle.esto_views.specs.Fragments.{patterns_of}
 use Rattle.esto_views.specs.Plans.{fact_of, plan_query, IsPlanOver}
 use Rattle.esto_views.specs.declared.fragments.FragmentDef.{FragmentDef}
@@ -47,33 +47,13 @@ number_of_atom body (first ∷ rest) atom inside = elim (Contains-append_cases (
 
 -- ---- the atoms of a set
 
-chosen_of : (set : List Bool) (atoms : List (Fact Term)) (number : ℕ) (atom : Fact Term) → Has set number → slice_get atoms number ≡ Some atom
-    → Contains (chosen set atoms) atom
-chosen_of [] atoms number atom has at = absurd (cc)
-chosen_of (is_in ∷ rest) [] number atom has at = absurd (none-some atom at)
-chosen_of (true ∷ rest) (first ∷ atoms) zero atom has at = let same : first ≡ atom = cc in
-    subst (Contains (first ∷ chosen rest atoms)) same (Contains-head first (chosen rest atoms))
-chosen_of (false ∷ rest) (first ∷ atoms) zero atom has at = absurd (cc)
-chosen_of (true ∷ rest) (first ∷ atoms) (suc number) atom has at = Contains-rest first (chosen rest atoms) atom (chosen_of rest atoms number atom has at)
-chosen_of (false ∷ rest) (first ∷ atoms) (suc number) atom has at = chosen_of rest atoms number atom has at
-
-chosen_from : (set : List Bool) (atoms : List (Fact Term)) (atom : Fact Term) → Contains (chosen set atoms) atom
-    → (number : ℕ) × Has set number × (slice_get atoms number ≡ Some atom)
-chosen_from [] atoms atom inside = absurd (Contains-nil atom inside)
-chosen_from (is_in ∷ rest) [] atom inside = absurd (Contains-nil atom inside)
-chosen_from (true ∷ rest) (first ∷ atoms) atom inside = elim (Contains-cases first (chosen rest atoms) atom inside) [
-  | inl is ↦ (0, refl, ap Some is)
-  | inr later ↦ let found = chosen_from rest atoms atom later in (suc found.0, found.1, found.2)
-]
-chosen_from (false ∷ rest) (first ∷ atoms) atom inside = let found = chosen_from rest atoms atom inside in (suc found.0, found.1, found.2)
-
 -- an order has the atoms of its set
 module _ (patterns : Patterns) (body : List (Fact Term)) (set : List Bool) (order : List ℕ) (is : IsOrder patterns body set order) where
   pub set_of_order : (atom : Fact Term) → Contains (atoms_of body order) atom → Contains (chosen set body) atom
-  set_of_order atom inside = let found = number_of_atom body order atom inside in chosen_of set body found.0 atom ((is.names found.0).0 found.1) found.2
+  set_of_order atom inside = let found = number_of_atom body order atom inside in chosen-from_Has set body found.0 atom ((is.names found.0).0 found.1) found.2
 
   pub order_of_set : (atom : Fact Term) → Contains (chosen set body) atom → Contains (atoms_of body order) atom
-  order_of_set atom inside = let found = chosen_from set body atom inside in atom_of_number body order found.0 atom ((is.names found.0).1 found.1) found.2
+  order_of_set atom inside = let found = Has-from_chosen set body atom inside in atom_of_number body order found.0 atom ((is.names found.0).1 found.1) found.2
 
   pub fixed_in_order : (term : Term) → IsFixedBy (chosen set body) term → IsFixedBy (atoms_of body order) term
   fixed_in_order term (inl constant) = inl constant

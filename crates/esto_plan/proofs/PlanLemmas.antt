@@ -20,14 +20,12 @@ use Rattle.esto_plan.specs.declared.steps.Source.TheVariants.{Cell}
 use Rattle.esto_plan.specs.Planned.{IsSource, IsLink, IsNew, IsKnown, CanMeet, IsFirstMet, IsGetOf, AreStepsAfter, CanPlan, atoms_of, inputs_from, inputs_of}
 use Rattle.esto_plan.specs.Planning.{IsLinkMade, IsGetBelow}
 use Rattle.esto_columns.specs.Interned.{Grows}
+use Rattle.esto_columns.proofs.CodingLemmas.{grows_on}
 
 -- ---- growing texts
 
 pub grows_refl : (texts : List (List ℕ)) → Grows texts texts
 grows_refl texts = ([], sym (append-nil texts))
-
-pub grows_then : (old mid new : List (List ℕ)) → Grows old mid → Grows mid new → Grows old new
-grows_then old mid new first next = (first.0 ++ next.0, next.1 ∙ ap (λ them. them ++ next.0) first.1 ∙ append_assoc old first.0 next.0)
 
 pub source_grows : (old new : List (List ℕ)) (bound : List Term) (term : Term) (source : Source) → Grows old new → IsSource old bound term source
     → IsSource new bound term source
@@ -283,12 +281,12 @@ module _ (patterns : List (List (List Bool))) (atoms : List (Fact Term)) (order 
         → IsGetOf more (get_or patterns atom.relation []) bound atom get → new_bound ≡ bound ++ atom.terms → new_gets ≡ gets ++ get ∷ []
         → IsPlannedBelow patterns atoms order (count + 1) start more new_bound new_gets
     planned_more more get new_bound new_gets grown is_get bound_is gets_is = record {
-      grown = grows_then start texts more before.grown grown;
+      grown = grows_on start texts more before.grown grown;
       can = subst (λ them. CanPlan patterns them (atoms_of atoms (drop (count + 1) order))) (sym bound_is) can_here.2;
       completes = λ later head sources rest on are.
           subst (AreStepsAfter later patterns head sources [] (atoms_of atoms order))
           (sym (ap (λ them. them ++ rest) gets_is ∙ append_assoc gets (get ∷ []) rest))
-          (before.completes later head sources (get ∷ rest) (grows_then texts more later grown on)
+          (before.completes later head sources (get ∷ rest) (grows_on texts more later grown on)
           (subst (λ them. AreStepsAfter later patterns head sources bound them (get ∷ rest)) (sym split) (
             get_grows more later (get_or patterns atom.relation []) bound atom get on is_get,
             subst (λ them. AreStepsAfter later patterns head sources them (atoms_of atoms (drop (count + 1) order)) rest) bound_is are,

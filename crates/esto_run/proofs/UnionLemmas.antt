@@ -5,6 +5,7 @@ use Rattle.std.proofs.lemmas.Option.{get_or_from_slice_get, slice_get_within}
 use Rattle.esto_columns.specs.CodedRows.{CodedRows}
 use Rattle.esto_columns.specs.Interned.{Grows}
 use Rattle.esto_columns.specs.declared.stored.StoredRows.{StoredRows}
+use Rattle.esto_columns.proofs.CodingLemmas.{grows_on}
 use Rattle.esto_plan.specs.Rows.{IsRowOf, held_by}
 use Rattle.esto_semantics.specs.Queries.{ConjunctiveQuery}
 use Rattle.esto_semantics.specs.declared.fact.Fact.{Fact}
@@ -37,9 +38,6 @@ pub answers_more : (old new : List (List ℕ)) → Grows old new → (Holds : Fa
 answers_more old new grown Holds rows own queries query are too =
     same_codes new (rows ++ own) _ (IsAnswerOfOne Holds (queries ++ query ∷ [])) (one_answers_more Holds queries query)
     (joined_codes old new grown rows own (IsAnswerOfOne Holds queries) (IsAnswerOver Holds query) are too)
-
-grows_on : (first old new : List (List ℕ)) → Grows first old → Grows old new → Grows first new
-grows_on first old new grown more = (grown.0 ++ more.0, more.1 ∙ ap (λ them. them ++ more.0) grown.1 ∙ append_assoc first grown.0 more.0)
 
 -- The rows are the answers of the queries so far, and texts have come after the first ones.
 pub record AreAnswersSoFar (first now : List (List ℕ)) (stored : List StoredRows) (arity : ℕ) (rows : CodedRows) (queries : List ConjunctiveQuery) : Type 0

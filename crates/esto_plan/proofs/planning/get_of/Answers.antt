@@ -2,8 +2,9 @@ use Rattle.std.proofs.Common.{◌≤◌, refl, sym, subst, ◌∙◌}
 use Rattle.std.proofs.lemmas.Option.{same_Some, slice_get_within}
 use Rattle.esto_term.proofs.ListLemmas.{Contains-at}
 use Rattle.esto_views.specs.Plans.{fact_of}
+use Rattle.esto_columns.proofs.CodingLemmas.{grows_on}
 use Rattle.esto_plan.specs.Planned.{CanMeet, IsFirstMet}
-use Rattle.esto_plan.proofs.PlanLemmas.{below_start, grows_refl, grows_then, whole_get}
+use Rattle.esto_plan.proofs.PlanLemmas.{below_start, grows_refl, whole_get}
 use Rattle.esto_plan.proofs.planning.get_of.Goals as goal
 
 pub unreachable-requires : goal.unreachable-requires
@@ -22,7 +23,7 @@ columns-init c = record {
 
 pub returns-in_err-add_column-clause-grown : goal.returns-in_err-add_column-clause-grown
 returns-in_err-add_column-clause-grown c =
-    grows_then c.args.codes.now c.columns.codes c.add_column.new.codes c.columns.invariant.grown c.add_column.ensures.grown
+    grows_on c.args.codes.now c.columns.codes c.add_column.new.codes c.columns.invariant.grown c.add_column.ensures.grown
 
 pub returns-clause-get : goal.returns-clause-get
 returns-clause-get c = let first = c.in-Some.ensures in

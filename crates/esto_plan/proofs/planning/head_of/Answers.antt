@@ -1,7 +1,8 @@
 use Rattle.std.proofs.Common.{◌++◌, [], Contains, sym, subst}
 use Rattle.std.proofs.lemmas.Option.{MatchOption-at_none, MatchOption-at_some}
+use Rattle.esto_columns.proofs.CodingLemmas.{grows_on}
 use Rattle.esto_plan.specs.Planned.{IsNew, IsSource}
-use Rattle.esto_plan.proofs.PlanLemmas.{known_not_new, head_more, grows_then}
+use Rattle.esto_plan.proofs.PlanLemmas.{known_not_new, head_more}
 use Rattle.esto_plan.proofs.planning.head_of.Goals as goal
 
 pub unreachable-requires : goal.unreachable-requires
@@ -19,5 +20,5 @@ terms-preserved c = (
       c.terms.invariant.0 (MatchOption-at_some (IsNew (c.args.bound.now ++ []) c.term-item.result)
       (IsSource c.source_of.new.codes (c.args.bound.now ++ []) c.term-item.result) c.in-Some.source c.in-Some.is c.in_ok-source.ensures.source)
       c.in_ok-push-in-Some.ensures.ok,
-  grows_then c.args.codes.now c.terms.codes c.source_of.new.codes c.terms.invariant.1 c.source_of.ensures.grown,
+  grows_on c.args.codes.now c.terms.codes c.source_of.new.codes c.terms.invariant.1 c.source_of.ensures.grown,
 )

@@ -8,8 +8,9 @@ use Rattle.esto_semantics.specs.Maps.{IsFixedBy}
 use Rattle.esto_term.proofs.ListLemmas.{map_at}
 use Rattle.esto_views.specs.Fragments.{patterns_of}
 use Rattle.esto_views.specs.Plans.{fact_of}
+use Rattle.esto_columns.proofs.CodingLemmas.{grows_on}
 use Rattle.esto_plan.specs.Planned.{IsGetOf, IsKnown, IsSource, AreStepsAfter, atoms_of}
-use Rattle.esto_plan.proofs.PlanLemmas.{planned_more, can_here, fragment_there, head_known, planned_all, grows_then}
+use Rattle.esto_plan.proofs.PlanLemmas.{planned_more, can_here, fragment_there, head_known, planned_all}
 use Rattle.esto_plan.proofs.planning.steps_of.Goals as goal
 
 pub item-atom-requires : goal.item-atom-requires
@@ -65,7 +66,7 @@ atoms-preserved c =
 
 pub returns-in_err-push_get-clause-grown : goal.returns-in_err-push_get-clause-grown
 returns-in_err-push_get-clause-grown c =
-    grows_then c.args.codes.now c.atoms.codes c.push_get.new.codes c.atoms.invariant.grown c.push_get.ensures.grown
+    grows_on c.args.codes.now c.atoms.codes c.push_get.new.codes c.atoms.invariant.grown c.push_get.ensures.grown
 
 pub head_of-requires : goal.head_of-requires
 head_of-requires c = λ term inside.
