@@ -16,11 +16,12 @@ use Rattle.esto_world_laws.specs.Derived.{Claims}
 use Rattle.esto_world_laws.specs.declared.entry.Claim.TheVariants.{Fact as Stated}
 use Rattle.esto_world_laws.specs.declared.entry.Entry.{Entry}
 use Rattle.esto_world_laws.proofs.TakenLemmas.{Fits-join, Fits-split, taken-stays}
+use Rattle.esto_world_laws.proofs.BoundLemmas.{chosen_length}
 use Rattle.esto_condchase.specs.News.{AreFoundAnew, IsOlder}
 use Rattle.esto_condchase.specs.Ways.{AgreeOn, IsWay, AreFound, AreMetAt, AreNext, AreOneAt, Comes, GoesOn, MeetOne, TellsOne}
 use Rattle.esto_condchase.specs.declared.ways.Way.{Way}
 use Rattle.esto_condchase.proofs.NewsLemmas.{old_match}
-use Rattle.esto_condchase.proofs.WayLemmas.{terms_of-push, last_chosen, chosen_length, AgreeOn-more, AgreeOn-same, AgreeOn-from, row_agrees, live_turn}
+use Rattle.esto_condchase.proofs.WayLemmas.{terms_of-push, last_chosen, AgreeOn-more, AgreeOn-same, AgreeOn-from, row_agrees, live_turn}
 
 -- ---- one atom more
 

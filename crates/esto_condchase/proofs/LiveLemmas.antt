@@ -1,5 +1,5 @@
 -- Live entries of a claim: the places of its group.
-use Rattle.std.proofs.Common.{inl, inr, ap, ◌∙◌, ◌≡◌, ◌<◌, arith, ℕ, List, ◌++◌, Some, slice_get, Contains, refl, sym, subst}
+use Rattle.std.proofs.Common.{inl, inr, ap, ◌∙◌, ◌≡◌, ◌<◌, arith, ℕ, List, ◌++◌, Some, slice_get, Contains, sym, subst}
 use Rattle.std.proofs.lemmas.List.Elements.{Contains-append_left, Contains-append_right}
 use Rattle.std.proofs.lemmas.Option.{same_Some}
 use Rattle.esto_term.specs.declared.term.Term.{Term}
@@ -10,43 +10,11 @@ use Rattle.esto_world_laws.specs.Claims.{AreSameClaim}
 use Rattle.esto_world_laws.specs.declared.entry.Claim.{Claim}
 use Rattle.esto_world_laws.specs.declared.entry.Claim.TheVariants.{Fact as Stated, Same}
 use Rattle.esto_world_laws.specs.declared.entry.Entry.{Entry}
+use Rattle.esto_world_laws.proofs.ClaimLemmas.{same_stated, says_same, same_says, same_both, same_back}
 use Rattle.esto_known.specs.Indexes.{HasSide}
 use Rattle.esto_known.specs.Groups.{AreGroups}
 use Rattle.esto_known.specs.declared.group.Group.{Group}
 use Rattle.esto_condchase.specs.Ways.{AreAllLive, AreAllFacts, AreFresh, IsUnlinked}
-
--- ---- claims that are one
-
-same_stated : (fact : Fact Term) (claim : Claim) → AreSameClaim (Stated fact) claim → claim ≡ Stated fact
-same_stated fact (Stated other) same = ap Stated (sym same)
-same_stated fact (Same left right) same = absurd same
-
-says_same : (left right : Term) (claim : Claim) → SaysOne claim left right → AreSameClaim (Same left right) claim
-says_same left right claim (inl is) = subst (AreSameClaim (Same left right)) (sym is) (inl (refl, refl))
-says_same left right claim (inr is) = subst (AreSameClaim (Same left right)) (sym is) (inr (refl, refl))
-
-same_says : (left right : Term) (claim : Claim) → AreSameClaim (Same left right) claim → SaysOne claim left right
-same_says left right (Stated fact) same = absurd same
-same_says left right (Same one other) (inl same) = inl (λ i. Same (sym same.0 i) (sym same.1 i))
-same_says left right (Same one other) (inr same) = inr (λ i. Same (sym same.1 i) (sym same.0 i))
-
--- two claims that are one with a third are one
-same_both : (third claim other : Claim) → AreSameClaim third claim → AreSameClaim third other → AreSameClaim claim other
-same_both (Stated fact) claim other one two =
-    subst (λ it. AreSameClaim it other) (sym (same_stated fact claim one)) (subst (AreSameClaim (Stated fact)) (sym (same_stated fact other two)) refl)
-same_both (Same left right) (Stated fact) other one two = absurd one
-same_both (Same left right) (Same s t) (Stated fact) one two = absurd two
-same_both (Same left right) (Same s t) (Same u v) (inl one) (inl two) = inl (sym one.0 ∙ two.0, sym one.1 ∙ two.1)
-same_both (Same left right) (Same s t) (Same u v) (inl one) (inr two) = inr (sym one.0 ∙ two.0, sym one.1 ∙ two.1)
-same_both (Same left right) (Same s t) (Same u v) (inr one) (inl two) = inr (sym one.1 ∙ two.1, sym one.0 ∙ two.0)
-same_both (Same left right) (Same s t) (Same u v) (inr one) (inr two) = inl (sym one.1 ∙ two.1, sym one.0 ∙ two.0)
-
-same_itself : (claim : Claim) → AreSameClaim claim claim
-same_itself (Stated fact) = refl
-same_itself (Same left right) = inl (refl, refl)
-
-same_back : (claim other : Claim) → AreSameClaim claim other → AreSameClaim other claim
-same_back claim other same = same_both claim other claim same (same_itself claim)
 
 -- ---- live entries
 

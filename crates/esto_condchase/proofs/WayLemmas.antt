@@ -2,7 +2,7 @@
 use Rattle.std.proofs.Common.{◌≡◌, ◌⊎◌, ◌↔◌, ◌<◌, ◌≤◌, ◌+◌, inl, inr, zero, suc, ℕ, Bool, true, false, cond, List, [], ◌∷◌, ◌++◌, length, map, take, drop, get_or, slice_get, slice_range, ◌-◌}
 use Rattle.std.proofs.Common.{Contains, Some, refl, sym, ap, ◌∙◌, subst, arith}
 use Rattle.std.specs.List.{AllZip}
-use Rattle.std.proofs.lemmas.List.{append-nil, append_assoc, length-append, length-drop, take_all, drop_all}
+use Rattle.std.proofs.lemmas.List.{append-nil, append_assoc, length-drop, take_all, drop_all}
 use Rattle.std.proofs.lemmas.List.Elements.{Contains-append_cases, Contains-append_left, Contains-append_right, Contains-push, Contains-push_cases}
 use Rattle.std.proofs.lemmas.Option.{slice_get_within}
 use Rattle.std.proofs.lemmas.Grind.{flat_map-append}
@@ -14,13 +14,14 @@ use Rattle.std.specs.Set.{is_member}
 use Rattle.std.proofs.lemmas.Map.Made.{is_member-Decides}
 use Rattle.std.proofs.lemmas.Bool.{false≢true}
 use Rattle.esto_views.specs.Spreads.{substituted}
+use Rattle.esto_views.proofs.SubstitutionLemmas.{substituted-outside}
 use Rattle.esto_semantics.specs.Sets.{Has, Within, united}
 use Rattle.esto_semantics.specs.declared.fact.Fact.{Fact}
 use Rattle.esto_term.proofs.ListLemmas.{Contains-nil, Contains-head, Contains-rest, Contains-one, map_agree}
 use Rattle.esto_semantics.proofs.SetLemmas.{has_united}
 use Rattle.esto_world_laws.specs.Worlds.{InWorld}
 use Rattle.esto_semantics.specs.Facts.{terms_of}
-use Rattle.esto_world_laws.specs.Matches.{unless_constant, taken, AreChosen, IsDirectMatch}
+use Rattle.esto_world_laws.specs.Matches.{unless_constant, taken, IsDirectMatch}
 use Rattle.esto_world_laws.specs.Derived.{Claims, IsNamed, IsUnion}
 use Rattle.esto_world_laws.specs.declared.entry.Claim.{Claim}
 use Rattle.esto_world_laws.specs.declared.entry.Claim.TheVariants.{Fact as Stated}
@@ -113,19 +114,8 @@ within_united one other atoms left right number has = elim ((has_united one othe
 
 -- ---- agreement on terms
 
--- a term that stands nowhere meets itself
-substituted-apart : (from to : List Term) (term : Term) → (Contains from term → ⊥) → substituted from to term ≡ term
-substituted-apart [] to term apart = refl
-substituted-apart (first ∷ from) [] term apart = refl
-substituted-apart (first ∷ from) (target ∷ to) term apart = by (same_term term first) refl
-    (substituted-apart from to term (λ inside. apart (Contains-rest first from term inside)))
-  where
-    by : (answer : Bool) → same_term term first ≡ answer → substituted from to term ≡ term → cond answer target (substituted from to term) ≡ term
-    by true told rest = absurd (apart (subst (Contains (first ∷ from)) (sym ((same_term-Decides term first).0 told)) (Contains-head first from)))
-    by false told rest = rest
-
 pub taken-apart : (from to others : List Term) (term : Term) → (Contains from term → ⊥) → taken from to term ≡ taken from others term
-taken-apart from to others term apart = ap (unless_constant (out-Term term) term) (substituted-apart from to term apart ∙ sym (substituted-apart from others term apart))
+taken-apart from to others term apart = ap (unless_constant (out-Term term) term) (substituted-outside from to term apart ∙ sym (substituted-outside from others term apart))
 
 -- of a term that stands in none of the first, the later places tell
 substituted-new : (from to more owns : List Term) → length from ≡ length to → (term : Term) → (Contains from term → ⊥)
@@ -245,13 +235,6 @@ last_chosen R [] atom (fact ∷ next ∷ more) z = absurd z.1
 last_chosen R (first ∷ body) atom [] z = absurd z
 last_chosen R (first ∷ body) atom (fact ∷ chosen) z = let rest = last_chosen R body atom chosen z.1 in
     (fact ∷ rest.0, rest.1, ap (λ it. fact ∷ it) rest.2, (z.0, rest.3), rest.4)
-
-pub chosen_length : (Holds : Claim → Type 0) (body chosen : List (Fact Term)) → AreChosen Holds body chosen → length (terms_of body) ≡ length (terms_of chosen)
-chosen_length Holds [] [] z = refl
-chosen_length Holds [] (fact ∷ chosen) z = absurd z
-chosen_length Holds (atom ∷ body) [] z = absurd z
-chosen_length Holds (atom ∷ body) (fact ∷ chosen) z = let rest = chosen_length Holds body chosen z.1 in
-    rw (length-append, length-append) (omega (arith, rest, z.0.2))
 
 -- ---- the turns of the loops
 

@@ -37,11 +37,11 @@ use Rattle.esto_world_laws.specs.declared.entry.Entry.{Entry}
 use Rattle.esto_world_laws.proofs.TakenLemmas.{taken-Const, taken_in}
 use Rattle.esto_world_laws.proofs.InductionLemmas.{all_derived}
 
-pub lengths : (Holds : Claim → Type 0) (body chosen : List (Fact Term)) → AreChosen Holds body chosen → length (terms_of body) ≡ length (terms_of chosen)
-lengths Holds [] [] are = refl
-lengths Holds [] (fact ∷ chosen) are = absurd are
-lengths Holds (atom ∷ body) [] are = absurd are
-lengths Holds (atom ∷ body) (fact ∷ chosen) are = let rest = lengths Holds body chosen are.1 in
+pub chosen_length : (Holds : Claim → Type 0) (body chosen : List (Fact Term)) → AreChosen Holds body chosen → length (terms_of body) ≡ length (terms_of chosen)
+chosen_length Holds [] [] are = refl
+chosen_length Holds [] (fact ∷ chosen) are = absurd are
+chosen_length Holds (atom ∷ body) [] are = absurd are
+chosen_length Holds (atom ∷ body) (fact ∷ chosen) are = let rest = chosen_length Holds body chosen are.1 in
     omega (arith, length-append atom.terms (terms_of body), length-append fact.terms (terms_of chosen), rest, are.0.2)
 
 module _ (rules : List Rule) (facts : List (Fact Term)) (rank : ℕ → ℕ) where
@@ -114,7 +114,7 @@ module _ (rules : List Rule) (facts : List (Fact Term)) (rank : ℕ → ℕ) whe
       met_low : (term : Term) → Mentions (body_of rule) term
           → (atom : Fact Term) × Contains (body_of rule) atom × IsLow stock width (rank atom.relation) (m term)
       met_low term inside =
-          elim (taken_in (terms_of (body_of rule)) (terms_of chosen) (lengths Holds (body_of rule) chosen matches.0) term
+          elim (taken_in (terms_of (body_of rule)) (terms_of chosen) (chosen_length Holds (body_of rule) chosen matches.0) term
           (Mentions-terms_of (body_of rule) term inside)) [
             | inl constant ↦ (
               inside.0,

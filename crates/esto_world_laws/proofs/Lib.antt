@@ -13,3 +13,4 @@ pub mod ContainLemmas
 pub mod RestLemmas
 pub mod MatchRestLemmas
 mod ContainedLemmas
+pub mod ClaimLemmas

@@ -26,9 +26,9 @@ use Rattle.esto_world_laws.specs.declared.entry.Claim.TheVariants.{Fact as State
 use Rattle.esto_world_laws.specs.declared.entry.Entry.{Entry}
 use Rattle.esto_world_laws.specs.declared.entry.Reason.{Reason}
 use Rattle.esto_world_laws.specs.declared.entry.Reason.TheVariants.{Expanded, Step, Equal}
-use Rattle.esto_world_laws.proofs.BoundLemmas.{lengths}
 use Rattle.esto_world_laws.proofs.InductionLemmas.{all_derived}
 use Rattle.esto_world_laws.proofs.TakenLemmas.{taken-Const, taken_in}
+use Rattle.esto_world_laws.proofs.BoundLemmas.{chosen_length}
 
 module _ (expanded : List ExpandedFact) (rules : List Rule) (are_rules : AreRules rules) where
   -- ---- what a rule asks for at a match is about terms that the match is about
@@ -49,7 +49,7 @@ module _ (expanded : List ExpandedFact) (rules : List Rule) (are_rules : AreRule
 
     pub at_body : (term : Term) → Mentions (body_of rule) term → m term ≡ Plain variable → IsMet
     at_body term inside is =
-        elim (taken_in (terms_of (body_of rule)) (terms_of chosen) (lengths Holds (body_of rule) chosen matches.0) term
+        elim (taken_in (terms_of (body_of rule)) (terms_of chosen) (chosen_length Holds (body_of rule) chosen matches.0) term
         (Mentions-terms_of (body_of rule) term inside)) [
           | inl constant ↦ at_constant term constant is
           | inr met ↦ terms_of-Mentions chosen (Plain variable) (subst (Contains (terms_of chosen)) is met)
