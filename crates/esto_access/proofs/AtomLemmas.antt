@@ -18,10 +18,10 @@ use Rattle.esto_access.specs.Ways.{IsWay}
 use Rattle.esto_term.proofs.ListLemmas.{Contains-at, map_at}
 
 module _ (atoms : List PlanAtom) (number : ℕ) (atom : PlanAtom) (at : slice_get atoms number ≡ Some atom) where
-  at_fact : slice_get (map fact_of atoms) number ≡ Some (fact_of atom)
+  pub at_fact : slice_get (map fact_of atoms) number ≡ Some (fact_of atom)
   at_fact = map_at fact_of atoms number atom at
 
-  one_fact : (fact : Fact Term) → slice_get (map fact_of atoms) number ≡ Some fact → fact_of atom ≡ fact
+  pub one_fact : (fact : Fact Term) → slice_get (map fact_of atoms) number ≡ Some fact → fact_of atom ≡ fact
   one_fact fact e = same_Some (fact_of atom) fact (sym at_fact ∙ e)
 
   pub occurs : (term : Term) (answer : Bool) → IsTrue answer ↔ Contains atom.terms term

@@ -1,9 +1,9 @@
 -- What an atom needs, by what products cover.
 use Rattle.std.proofs.Common.{◌≡◌, ◌↔◌, ◌⊎◌, ℕ, ◌+◌, ◌≤◌, Bool, false, List, [], map, length, replicate, Some, slice_get, slice_index_or, Contains, refl, sym}
-use Rattle.std.proofs.Common.{ap, ◌∙◌, subst, inl, inr, arith}
+use Rattle.std.proofs.Common.{ap, subst, inl, inr, arith}
 use Rattle.std.proofs.lemmas.Bool.{cases_lt}
 use Rattle.std.proofs.lemmas.List.{length-map, get_or_past}
-use Rattle.std.proofs.lemmas.Option.{same_Some, get_or_from_slice_get}
+use Rattle.std.proofs.lemmas.Option.{get_or_from_slice_get}
 use Rattle.esto_term.specs.declared.term.Term.{Term}
 use Rattle.esto_semantics.specs.declared.fact.Fact.{Fact}
 use Rattle.esto_semantics.specs.Access.{IsInput, IsBound, MeetsPattern, IsAccessible}
@@ -17,7 +17,7 @@ use Rattle.esto_views.specs.declared.plan.PlanAtom.{PlanAtom}
 use Rattle.esto_views.proofs.PatternLemmas.{patterns_at}
 use Rattle.esto_bits.specs.Kept.{Kept, kept}
 use Rattle.esto_access.specs.Supplies.{sets_at, IsSupplied}
-use Rattle.esto_access.proofs.AtomLemmas.{no_patterns}
+use Rattle.esto_access.proofs.AtomLemmas.{no_patterns, one_fact}
 use Rattle.esto_access.specs.Rounds.{IsNextIn}
 use Rattle.esto_bits.proofs.JoinLemmas.{covers_none}
 use Rattle.esto_term.proofs.ListLemmas.{Contains-nil, HoldsBelow, SomeBelow, some_none, some_step, some_all, some_contained, each_none, each_step, each_all}
@@ -183,16 +183,13 @@ module _ (atoms : List (Fact Term)) (supplies : List Kept) (number : ℕ) (atom 
 
 module _ (atoms : List PlanAtom) (fragments : List FragmentDef) (supplies : List Kept) (number : ℕ) (atom : PlanAtom) (at : slice_get atoms number ≡ Some atom)
   where
-    one_fact : (fact : Fact Term) → slice_get (map fact_of atoms) number ≡ Some fact → fact_of atom ≡ fact
-    one_fact fact e = same_Some (fact_of atom) fact (sym (map_at fact_of atoms number atom at) ∙ e)
-
     pub next_none : (found : List (List Bool)) → found ≡ [] → length fragments ≤ atom.fragment
         → (set : List Bool) → Covers found set ↔ IsNextIn (patterns_of fragments) (map fact_of atoms) set (IsSupplied supplies set) number
     next_none found is l set = (
       λ h. absurd (covers_none set (subst (λ it. Covers it set) is h)),
       λ (has, (fact, at_fact, (pattern, own, meets))). absurd
           (Contains-nil pattern (subst (λ its. Contains its pattern) (no_patterns fragments atom.fragment l)
-          (subst (λ (it : Fact Term). Contains (slice_index_or (patterns_of fragments) it.relation []) pattern) (sym (one_fact fact at_fact)) own))),
+          (subst (λ (it : Fact Term). Contains (slice_index_or (patterns_of fragments) it.relation []) pattern) (sym (one_fact atoms number atom at fact at_fact)) own))),
     )
 
     pub next_some : (fragment : FragmentDef) → slice_get fragments atom.fragment ≡ Some fragment → (found : List (List Bool))
@@ -205,6 +202,6 @@ module _ (atoms : List PlanAtom) (fragments : List FragmentDef) (supplies : List
           λ h. let (has, (pattern, inside, meets)) = (covers set).0
               h in (has, (fact_of atom, map_at fact_of atoms number atom at, (pattern, subst (λ its. Contains its pattern) (sym own) inside, meets))),
           λ (has, (fact, at_fact, accessible)).
-              let here = subst (IsAccessible (patterns_of fragments) (map fact_of atoms) (IsSupplied supplies set)) (sym (one_fact fact at_fact)) accessible in
+              let here = subst (IsAccessible (patterns_of fragments) (map fact_of atoms) (IsSupplied supplies set)) (sym (one_fact atoms number atom at fact at_fact)) accessible in
               (covers set).1 (has, (here.0, subst (λ its. Contains its here.0) own here.1, here.2)),
         )

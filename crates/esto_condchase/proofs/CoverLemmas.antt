@@ -161,6 +161,12 @@ module _ (entries later : List Entry) (entry : Entry) (added : IsAdded entries e
   pub added_more : (others : List Entry) × (later ≡ entries ++ others)
   added_more = elim added [ inl same ↦ ([], same.1 ∙ sym (append-nil entries)) | inr new ↦ (entry ∷ [], new.1) ]
 
+  pub added_keeps : (other : Entry) → Contains entries other → Contains later other
+  added_keeps other inside = elim added [
+    | inl same ↦ subst (λ its. Contains its other) (sym same.1) inside
+    | inr new ↦ subst (λ its. Contains its other) (sym new.1) (Contains-append_left entries (entry ∷ []) other inside)
+  ]
+
   pub added_there : IsThere later entry.claim entry.product
   added_there atoms within = elim added [
     | inl same ↦ subst (λ it. IsCovered (InWorld it atoms) entry.claim) (sym same.1)

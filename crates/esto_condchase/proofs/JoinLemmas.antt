@@ -67,7 +67,7 @@ pub says_touching : (entries : List Entry) (entry : Entry) (set : List Bool) (te
 says_touching entries entry set term other inside within (inl is) = inr (inl (entry, inside, within, is))
 says_touching entries entry set term other inside within (inr is) = inr (inr (entry, inside, within, is))
 
-says_side : (claim : Claim) (term other : Term) → SaysOne claim term other → HasSide claim term
+pub says_side : (claim : Claim) (term other : Term) → SaysOne claim term other → HasSide claim term
 says_side claim term other (inl is) = subst (λ it. HasSide it term) (sym is) (inl refl)
 says_side claim term other (inr is) = subst (λ it. HasSide it term) (sym is) (inr refl)
 

@@ -31,7 +31,7 @@ use Rattle.esto_world_laws.proofs.GrowLemmas.{InWorld-more, AreDerived-push}
 use Rattle.esto_world_laws.specs.Worlds.{AreOfCount}
 use Rattle.esto_condchase.specs.Rounds.{IsAdded, IsEntryOf, IsGrownBy}
 use Rattle.esto_term.proofs.PlaceLemmas.{take-item}
-use Rattle.esto_condchase.proofs.CoverLemmas.{added_there}
+use Rattle.esto_condchase.proofs.CoverLemmas.{added_there, added_keeps}
 
 pub one_number : (old new : List Bool) (count atom : ℕ) → old ≡ replicate count false → ((number : ℕ) → Has new number ↔ ((number ≡ atom) ⊎ Has old number))
     → (number : ℕ) → Has new number ↔ (number ≡ atom)
@@ -81,7 +81,7 @@ given_turn facts count place fact entries later it product within is it_is count
   ];
   given = λ other inside atoms in_atoms. elim (Contains-push_cases (take place facts) fact other
       (subst (λ its. Contains its other) (take-item facts place fact within is) inside)) [
-        | inl earlier ↦ InWorld-more entries later atoms kept (Stated other.fact) (so_far.given other earlier atoms in_atoms)
+        | inl earlier ↦ InWorld-more entries later atoms (added_keeps entries later entry_of added) (Stated other.fact) (so_far.given other earlier atoms in_atoms)
         | inr same ↦
             let here : InWorld later atoms (Stated it) =
             added_there entries later entry_of added atoms
@@ -93,12 +93,6 @@ given_turn facts count place fact entries later it product within is it_is count
   where
     entry_of : Entry
     entry_of = record { claim = Stated it; product = product; reason = Expanded fact.atom fact.place }
-
-    kept : (entry : Entry) → Contains entries entry → Contains later entry
-    kept entry inside = elim added [
-      | inl same ↦ subst (λ its. Contains its entry) (sym same.1) inside
-      | inr new ↦ subst (λ its. Contains its entry) (sym new.1) (Contains-append_left entries (entry_of ∷ []) entry inside)
-    ]
 
 -- the same, of the entry itself
 pub given_entry : (facts : List ExpandedFact) (count place : ℕ) (fact : ExpandedFact) (entries later : List Entry) (entry : Entry)

@@ -23,16 +23,15 @@ use Rattle.esto_term.proofs.ZipLemmas.{zip_both, zip_by_places, zip_weaker}
 use Rattle.esto_world_laws.specs.Worlds.{InWorld, SaysOne}
 use Rattle.esto_world_laws.specs.Matches.{IsLike, taken, Touching}
 use Rattle.esto_world_laws.specs.Derived.{IsNamed, IsUnion, IsEquality}
-use Rattle.esto_world_laws.specs.declared.entry.Claim.{Claim}
 use Rattle.esto_world_laws.specs.declared.entry.Claim.TheVariants.{Fact as Stated}
 use Rattle.esto_world_laws.specs.declared.entry.Entry.{Entry}
 use Rattle.esto_world_laws.proofs.LinkLemmas.{Touching-more}
 use Rattle.esto_world_laws.proofs.GrowLemmas.{InWorld-within}
 use Rattle.esto_world_laws.proofs.TakenLemmas.{taken-Const, taken_cases, Fits-join}
 use Rattle.esto_condchase.proofs.WayLemmas.{IsUnion-more, last_more, fact_more, within_united, taken-apart, IsNamed-held}
+use Rattle.esto_condchase.proofs.JoinLemmas.{says_side}
 use Rattle.esto_condchase.specs.Ways.{AreCounted, Grown, AreAllLive, AreAllFacts, IsFirstAt, IsMetAt, TellsOne, HasWay, IsTold, HasSupport, meets, IsLinkedFrom, TouchesFrom}
 use Rattle.esto_condchase.specs.Ways.{IsStale, AreFresh, IsFreeLink, floor_of, PassesTo, PassesIn, IsPassedAt, IsLonger, IsSupport, AreLonger, AreSupports, ComesBy, Comes, extended, IsOldWay, GoesOn}
-use Rattle.esto_known.specs.Indexes.{HasSide}
 use Rattle.esto_condchase.specs.declared.passing.Support.{Support}
 use Rattle.esto_condchase.specs.declared.ways.Way.{Way}
 
@@ -749,10 +748,6 @@ goes_told entries since from atom sides places before ways told set fact within 
     inl (inl (way_wider places ways (before.to ++ fact.terms) before.product set (told fact.terms) within))
 
 -- ---- facts that make nothing new
-
-says_side : (claim : Claim) (own goal : Term) → SaysOne claim own goal → HasSide claim own
-says_side claim own goal (inl is) = subst (λ it. HasSide it own) (sym is) (inl refl)
-says_side claim own goal (inr is) = subst (λ it. HasSide it own) (sym is) (inr refl)
 
 pub stale_goes : (entries : List Entry) (since : ℕ) (from : List Term) (atom : Fact Term) (sides : Option (ℕ × ℕ)) (places : List ℕ) (before : Way)
     (ways : List Way) (place : ℕ)

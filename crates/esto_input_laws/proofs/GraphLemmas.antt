@@ -8,6 +8,7 @@ use Rattle.std.proofs.lemmas.List.Elements.{recursion_from_All}
 use Rattle.esto_acyclic.proofs.CycleLemmas.{IsAtMost-less, IsAtMost-same}
 use Rattle.esto_acyclic.proofs.EdgeLemmas.{joins_edges, cycle_below}
 use Rattle.esto_acyclic.proofs.WalkLemmas.{walk_is_short, short_walk}
+use Rattle.esto_acyclic.proofs.DistanceLemmas.{IsLeastWalk}
 use Rattle.esto_acyclic.specs.Graphs.{IsWithin, IsWalk, IsCycleAt, HasNoCycle, IsAcyclic, IsLeastCycleAt, IsLeastCycle, Arrives, IsRank, AreRanks}
 use Rattle.esto_acyclic.specs.Relations.{IsEdge, AreNamesOf, edges_of}
 use Rattle.esto_acyclic.specs.Rounds.{Leads}
@@ -76,12 +77,6 @@ module _ (Edge : ℕ → ℕ → Type 0) (count : ℕ) (within : IsWithin count 
 
   -- ---- the least walk of so many edges
 
-  -- it is a walk of so many edges, and the least of these
-  record IsLeastWalk (from edges to : ℕ) (relations : List ℕ) : Type 0 where
-    walk : IsWalk Edge from relations to
-    long : length relations ≡ edges
-    least : (others : List ℕ) → IsWalk Edge from others to → length others ≡ edges → IsAtMost relations others
-
   -- walks from different relations are in the order of these
   in_order : (first second : ℕ) (one other : List ℕ) (to : ℕ) → IsWalk Edge first one to → IsWalk Edge second other to → length other ≡ length one → first < second
       → IsAtMost one other
@@ -89,7 +84,7 @@ module _ (Edge : ℕ → ℕ → Type 0) (count : ℕ) (within : IsWithin count 
   in_order first second (x ∷ one) [] to walk walk' same less = absurd (omega (arith, same))
   in_order first second (x ∷ one) (y ∷ other) to (next, is, edge, walk) (next', is', edge', walk') same less = IsAtMost-less x y one other (omega (arith, is, is', less))
 
-  least_walk : (edges from to : ℕ) → Leads Edge from edges to → (relations : List ℕ) × IsLeastWalk from edges to relations
+  least_walk : (edges from to : ℕ) → Leads Edge from edges to → (relations : List ℕ) × IsLeastWalk Edge from edges to relations
   least_walk zero from to (relations, walk, long) =
       ([], record { walk = none relations walk long; long = refl; least = λ others walk' long'. IsAtMost-nil others })
     where
@@ -101,8 +96,8 @@ module _ (Edge : ℕ → ℕ → Type 0) (count : ℕ) (within : IsWithin count 
     where
       by : ((next : ℕ) × (next < count) × Steps from edges to next × ((other : ℕ) → other < next → Steps from edges to other → ⊥))
           ⊎ ((next : ℕ) → next < count → Steps from edges to next → ⊥)
-          → ((next : ℕ) → Leads Edge next edges to → (relations : List ℕ) × IsLeastWalk next edges to relations)
-          → (relations : List ℕ) × IsLeastWalk from (suc edges) to relations
+          → ((next : ℕ) → Leads Edge next edges to → (relations : List ℕ) × IsLeastWalk Edge next edges to relations)
+          → (relations : List ℕ) × IsLeastWalk Edge from (suc edges) to relations
       by (inr none) later = let (next, below, goes) = first_step from edges to found in absurd (none next below goes)
       by (inl (next, below, (edge, goes), first)) later =
           let (rest, is) = later next goes in (
@@ -114,7 +109,7 @@ module _ (Edge : ℕ → ℕ → Type 0) (count : ℕ) (within : IsWithin count 
             },
           )
         where
-          compare : (rest : List ℕ) → IsLeastWalk next edges to rest → (others : List ℕ) → IsWalk Edge from others to → length others ≡ suc edges
+          compare : (rest : List ℕ) → IsLeastWalk Edge next edges to rest → (others : List ℕ) → IsWalk Edge from others to → length others ≡ suc edges
               → IsAtMost (from ∷ rest) others
           compare rest is [] walk long = absurd (omega (arith, long))
           compare rest is (y ∷ others) (other, same, edge', walk) long = IsAtMost-same from y rest others (sym same) (elim (cases_eq next other) [

@@ -13,6 +13,7 @@ use Rattle.esto_semantics.specs.Listed.{chosen, IsPick}
 use Rattle.esto_semantics.proofs.PlaceLemmas.{Has-within}
 use Rattle.esto_views.specs.declared.plan.PlanAtom.{PlanAtom}
 use Rattle.esto_views.specs.Plans.{fact_of}
+use Rattle.esto_access.proofs.AtomLemmas.{at_fact}
 use Rattle.esto_list.specs.declared.listing.Listed.{Listed}
 use Rattle.esto_list.specs.Items.{set_weight, sets_of, totals_of}
 use Rattle.esto_term.proofs.ListLemmas.{map_at}
@@ -82,13 +83,11 @@ module _ (weights : List ℕ) where
 
   module _ (atoms : List PlanAtom) (given : List PlanAtom) (same : given ≡ atoms) (set : List Bool) (number : ℕ) (atom : PlanAtom)
       (below : number < length given) (is : atom ≡ get_or given number atom) where
-    at : slice_get (map fact_of atoms) number ≡ Some (fact_of atom)
-    at = map_at fact_of atoms number atom (subst (λ it. slice_get it number ≡ Some atom) same (item_at given number atom below is))
-
     step : set_weight weights (drop number (map fact_of atoms)) (drop number set)
         ≡ cond (slice_index_or set number false) (slice_index_or weights atom.fragment 0) 0 + set_weight weights (drop (number + 1) (map fact_of atoms))
         (drop (number + 1) set)
-    step = weight_step (map fact_of atoms) set number (fact_of atom) at
+    step = weight_step (map fact_of atoms) set number (fact_of atom)
+        (at_fact atoms number atom (subst (λ it. slice_get it number ≡ Some atom) same (item_at given number atom below is)))
         ∙ ap (λ next. cond (slice_index_or set number false) (slice_index_or weights atom.fragment 0) 0 + set_weight weights (drop next (map fact_of atoms))
         (drop next set)) (sym (add-one number))
 

@@ -9,7 +9,7 @@ use Rattle.esto_text.specs.declared.stop.Stop.TheVariants.{Syntax}
 use Rattle.esto_text.specs.declared.token.Token.{Token}
 use Rattle.esto_text.specs.declared.token.TokenKind.TheVariants.{LeftBrace}
 use Rattle.esto_text.proofs.Runs.{seen, group_runs}
-use Rattle.esto_text.proofs.RowLemmas.{fails_along, fails_here, not_group}
+use Rattle.esto_text.proofs.RowLemmas.{fails_along, fails_here, not_group, left_fails}
 
 pub no_layout : (tokens : List Token) (e : Stop) → (e ≡ Syntax (length tokens)) × (class_at tokens ≢ LeftBrace) → FailsAt layout_start tokens e
 no_layout tokens e (is, other) = fails_here AGroup [] tokens e refl (not_group (class_at tokens) other) is
@@ -25,11 +25,7 @@ module _ (tokens rest : List Token) (brace : Token) (h : (tokens ≡ brace ∷ r
     pub more_fails : ¬ (length left ≡ 0) → FailsAt layout_start tokens (Syntax (length left))
     more_fails more =
         fails_along layout_start [] tokens left (Syntax (length left))
-        (opened ∙ ap (first_fault (AnEntry 1 ∷ MoreEntries 1 ∷ [])) group.1 ∙ group_runs fs 1 group.0 [] left group.2) (here left more)
-      where
-        here : (l : List Token) → ¬ (length l ≡ 0) → FailsAt [] l (Syntax (length l))
-        here [] ne = absurd (ne refl)
-        here (t ∷ ts) ne = (t ∷ ts, refl, refl)
+        (opened ∙ ap (first_fault (AnEntry 1 ∷ MoreEntries 1 ∷ [])) group.1 ∙ group_runs fs 1 group.0 [] left group.2) (left_fails left more)
 
     pub layout_is : length left ≡ 0 → IsLayout fs tokens
     layout_is none = (brace, rest, h.0, h.1, subst (IsGroup 1 fs) (sym (whole left group.1 none)) group.2)

@@ -16,6 +16,11 @@ use Rattle.esto_text.proofs.Runs.{after, put, seen, term_seen}
 
 -- ---- failures
 
+-- where nothing may follow, what is left is at fault
+pub left_fails : (left : List Token) → ¬ (length left ≡ 0) → FailsAt [] left (Syntax (length left))
+left_fails [] some = absurd (some refl)
+left_fails (token ∷ rest) some = (token ∷ rest, refl, refl)
+
 pub fails_along : (xs ys : List Symbol) (ts us : List Token) (e : Stop) → first_fault xs ts ≡ first_fault ys us → FailsAt ys us e → FailsAt xs ts e
 fails_along xs ys ts us OutOfMemory p h = tt
 fails_along xs ys ts us (Syntax left) p h = (h.0, p ∙ h.1, h.2)

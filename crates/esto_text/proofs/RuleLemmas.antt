@@ -16,7 +16,7 @@ use Rattle.esto_text.specs.Machine.{Takes}
 use Rattle.esto_text.specs.View.{item_of}
 use Rattle.esto_text.proofs.Runs.{seen, term_seen, item_runs, rule_body_runs, head_runs, head_through, plain_or_denial}
 use Rattle.esto_text.proofs.Unique.{rule_body_one}
-use Rattle.esto_text.proofs.RowLemmas.{fails_along, fails_here, not_more_body, Grows, next, Goes, Ends, Ended, NoEnd, row_more}
+use Rattle.esto_text.proofs.RowLemmas.{fails_along, fails_here, not_more_body, Grows, next, Goes, Ends, Ended, NoEnd, row_more, left_fails}
 use Rattle.esto_text.proofs.ItemLemmas.{Named, body_cons}
 use Rattle.esto_text.proofs.PathLemmas.{next_is}
 
@@ -87,11 +87,7 @@ module _ (tokens rest : List Token) (name : Token) (h : Named tokens name rest) 
       pub side_end_fails : ¬ (length left ≡ 0) → FailsAt (AHead ∷ []) tokens (Syntax (length left))
       side_end_fails ne =
           fails_along (AHead ∷ []) [] tokens left (Syntax (length left)) (to_term ∙ ap (first_fault (ATerm ∷ [])) g.0 ∙ term_seen [] right left g.1)
-          (here left ne)
-        where
-          here : (l : List Token) → ¬ (length l ≡ 0) → FailsAt [] l (Syntax (length l))
-          here [] ne = absurd (ne refl)
-          here (t ∷ ts) ne = (t ∷ ts, refl, refl)
+          (left_fails left ne)
 
 -- ---- a denial
 

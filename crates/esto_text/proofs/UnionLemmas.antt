@@ -14,7 +14,7 @@ use Rattle.esto_text.specs.Machine.{Symbol, AName, ATerm, ANext, AParen, ABracke
 use Rattle.esto_text.specs.Machine.{AHead, HeadRest, AGroup, AnEntry, PathRest, MoreEntries, start, step, advance, first_fault, HasNoSemicolon, EndsQuery}
 use Rattle.esto_text.specs.Machine.{IsCut}
 use Rattle.esto_text.specs.Trees.{QueryTree}
-use Rattle.esto_text.proofs.Runs.{query_runs}
+use Rattle.esto_text.proofs.Runs.{query_runs, after}
 use Rattle.esto_text.proofs.Unique.{query_one}
 
 -- ---- a query has no semicolon
@@ -43,14 +43,11 @@ advance_none : (xs : List Symbol) → advance xs Semicolon ≡ None
 advance_none [] = refl
 advance_none (x ∷ xs) = ap (λ (o : Option (List Symbol)). elim o [ Some new ↦ Some (new ++ xs) | None ↦ None ]) (step_none x)
 
-abbrev After : Option (List Symbol) → Token → List Token → Option (List Token)
-After o t ts = elim o [ Some new ↦ first_fault new ts | None ↦ Some (t ∷ ts) ]
-
 fits_none : (xs : List Symbol) (ts : List Token) → first_fault xs ts ≡ None → HasNoSemicolon ts
 fits_none xs [] e = tt
 fits_none xs (t ∷ ts) e = go (advance xs (class_of t)) refl e (λ new. fits_none new ts)
   where
-    go : (o : Option (List Symbol)) → advance xs (class_of t) ≡ o → After o t ts ≡ None
+    go : (o : Option (List Symbol)) → advance xs (class_of t) ≡ o → after o t ts ≡ None
         → ((new : List Symbol) → first_fault new ts ≡ None → HasNoSemicolon ts) → HasNoSemicolon (t ∷ ts)
     go None f g later = absurd cc
     go (Some new) f g later = (
