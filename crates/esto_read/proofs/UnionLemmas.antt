@@ -30,7 +30,7 @@ use Rattle.esto_read.proofs.ReadLemmas.{query_parts}
 
 -- ---- the trees
 
-end_parts : (count : ℕ) (trees : List QueryTree) (tokens : List Token) → IsUnionEnd count trees tokens → AllByRecursion HasParts trees
+pub end_parts : (count : ℕ) (trees : List QueryTree) (tokens : List Token) → IsUnionEnd count trees tokens → AllByRecursion HasParts trees
 end_parts count [] tokens h = tt
 end_parts count (tree ∷ trees) tokens (semicolon, a, b, e, is, less, query, end) = (query_parts tree a query, end_parts (suc count) trees b end)
 

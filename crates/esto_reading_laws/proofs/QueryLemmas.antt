@@ -6,7 +6,7 @@ use Rattle.std.proofs.lemmas.Bool.{cases_eq}
 use Rattle.esto_query.specs.declared.query.Query.{Query}
 use Rattle.esto_text.proofs.LeafLemmas.{tree_stands, union_stands}
 use Rattle.esto_text.specs.Faults.{StandsAt}
-use Rattle.esto_text.specs.Grammar.{IsQuery, IsUnionEnd, IsUnion}
+use Rattle.esto_text.specs.Grammar.{IsQuery, IsUnion}
 use Rattle.esto_text.specs.Limits.{limited, limited_union}
 use Rattle.esto_text.specs.Tokens.{text_of}
 use Rattle.esto_text.specs.Trees.{QueryTree}
@@ -14,6 +14,7 @@ use Rattle.esto_text.specs.declared.fault.TextKind.TheVariants.{HeadLength}
 use Rattle.esto_text.specs.declared.token.Token.{Token}
 use Rattle.esto_read.proofs.BelowLemmas.{names_are_terms, terms_length}
 use Rattle.esto_read.proofs.ReadLemmas.{query_parts, sound}
+use Rattle.esto_read.proofs.UnionLemmas.{end_parts}
 use Rattle.esto_read.specs.Readings.{IsRead, HasParts, IsSaid, IsTreeFault, IsReading, IsFirstFault}
 use Rattle.esto_read.specs.Unions.{head_length, IsSaidWith, AreSaid, IsFaultWith, IsFirstFaultWith, IsUnionReading, IsFirstUnionFault}
 use Rattle.esto_read.specs.Words.{HasRelations, IsVocabulary}
@@ -87,10 +88,6 @@ module _ (words : List Word) (schema : List ℕ) (vocabulary : IsVocabulary sche
           | inr (fault, faulty) ↦ inr (fault, inr (tree, (tokens, are, is), faulty))
         ]
   ]
-
-  end_parts : (count : ℕ) (trees : List QueryTree) (tokens : List Token) → IsUnionEnd count trees tokens → AllByRecursion HasParts trees
-  end_parts count [] tokens h = tt
-  end_parts count (tree ∷ trees) tokens (semicolon, a, b, e, parts, less, is, more) = (query_parts tree a is, end_parts _ trees b more)
 
   union_parts : (trees : List QueryTree) (tokens : List Token) → IsUnion trees tokens → AllByRecursion HasParts trees
   union_parts [] tokens h = absurd h

@@ -11,10 +11,11 @@ use Rattle.std.proofs.Math.Seq.{drop-append_seam}
 use Rattle.esto_term.proofs.ChoiceLemmas.{Decided, decided_as, decided_both, decided_either}
 use Rattle.esto_text.proofs.LexemeLemmas.{kind_of, kind_is, nil_of}
 use Rattle.esto_text.proofs.ScanLemmas.{StateQ, not_closed_nil, closed_cons, quote_cons, inside_cons}
+use Rattle.esto_text.proofs.Covering.{is_token}
 use Rattle.esto_text.specs.Gaps.{IsLetter, IsDigit, IsIn, IsGap, IsComment, BeginsNoGap, BeginsWithout}
-use Rattle.esto_text.specs.Lexemes.{IsNameText, IsNumberText, IsLexeme, IsLongest, Lexes}
+use Rattle.esto_text.specs.Lexemes.{IsNameText, IsNumberText, IsLexeme, Lexes}
 use Rattle.esto_text.specs.Quotes.{IsClosed}
-use Rattle.esto_text.specs.Tokens.{IsToken, Covers, AreTokens}
+use Rattle.esto_text.specs.Tokens.{Covers, AreTokens}
 use Rattle.esto_text.specs.declared.scan.Class.{Class}
 use Rattle.esto_text.specs.declared.scan.Class.TheVariants.{Letter, Digit, Word, Blank}
 use Rattle.esto_text.specs.declared.token.Token.{Token}
@@ -199,10 +200,6 @@ module _ (bytes : List ℕ) where
   ]
 
 -- ---- all tokens
-
-is_token : (k : TokenKind) (t a : List ℕ) → IsLongest k t a → IsToken k t a
-is_token Stray t a h = absurd h.stands
-is_token _ t a h = h
 
 -- so of each list of no more bytes than these
 abbrev CoveredLater : ℕ → Type 0

@@ -136,7 +136,7 @@ pub record CoversSoFar (bytes : List ℕ) (ts : List Token) (at : ℕ) : Type 0 
 abbrev pub Next : List ℕ → TokenKind → ℕ → ℕ → Type 0
 Next bytes kind start end = (start ≤ end) × (end ≤ length bytes) × IsToken kind (take (end - start) (drop start bytes)) (drop end bytes)
 
-is_token : (k : TokenKind) (t a : List ℕ) → IsLongest k t a → IsToken k t a
+pub is_token : (k : TokenKind) (t a : List ℕ) → IsLongest k t a → IsToken k t a
 is_token Stray t a h = absurd h.stands
 is_token _ t a h = h
 
