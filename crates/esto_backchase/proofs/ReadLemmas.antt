@@ -3,37 +3,25 @@ use Rattle.std.proofs.Common.{◌≡◌, ◌⊎◌, inl, inr, ℕ, List, [], ◌
 use Rattle.std.specs.List.{AllZip}
 use Rattle.esto_term.specs.declared.term.Term.{Term}
 use Rattle.esto_term.specs.declared.term.Term.TheVariants.{Const}
-use Rattle.esto_term.proofs.ChoiceLemmas.{Decided}
-use Rattle.esto_term.proofs.DistinctLemmas.{decided_contains}
-use Rattle.esto_term.proofs.ListLemmas.{Contains-flat, Contains-flat_from, Contains-head, Contains-map, Contains-map_from, Contains-rest}
-use Rattle.esto_semantics.specs.Facts.{Database, Mentions, image, terms_of}
+use Rattle.esto_term.proofs.ListLemmas.{Contains-head, Contains-map, Contains-map_from, Contains-rest}
+use Rattle.esto_semantics.specs.Facts.{Database, Mentions, image}
 use Rattle.esto_semantics.specs.Maps.{IsConstant, IsFixedBy, Keeps, SendsInto}
 use Rattle.esto_semantics.specs.Queries.{ConjunctiveQuery}
 use Rattle.esto_semantics.specs.declared.fact.Fact.{Fact}
 use Rattle.esto_semantics.specs.declared.fact.Value.{Value}
 use Rattle.esto_semantics.specs.declared.fact.Value.TheVariants.{Text, Node}
-use Rattle.esto_semantics.proofs.TermLemmas.{decided_term}
 use Rattle.esto_semantics.proofs.ValueLemmas.{Text-same, Text-apart-Node}
 use Rattle.esto_world_laws.specs.Laws.{HasMatch, IsReadAs}
 use Rattle.esto_world_laws.specs.Worlds.{Linked, Reaches, here}
 use Rattle.esto_world_laws.specs.declared.entry.Claim.{Claim}
 use Rattle.esto_world_laws.specs.declared.entry.Claim.TheVariants.{Fact as Stated}
+use Rattle.esto_query.proofs.SoundLemmas.{mentions_decided}
 
 -- ---- values, and what facts mention
-
-abbrev text_of : Value → List ℕ
-text_of (Text text) = text
-text_of (Node node) = []
 
 value_cases : (value : Value) → ((text : List ℕ) × (value ≡ Text text)) ⊎ ((node : ℕ) × (value ≡ Node node))
 value_cases (Text text) = inl (text, refl)
 value_cases (Node node) = inr (node, refl)
-
-decided_mention : (facts : List (Fact Term)) (term : Term) → Decided (Mentions facts term)
-decided_mention facts term = elim (decided_contains decided_term (terms_of facts) term) [
-  | inl inside ↦ inl (Contains-flat_from (λ (fact : Fact Term). fact.terms) facts term inside)
-  | inr none ↦ inr (λ (fact, there, inside). none (Contains-flat (λ (it : Fact Term). it.terms) facts fact term there inside))
-]
 
 module _ (Holds : Claim → Type 0) (database : Database) (value : Term → Value) (read : IsReadAs Holds database value) (query : ConjunctiveQuery)
     (m : Term → Value) (keeps : Keeps Text m) (sends : SendsInto m query.body (Contains database)) where
@@ -62,7 +50,7 @@ module _ (Holds : Claim → Type 0) (database : Database) (value : Term → Valu
   choice : (term : Term) → (name : Term) × IsName term name
   choice term = elim (value_cases (m term)) [
     | inl (text, is) ↦ (Const text, ((λ other other_is. ap Const (Text-same text other (sym is ∙ other_is))), (λ mentioned. inl (text, is))))
-    | inr (node, is) ↦ elim (decided_mention query.body term) [
+    | inr (node, is) ↦ elim (mentions_decided query.body term) [
       | inl mentioned ↦ (let found = held term mentioned in
           (found.0, ((λ other other_is. absurd (Text-apart-Node other node (sym other_is ∙ is))), (λ again. inr (found.1, found.2)))))
       | inr none ↦ (term, ((λ other other_is. absurd (Text-apart-Node other node (sym other_is ∙ is))), (λ mentioned. absurd (none mentioned))))

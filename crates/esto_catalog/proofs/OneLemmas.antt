@@ -23,10 +23,10 @@ use Rattle.esto_course.proofs.Determined.{judges_determined, each_determined}
 use Rattle.esto_course.specs.Course.{Course, Stops, and_then, demands, each, gives}
 use Rattle.esto_course.specs.Course.Stops.{is_free, refused}
 use Rattle.esto_query.specs.Schemas.{arities_of, names_of}
-use Rattle.esto_query.specs.Soundness.{IsSound}
 use Rattle.esto_query.specs.declared.query.Name.{Name}
 use Rattle.esto_query.specs.declared.query.Name.TheVariants.{Given}
 use Rattle.esto_query.specs.declared.query.Query.{Query}
+use Rattle.esto_query.proofs.SoundLemmas.{same_query}
 use Rattle.esto_read.specs.Constraints.{AreSameRule, HaveOneRule, HaveNoRuleFault, HaveOneRuleFault}
 use Rattle.esto_docmodel.specs.Layouts.{IsLayout}
 use Rattle.esto_docmodel.specs.Shapes.{entries_of}
@@ -95,18 +95,9 @@ use Rattle.esto_settings.specs.declared.setting.Setting.TheVariants.{Text, Integ
 over_prop : {A C : Type 0} (B : A → Type 0) → ((a : A) (x y : B a) → x ≡ y) → (f : (a : A) → B a → C) → (a b : A) → a ≡ b → (x : B a) (y : B b) → f a x ≡ f b y
 over_prop {A} B prop f a b same = let P : A → Type 0 = λ c. (x : B a) (y : B c) → f a x ≡ f c y in subst P same (λ x y. ap (f a) (prop a x y))
 
-abbrev Parts : Type 0
-Parts = List Term × List (Fact Term) × List Name
-
-query_same : (query other : Query) → query.head ≡ other.head → query.body ≡ other.body → query.names ≡ other.names → query ≡ other
-query_same query other heads bodies names =
-    let same : (query.head, query.body, query.names) ≡ (other.head, other.body, other.names) = λ i. (heads i, bodies i, names i) in
-    over_prop (λ (p : Parts). ∥ IsSound p.0 p.1 p.2 ∥₁) (λ p. ∥∥₁_prop)
-    (λ p sound. record { head = p.0; body = p.1; names = p.2; sound = sound }) _ _ same query.sound other.sound
-
 named_same : (query other : NamedQuery) → AreSame query other → query ≡ other
 named_same query other (names, heads, bodies, variables) =
-    let same : query.query ≡ other.query = query_same query.query other.query heads bodies variables in
+    let same : query.query ≡ other.query = same_query query.query other.query heads bodies variables in
     λ i. record { name = names i; query = same i }
 
 rule_same : (rule other : Constraint) → AreSameRule rule other → rule ≡ other

@@ -1,5 +1,5 @@
 -- What a world's matches say of containment.
-use Rattle.std.proofs.Common.{◌≡◌, Bool, List, [], ◌∷◌, map, refl, sym, ap, ◌∙◌, Contains, subst}
+use Rattle.std.proofs.Common.{◌≡◌, Bool, List, map, refl, sym, ap, ◌∙◌, Contains, subst}
 use Rattle.std.specs.List.{AllZip}
 use Rattle.esto_term.specs.declared.term.Term.{Term}
 use Rattle.esto_term.proofs.ListLemmas.{Contains-map, Contains-map_from, map_agree, map_then}
@@ -18,6 +18,7 @@ use Rattle.esto_world_laws.specs.declared.entry.Claim.{Claim}
 use Rattle.esto_world_laws.specs.declared.entry.Claim.TheVariants.{Fact as Stated}
 use Rattle.esto_world_laws.specs.declared.entry.Entry.{Entry}
 use Rattle.esto_world_laws.proofs.DatabaseLemmas.{reached, finished, met_by, world_facts, listed_fact, fact_in_world, rep_of, rep_linked, rep_one, rep_const}
+use Rattle.esto_world_laws.proofs.DatabaseLemmas.{row_linked}
 use Rattle.esto_world_laws.proofs.LinkLemmas.{facts_one, rows_one}
 
 pub matches_show : MatchesShowContainment
@@ -49,10 +50,6 @@ module _ (expanded : List ExpandedFact) (rules : List Rule) (entries : List Entr
   abbrev end : ConjunctiveQuery
   end = record { head = map rep start.head; body = map (image rep) facts }
 
-  own_row : (terms : List Term) → AllZip (Linked Holds) terms (map rep terms)
-  own_row [] = tt
-  own_row (term ∷ terms) = (rep_linked entries atoms term, own_row terms)
-
   follows : IsFollowedBy rules start.body (Contains end.body) (λ term other. rep term ≡ other)
   follows database meets m keeps sends =
       let after = sound start.body are_facts database meets m keeps sends in record {
@@ -62,7 +59,7 @@ module _ (expanded : List ExpandedFact) (rules : List Rule) (entries : List Entr
         sends = λ fact inside.
             let from = Contains-map_from (image rep) facts fact inside in
             subst (Contains database)
-            (facts_one after.after after.one_value from.0 (image rep from.0) (refl, own_row from.0.terms) ∙ ap (image after.after) from.2)
+            (facts_one after.after after.one_value from.0 (image rep from.0) (refl, row_linked Holds rep (rep_linked entries atoms) from.0.terms) ∙ ap (image after.after) from.2)
             (after.sends from.0 (fact_in_world entries atoms from.0 from.1));
         one_value = λ term other is. after.one_value term (rep term) (rep_linked entries atoms term) ∙ ap after.after is;
       }
@@ -95,7 +92,7 @@ module _ (expanded : List ExpandedFact) (rules : List Rule) (entries : List Entr
     (λ atom inside.
         reached Holds facts (listed_fact entries atoms) (fact_in_world entries atoms) rep (rep_linked entries atoms) (rep_one entries atoms)
         (rep_const entries atoms whole) (image m atom) (sends atom inside)),
-    subst (AllZip (Linked Holds) start.head) (sym heads) (own_row start.head),
+    subst (AllZip (Linked Holds) start.head) (sym heads) (row_linked Holds rep (rep_linked entries atoms) start.head),
   )
 
 pub containment_shows : QueriesAreDecided → QueryIsFollowed → ContainmentShowsMatches

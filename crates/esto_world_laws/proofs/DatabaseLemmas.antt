@@ -1,7 +1,7 @@
 -- A closed world as a database: each term under one name for all that it is linked with.
 use Rattle.std.proofs.Common.{◌≡◌, ℕ, Bool, List, [], ◌∷◌, ◌++◌, map, refl, sym, ap, ◌∙◌, inl, inr, Contains, subst, Option, Some, None}
-use Rattle.std.specs.List.{AllZip}
 use Rattle.std.proofs.lemmas.List.Elements.{Contains-append_left, Contains-append_right, Contains-append_cases}
+use Rattle.std.specs.List.{AllZip}
 use Rattle.esto_term.specs.declared.term.Term.{Term}
 use Rattle.esto_term.specs.declared.term.Term.TheVariants.{Const}
 use Rattle.esto_term.proofs.ChoiceLemmas.{Decided}
@@ -114,6 +114,11 @@ name_const (p ∷ ps) c =
 
 -- ---- what holds, by names
 
+pub row_linked : (Holds : Claim → Type 0) (rep : Term → Term) → ((term : Term) → Linked Holds term (rep term)) → (terms : List Term)
+    → AllZip (Linked Holds) terms (map rep terms)
+row_linked Holds rep linked [] = tt
+row_linked Holds rep linked (term ∷ terms) = (linked term, row_linked Holds rep linked terms)
+
 module _ (Holds : Claim → Type 0) (facts : List (Fact Term)) (listed : (f : Fact Term) → Holds (Stated f) → Contains facts f)
     (from : (f : Fact Term) → Contains facts f → Holds (Stated f))
     (rep : Term → Term) (linked_rep : (t : Term) → Linked Holds t (rep t)) (one_rep : (s t : Term) → Linked Holds s t → rep s ≡ rep t)
@@ -125,11 +130,7 @@ module _ (Holds : Claim → Type 0) (facts : List (Fact Term)) (listed : (f : Fa
   pub reached : (fact : Fact Term) → Contains reps fact → Reaches Holds fact
   reached fact inside =
       let found = Contains-map_from (image rep) facts fact inside in
-      (found.0, from found.0 found.1, subst (AreOne Holds found.0) found.2 (refl, row found.0.terms))
-    where
-      row : (terms : List Term) → AllZip (Linked Holds) terms (map rep terms)
-      row [] = tt
-      row (t ∷ ts) = (linked_rep t, row ts)
+      (found.0, from found.0 found.1, subst (AreOne Holds found.0) found.2 (refl, row_linked Holds rep linked_rep found.0.terms))
 
   -- and what is reached stands there under names
   rep_reached : (fact : Fact Term) → Reaches Holds fact → Contains reps (image rep fact)
