@@ -1,7 +1,7 @@
 -- The courses of `fill`, `answer` and `audit` agree with themselves, over catalogues that say the same.
 use Rattle.std.proofs.Common.{◌≡◌, ◌≢◌, ℕ, List, map, Contains, Some, None, Option, Result, Ok, Err, refl, sym, ap, subst, ◌∙◌}
 use Rattle.std.specs.List.{range_with_len}
-use Rattle.std.proofs.lemmas.Option.{none-some}
+use Rattle.std.proofs.lemmas.Option.{none-some, same_Some}
 use Rattle.esto_catalog.specs.Determined.{AreSame}
 use Rattle.esto_catalog.specs.declared.catalogue.Catalogue.{Catalogue}
 use Rattle.esto_catalog.specs.declared.dataset.Dataset.{Dataset}
@@ -39,6 +39,7 @@ use Rattle.esto_opening.specs.declared.reply.Reply.TheVariants.{Done}
 use Rattle.esto_opening.specs.declared.status.Status.{Status}
 use Rattle.esto_opening.specs.declared.status.Status.TheVariants as status
 use Rattle.esto_opening.proofs.Steps.{never_wanting}
+use Rattle.esto_opening.proofs.StoreLemmas.{same_stored}
 use Rattle.esto_constraint.proofs.RuleLemmas.{are_rules}
 use Rattle.esto_data.specs.Answer.{IsUnionAnswerOfFacts, answer_course, answers_union, lists_texts}
 use Rattle.esto_data.specs.Audit.{AuditsFiles, all_fragments, audit_course, audit_text, audits_catalogue, audits_facts, compares, judges_views}
@@ -46,7 +47,7 @@ use Rattle.esto_data.specs.Datasets.{IsAny, Names, OneNames, loads}
 use Rattle.esto_data.specs.DataLaws.{DataLaws}
 use Rattle.esto_data.specs.Fill.{IsFilled, IsFirstOf, IsMade, fill_course, fill_status, finds_fragment, gives_course, gives_file, gives_fragment, gives_named, make_course}
 use Rattle.esto_data.specs.Fill.{names_of}
-use Rattle.esto_data.proofs.AlikeLemmas.{audits_over, first_one, fragments_long, texts_one, same_stored, same_view}
+use Rattle.esto_data.proofs.AlikeLemmas.{audits_over, first_one, fragments_long, texts_one, same_view}
 use Rattle.esto_data.proofs.LoadLemmas.{loads_agree, loads_flat}
 use Rattle.esto_data.proofs.UnionLemmas.{same_queries, same_union_text}
 
@@ -73,9 +74,6 @@ node_not_want A column same = cc
 
 same_column : (column other : ℕ) → answer.NodeInRow column ≡ answer.NodeInRow other → column ≡ other
 same_column column other same = cc
-
-same_difference : (difference other_difference : Difference) → Some difference ≡ Some other_difference → difference ≡ other_difference
-same_difference difference other_difference same = cc
 
 module _ (laws : DataLaws) where
   module _ (queries : List ConjunctiveQuery) (facts : List (Fact Term)) where
@@ -251,7 +249,7 @@ module _ (laws : DataLaws) where
       compared_agree : AreRules (rules_of catalogue.rules) → AgreeCalmly ◌≡◌ (compares catalogue facts contents) (compares other facts contents)
       compared_agree rules = judges_agree _ _ _ _ _ _ (λ value other_value here there. refl)
           (λ said other_said caused other_caused here there.
-          here.2 ∙ ap status.Differs (same_difference here.0 there.0 (one_audit rules (Some here.0) (Some there.0) here.1 there.1)) ∙ sym there.2)
+          here.2 ∙ ap status.Differs (same_Some here.0 there.0 (one_audit rules (Some here.0) (Some there.0) here.1 there.1)) ∙ sym there.2)
           (λ value said caused here there. none-some there.0 (one_audit rules None (Some there.0) here there.1))
           (λ value said caused here there. none-some there.0 (sym (one_audit rules (Some there.0) None there.1 here)))
 

@@ -20,8 +20,6 @@ use Rattle.esto_fill.specs.declared.filled.FillError.{FillError}
 use Rattle.esto_fill.specs.declared.filled.FillError.TheVariants as filled
 use Rattle.esto_query.specs.Making.{query_of}
 use Rattle.esto_query.specs.declared.query.Name.{Name}
-use Rattle.esto_query.specs.declared.query.Query.{Query}
-use Rattle.esto_run.specs.Answers.{level_name, rows_text}
 use Rattle.esto_semantics.specs.Queries.{ConjunctiveQuery}
 use Rattle.esto_semantics.specs.Rules.{Rule}
 use Rattle.esto_semantics.specs.declared.fact.Fact.{Fact}
@@ -30,10 +28,9 @@ use Rattle.esto_stores.specs.KeyText.{keys_text}
 use Rattle.esto_stores.specs.Rows.{Row}
 use Rattle.esto_stores.specs.TableText.{table_text}
 use Rattle.esto_term.proofs.ListLemmas.{map_at, map_at-from}
-use Rattle.esto_term.specs.declared.term.Term.{Term, out-Term}
+use Rattle.esto_term.specs.declared.term.Term.{Term}
 use Rattle.esto_views.specs.declared.fragments.FragmentDef.{FragmentDef}
 use Rattle.esto_views.specs.Fragments.{views_of}
-use Rattle.esto_opening.specs.Alike.{IsSameQuery}
 use Rattle.esto_opening.specs.Fragments.{Stored, IsStoredAt}
 use Rattle.esto_opening.proofs.StoreLemmas.{same_at}
 use Rattle.esto_data.specs.Audit.{audit_text}
@@ -137,15 +134,8 @@ module _ (rules : List Rule) (names : List (List Name)) (fragments : List (List 
 
 -- ---- the rules, queries and fragments of catalogues that say the same
 
--- rows have one text under the names of one head
-pub same_rows_text : (query other : Query) → IsSameQuery query other → (rows : List Row) → rows_text query rows ≡ rows_text other rows
-same_rows_text query other same rows = λ i. table_text (map (λ term. level_name (same.names i) (out-Term term)) (same.head i)) rows
-
 module _ (catalogue other : Catalogue) (alike : AreSame catalogue other) (number : ℕ) (stored other_stored : Stored) (here : IsStoredAt catalogue number stored)
     (there : IsStoredAt other number other_stored) where
-  pub same_stored : stored_as stored.store ≡ stored_as other_stored.store
-  same_stored = same_at stored_as catalogue.stores other.stores number stored.store other_stored.store alike.stores here.store there.store
-
   pub same_view : query_of stored.definition.view ≡ query_of other_stored.definition.view
   same_view = same_at (λ (it : FragmentDef). query_of it.view) catalogue.fragments other.fragments number stored.definition other_stored.definition alike.views
       here.definition there.definition

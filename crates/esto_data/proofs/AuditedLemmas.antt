@@ -30,7 +30,7 @@ use Rattle.esto_opening.specs.Fragments.{IsReadableFragment, opens_fragment}
 use Rattle.esto_opening.specs.Opening.{opens_union}
 use Rattle.esto_opening.specs.Unions.{UnionsOfOneAreQueries, union_rows_text}
 use Rattle.esto_opening.specs.declared.reply.Reply.TheVariants.{Done}
-use Rattle.esto_opening.proofs.LeadLemmas.{then-leads, leads-more, gives-leads}
+use Rattle.esto_opening.proofs.LeadLemmas.{then-leads, leads-more, gives-leads, agreed_leads}
 use Rattle.esto_data.specs.Answer.{IsAnswerOfFacts, IsUnionAnswerOfFacts, answer_course, answers_union, lists_texts}
 use Rattle.esto_data.specs.Datasets.{IsAny, Names, OneNames, loads, opens_dataset}
 use Rattle.esto_data.specs.Exact.{PrintsRows}
@@ -38,7 +38,7 @@ use Rattle.esto_data.specs.Laws.{RepliesAreAudited}
 use Rattle.esto_data.specs.DataLaws.{DataLaws}
 use Rattle.esto_data.proofs.AlikeLemmas.{fragments_long}
 use Rattle.esto_data.proofs.DatasetLemmas.{sources_there}
-use Rattle.esto_data.proofs.ExactLemmas.{agreed-leads, no_node}
+use Rattle.esto_data.proofs.ExactLemmas.{no_node}
 use Rattle.esto_data.proofs.FragmentLemmas.{each_opened, opened_within}
 use Rattle.esto_data.proofs.LeadLemmas.{AreLoaded, AreOpenedFiles, CanOpen, are_loaded, loads_never}
 use Rattle.esto_data.proofs.LoadLemmas.{dataset_agree}
@@ -251,8 +251,8 @@ replies_audited laws one rest files catalogue_name catalogue reply
         → Leads (answer_course (Some files) catalogue_name query_name)
         (λ reply. (text : List ℕ) × (reply ≡ Done text) × PrintsRows (IsUnionAnswerOfFacts queries facts) (union_rows_text queries) text) (λ _. ⊥)
     union_answers alike facts loaded query_name queries reads texts =
-        then-leads _ _ (AreSame catalogue) _ _ (agreed-leads AreSame _ _ catalogue _ (laws.catalogues files catalogue_name) here)
+        then-leads _ _ (AreSame catalogue) _ _ (agreed_leads AreSame _ _ catalogue _ (laws.catalogues files catalogue_name) here)
         (λ third third_alike. then-leads _ _ (AreSameQueries queries) _ _
-        (agreed-leads AreSameQueries _ _ queries _ (laws.unions files query_name catalogue third third_alike) reads)
+        (agreed_leads AreSameQueries _ _ queries _ (laws.unions files query_name catalogue third third_alike) reads)
         (λ others same. union_leads laws rest files other.datasets facts loaded queries others same texts third
         (sym alike.datasets ∙ third_alike.datasets)))

@@ -35,7 +35,7 @@ use Rattle.esto_term.specs.declared.term.Term.{Term}
 use Rattle.esto_views.specs.Fragments.{views_of}
 use Rattle.esto_opening.specs.Alike.{AreSameQueries}
 use Rattle.esto_opening.specs.Answers.{IsCaused}
-use Rattle.esto_opening.specs.Calm.{AgreeCalmly, Leads, SaysAlways}
+use Rattle.esto_opening.specs.Calm.{Leads, SaysAlways}
 use Rattle.esto_opening.specs.Fetch.{fetches, FetchStops}
 use Rattle.esto_opening.specs.Fetch.FetchStops.{fails, is_longer}
 use Rattle.esto_opening.specs.Fragments.{Stored, IsStoredAt, opens_fragments}
@@ -47,7 +47,7 @@ use Rattle.esto_opening.specs.declared.reply.Reply.{Reply}
 use Rattle.esto_opening.specs.declared.reply.Reply.TheVariants.{Done}
 use Rattle.esto_opening.specs.declared.status.Status.{Status}
 use Rattle.esto_opening.specs.declared.status.Status.TheVariants as status
-use Rattle.esto_opening.proofs.LeadLemmas.{then-leads, leads-more, gives-leads}
+use Rattle.esto_opening.proofs.LeadLemmas.{then-leads, leads-more, gives-leads, agreed_leads}
 use Rattle.esto_opening.proofs.Steps.{never_wanting, read_cause}
 use Rattle.esto_course.proofs.Steps.{then_goes}
 use Rattle.esto_constraint.proofs.RuleLemmas.{are_rules}
@@ -80,14 +80,6 @@ module _ (files : Files) where
   unfolding fetches judges
   said_query_opens name catalogue query say = then_goes (fetches (Some files) name QUERY_LIMIT) (reads_query catalogue) say.bytes query say.has
       (say.named, say.is_query, say.query_is)
-
--- a course leads to what is the same as a value with which one goes on that agrees with it
-pub agreed-leads : {A : Type 0} (Same : A → A → Type 0) (course other : Course Status A) (value : A) (Refusal : Status → Type 0)
-    → AgreeCalmly Same course other → course.goes value → Leads other (Same value) Refusal
-agreed-leads Same course other value Refusal agree goes = record {
-  goes = λ its there. agree.one value its goes there;
-  stops = λ said caused stop. absurd (agree.apart value said caused goes stop);
-}
 
 -- what holds of replies and refusals, as it is said, once more is
 says-more : (course : Course Status Reply) (Fact More : Status → List ℕ → Type 0) → ((said : Status) (text : List ℕ) → Fact said text → More said text)
@@ -378,9 +370,6 @@ one_view_column views database column other here there = elim (cases_order here.
   ]
 ]
 
-some_same : (difference other : Difference) → Some difference ≡ Some other → difference ≡ other
-some_same difference other same = cc
-
 differs_same : (difference other : Difference) → status.Differs difference ≡ status.Differs other → difference ≡ other
 differs_same difference other same = cc
 
@@ -419,7 +408,7 @@ module _ (laws : DataLaws) (catalogue : Catalogue) (facts : List (Fact Term)) (f
       prints = λ same. absurd (done_not_differs difference (sym same ∙ is));
       differs = λ only other. (
         (λ same. subst (λ (it : Difference). AuditsFiles catalogue facts contents (Some it)) (differs_same difference other (sym is ∙ same)) first),
-        (λ its. is ∙ ap status.Differs (some_same difference other (ends_one (Some difference) (Some other) first its))),
+        (λ its. is ∙ ap status.Differs (same_Some difference other (ends_one (Some difference) (Some other) first its))),
       );
     }
 
@@ -537,7 +526,7 @@ module _ (laws : DataLaws) (sound : CataloguesAreSound) (files : Files) (catalog
     (say : FilesSayCatalogue files catalogue_name catalogue) where
   -- the catalogue that is opened says the same
   opened-leads : (Refusal : Status → Type 0) → Leads (opens_catalogue (Some files) catalogue_name) (AreSame catalogue) Refusal
-  opened-leads Refusal = agreed-leads AreSame _ _ catalogue Refusal (laws.catalogues files catalogue_name) (said_opens files catalogue_name catalogue say)
+  opened-leads Refusal = agreed_leads AreSame _ _ catalogue Refusal (laws.catalogues files catalogue_name) (said_opens files catalogue_name catalogue say)
 
   pub fills_exact : (name : List ℕ) → SaysAlways (fill_course (Some files) catalogue_name name) (IsExactFill files catalogue name)
   fills_exact name = then-leads _ _ (AreSame catalogue) _ _ (opened-leads _) (λ other alike.
@@ -549,7 +538,7 @@ module _ (laws : DataLaws) (sound : CataloguesAreSound) (files : Files) (catalog
       → SaysAlways (answer_course (Some files) catalogue_name query_name) (IsExactUnionAnswer files catalogue queries)
   union_exact query_name queries opens = then-leads _ _ (AreSame catalogue) _ _ (opened-leads _) (λ other alike.
       then-leads _ _ (AreSameQueries queries) _ _
-      (agreed-leads AreSameQueries _ _ queries _ (laws.unions files query_name catalogue other alike) opens)
+      (agreed_leads AreSameQueries _ _ queries _ (laws.unions files query_name catalogue other alike) opens)
       (λ others same. says-more _ (IsExactUnionAnswer files other others) (IsExactUnionAnswer files catalogue queries)
       (answer_moved files catalogue other alike queries others same) (answer_says laws files other others)))
 

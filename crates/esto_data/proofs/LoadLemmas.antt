@@ -8,7 +8,6 @@ use Rattle.std.proofs.lemmas.Option.{same_Some, none-some}
 use Rattle.esto_catalog.specs.declared.dataset.Dataset.{Dataset}
 use Rattle.esto_course.specs.Agreement.{IsDetermined}
 use Rattle.esto_course.specs.Course.{Course, each, gives, judges, and_then}
-use Rattle.esto_course.proofs.Alike.{fewer_alike}
 use Rattle.esto_course.proofs.Determined.{then_agree, gives_agree, judges_agree, judges_determined, then_determined, demands_determined, each_determined}
 use Rattle.esto_fill.specs.Laws.{FactsAreOne}
 use Rattle.esto_fill.specs.declared.datasets.DatasetBytes.{DatasetBytes}
@@ -17,24 +16,13 @@ use Rattle.esto_semantics.specs.Maps.{AreFlat}
 use Rattle.esto_semantics.specs.declared.fact.Fact.{Fact}
 use Rattle.esto_term.proofs.ChoiceLemmas.{one_list}
 use Rattle.esto_term.specs.declared.term.Term.{Term}
-use Rattle.esto_opening.specs.Answers.{IsCaused}
 use Rattle.esto_opening.specs.Calm.{AgreeCalmly}
 use Rattle.esto_opening.specs.declared.status.Status.{Status}
 use Rattle.esto_opening.specs.declared.status.Status.TheVariants as status
-use Rattle.esto_opening.proofs.AgreeLemmas.{fetches-agree}
+use Rattle.esto_opening.proofs.AgreeLemmas.{fetches-agree, calmly}
 use Rattle.esto_data.specs.Datasets.{AreFactsOfFiles, AreNeeded, IsSourceAt, Source, demands_file, demands_files, loads, loads_files, loads_next, opens_dataset}
 use Rattle.esto_data.specs.Datasets.{opens_source, reads_data}
 use Rattle.esto_data.specs.declared.datasets.TheConstants.{DATASET_LIMIT}
-
--- a determined course agrees with itself where no fetch is at a fault
-calm : {A : Type 0} (course : Course Status A) → IsDetermined course → AgreeCalmly ◌≡◌ course course
-calm course one = record {
-  one = one.one;
-  one_stop = λ said other caused other_caused here there. one.one_stop said other tt tt here there;
-  apart = λ value said caused here there. one.apart value said tt here there;
-  other_apart = λ value said caused here there. one.other_apart value said tt here there;
-  alike = fewer_alike (IsCaused ⊥) (λ _. Unit {0}) course course (λ said caused. tt) one.alike;
-}
 
 -- ---- the datasets that are needed
 
@@ -64,7 +52,7 @@ demanded_one datasets place given number =
     (λ dataset at_number. demands_determined _ _)
 
 demanded_agree : (datasets : List Dataset) (numbers : List ℕ) → AgreeCalmly ◌≡◌ (demands_files datasets numbers) (demands_files datasets numbers)
-demanded_agree datasets numbers = calm _ (each_determined (demands_file datasets) (demanded_one datasets) 0 tt numbers)
+demanded_agree datasets numbers = calmly _ (each_determined (demands_file datasets) (demanded_one datasets) 0 tt numbers)
 
 -- ---- their files
 

@@ -31,13 +31,14 @@ use Rattle.esto_opening.specs.Unions.{union_rows_text}
 use Rattle.esto_opening.specs.declared.fragments.TheConstants.{FRAGMENT_LIMIT}
 use Rattle.esto_opening.specs.declared.status.Status.{Status}
 use Rattle.esto_opening.specs.declared.status.Status.TheVariants as status
+use Rattle.esto_opening.proofs.StoreLemmas.{same_stored}
 use Rattle.esto_data.specs.Answer.{IsUnionAnswerOfFacts}
 use Rattle.esto_data.specs.Audit.{AuditsFiles}
 use Rattle.esto_data.specs.Datasets.{IsAny, Names, OneNames}
 use Rattle.esto_data.specs.Exact.{AreReadableFragments, FillsExactly, HoldFacts, IsExactAudit, IsExactFill, IsExactUnionAnswer}
 use Rattle.esto_data.specs.Exact.FillsExactly.{prints, tells_key, tells_node}
 use Rattle.esto_data.specs.Fill.{IsFirstOf, IsRowOfView, names_of}
-use Rattle.esto_data.proofs.AlikeLemmas.{alike_back, audits-moved, audits_over, fills_moved, fragments_long, other_stored, texts_one, same_stored, same_view}
+use Rattle.esto_data.proofs.AlikeLemmas.{alike_back, audits-moved, audits_over, fills_moved, fragments_long, other_stored, texts_one, same_view}
 use Rattle.esto_data.proofs.UnionLemmas.{gives_moved, same_queries, same_union, same_union_text}
 
 -- ---- `answer`

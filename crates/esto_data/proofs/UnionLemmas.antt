@@ -19,11 +19,10 @@ use Rattle.esto_term.specs.declared.term.Term.{Term}
 use Rattle.esto_opening.specs.Alike.{AreSameQueries}
 use Rattle.esto_opening.specs.Unions.{FitHeads, FormUnion, union_rows_text}
 use Rattle.esto_opening.specs.declared.status.Status.{Status}
-use Rattle.esto_opening.proofs.AlikeLemmas.{same_query}
+use Rattle.esto_opening.proofs.AlikeLemmas.{same_query, same_rows_text}
 use Rattle.esto_data.specs.Answer.{IsAnswerOfFacts, IsUnionAnswerOfFacts, lists_texts}
 use Rattle.esto_data.specs.Datasets.{AreNeeded, Names, OneNames, loads}
 use Rattle.esto_data.specs.Exact.{GivesExactly, HoldFacts}
-use Rattle.esto_data.proofs.AlikeLemmas.{same_rows_text}
 
 -- ---- the same queries
 

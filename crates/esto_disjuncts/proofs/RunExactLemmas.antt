@@ -42,7 +42,7 @@ use Rattle.esto_term.specs.declared.term.Term.{Term}
 use Rattle.esto_union.specs.Unions.{queries_of}
 use Rattle.esto_views.specs.Fragments.{views_of}
 use Rattle.esto_opening.proofs.UnionLemmas.{itself}
-use Rattle.esto_opening.proofs.StatusLemmas.{done_not_clash, same_clash}
+use Rattle.esto_opening.proofs.StatusLemmas.{done_not_clash, same_clash, done_not_above, clash_not_above, none_not_above, same_asked, same_least}
 use Rattle.esto_disjuncts.specs.Exact.{HasNoRewriting, HaveAnswers}
 use Rattle.esto_disjuncts.specs.Laws.{EmptyListsAreTold, IsSameMember, MembersAreOne, MembersTellSatisfiable}
 use Rattle.esto_disjuncts.specs.Members.{AreMembersOf, ClashAt, HavePlan, OneIsEmpty, has_plan}
@@ -178,23 +178,8 @@ not_above asked least said (has_fault name fault is) other =
 done_not_none : status.Done ≡ status.NoRewriting → ⊥
 done_not_none same = cc
 
-done_not_above : (asked least : ℕ) → status.Done ≡ status.NoSuchNumber asked least → ⊥
-done_not_above asked least same = cc
-
 clash_not_none : (clash : Clash) → status.Unsatisfiable clash ≡ status.NoRewriting → ⊥
 clash_not_none clash same = cc
-
-clash_not_above : (clash : Clash) (asked least : ℕ) → status.Unsatisfiable clash ≡ status.NoSuchNumber asked least → ⊥
-clash_not_above clash asked least same = cc
-
-none_not_above : (asked least : ℕ) → status.NoRewriting ≡ status.NoSuchNumber asked least → ⊥
-none_not_above asked least same = cc
-
-same_asked : (asked least other count : ℕ) → status.NoSuchNumber asked least ≡ status.NoSuchNumber other count → asked ≡ other
-same_asked asked least other count same = cc
-
-same_least : (asked least other count : ℕ) → status.NoSuchNumber asked least ≡ status.NoSuchNumber other count → least ≡ count
-same_least asked least other count same = cc
 
 -- a refusal to choose sets is neither a reply's
 choice_not_done : (members : List Member) (number : Option ℕ) (said : Status) → HasNoChoice members number said → said ≡ status.Done → ⊥

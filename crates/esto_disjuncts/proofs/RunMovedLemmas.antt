@@ -1,11 +1,13 @@
 -- What `run` answers to a union over one of two catalogues that say the same it may answer over the other.
-use Rattle.std.proofs.Common.{◌≡◌, ℕ, suc, List, [], ◌∷◌, map, slice_get, Option, Some, None, refl, sym, ap, ◌∙◌, subst, inl, inr}
+use Rattle.std.proofs.Common.{◌≡◌, ℕ, suc, List, [], ◌∷◌, slice_get, Option, Some, None, refl, sym, ap, ◌∙◌, subst, inl, inr}
 use Rattle.std.proofs.lemmas.Option.{none-some, same_Some}
-use Rattle.esto_catalog.specs.Determined.{AreSame, stored_as}
+use Rattle.esto_catalog.specs.Determined.{AreSame}
 use Rattle.esto_catalog.specs.declared.catalogue.Catalogue.{Catalogue}
 use Rattle.esto_chase_laws.specs.declared.clash.Clash.{Clash}
 use Rattle.esto_course.specs.Course.{Course, and_then, each, gives, judges}
 use Rattle.esto_opening.proofs.StoreLemmas.{same_fault, same_file, same_named}
+use Rattle.esto_opening.proofs.ReadableLemmas.{stored_here}
+use Rattle.esto_opening.proofs.AlikeLemmas.{same_rows_text}
 use Rattle.esto_opening.specs.Alike.{AreSameQueries, IsSameQuery, StoresHaveOneContent}
 use Rattle.esto_opening.specs.Calm.{Leads}
 use Rattle.esto_opening.specs.Fetch.{fetches}
@@ -18,16 +20,11 @@ use Rattle.esto_opening.specs.declared.status.Status.TheVariants as status
 use Rattle.esto_planning.specs.Alike.{ClashIsMoved, PlanIsMoved}
 use Rattle.esto_ports.specs.Files.{Files}
 use Rattle.esto_query.specs.declared.query.Query.{Query}
-use Rattle.esto_run.specs.Answers.{level_name, rows_text}
 use Rattle.esto_run.specs.Laws.{IsAnswerOfOne}
 use Rattle.esto_run.specs.Stores.{IsFileRow}
 use Rattle.esto_semantics.specs.Facts.{image}
 use Rattle.esto_semantics.specs.Queries.{ConjunctiveQuery}
 use Rattle.esto_stores.specs.Rows.{Row}
-use Rattle.esto_stores.specs.TableText.{table_text}
-use Rattle.esto_term.proofs.ListLemmas.{map_at, map_at-from}
-use Rattle.esto_term.specs.declared.term.Term.{out-Term}
-use Rattle.esto_views.specs.declared.fragments.FragmentDef.{FragmentDef}
 use Rattle.esto_disjuncts.specs.RunLaws.{UnionRunsAreMoved}
 use Rattle.esto_disjuncts.specs.Run.{IsNoRows, IsUnionRunText, chooses_each, ends_members, runs_chosen, runs_end, runs_members}
 use Rattle.esto_disjuncts.specs.declared.members.Member.{Member}
@@ -62,15 +59,6 @@ then_moved first other next others one two = record {
 -- ---- the files of fragments
 
 module _ (files : Files) (catalogue other : Catalogue) (alike : AreSame catalogue other) where
-  -- a fragment of the other catalogue has its like in this one
-  stored_here : (number : ℕ) (stored : Stored) → IsStoredAt other number stored → (own : Stored) × IsStoredAt catalogue number own
-  stored_here number stored at =
-      let definition = map_at-from (λ (it : FragmentDef). it.name) catalogue.fragments number stored.definition.name
-      (ap (λ it. slice_get it number) alike.names ∙ map_at (λ (it : FragmentDef). it.name) other.fragments number stored.definition at.definition) in
-      let store = map_at-from stored_as catalogue.stores number (stored_as stored.store)
-      (ap (λ it. slice_get it number) alike.stores ∙ map_at stored_as other.stores number stored.store at.store) in
-      (record { definition = definition.0; store = store.0 }, record { definition = definition.1; store = store.1 })
-
   module _ (number : ℕ) (own stored : Stored) (here : IsStoredAt catalogue number own) (there : IsStoredAt other number stored) where
     fetched_here : (bytes : List ℕ) → (fetches (Some files) stored.store.file FRAGMENT_LIMIT).goes bytes
         → (fetches (Some files) own.store.file FRAGMENT_LIMIT).goes bytes
@@ -101,11 +89,11 @@ module _ (files : Files) (catalogue other : Catalogue) (alike : AreSame catalogu
   fragment_moved : (number : ℕ) → IsMoved (opens_fragment (Some files) other number) (opens_fragment (Some files) catalogue number)
   unfolding and_then judges
   fragment_moved number = record {
-    goes = λ bytes (stored, at, goes). let own = stored_here number stored at in
+    goes = λ bytes (stored, at, goes). let own = stored_here files catalogue other alike number stored at in
         (own.0, own.1, (stored_moved number own.0 stored own.1 at).goes bytes goes);
     stops = λ refusal caused stop. elim stop [
       | inl never ↦ absurd never
-      | inr (stored, at, stops) ↦ (let own = stored_here number stored at in
+      | inr (stored, at, stops) ↦ (let own = stored_here files catalogue other alike number stored at in
           inr (own.0, own.1, (stored_moved number own.0 stored own.1 at).stops refusal caused stops))
     ];
   }
@@ -129,10 +117,6 @@ first_same [] [] are other is = absurd (none-some other is)
 first_same [] (query ∷ same) are other is = absurd are
 first_same (query ∷ queries) [] are other is = absurd are
 first_same (query ∷ queries) (read ∷ same) are other is = (query, refl, subst (IsSameQuery query) (same_Some read other is) are.0)
-
--- rows have one text under the names of one head
-same_header : (query other : Query) → IsSameQuery query other → (rows : List Row) → rows_text query rows ≡ rows_text other rows
-same_header query other same rows = λ i. table_text (map (λ term. level_name (same.names i) (out-Term term)) (same.head i)) rows
 
 module _ (one_content : StoresHaveOneContent) (catalogue other : Catalogue) (alike : AreSame catalogue other) (contents : ℕ → List ℕ)
     (others : List ConjunctiveQuery) (row : Row) where
@@ -167,14 +151,14 @@ module _ (one_content : StoresHaveOneContent) (files : Files) (catalogue other :
             λ answers. (is.exact row).1 (answer_there one_content catalogue other alike contents others row answers),
           );
           rising = is.rising;
-          printed = is.printed ∙ sym (same_header first.0 read first.2 is.rows);
+          printed = is.printed ∙ sym (same_rows_text first.0 read first.2 is.rows);
         },
       )
 
   pub no_rows_here : (clash : Clash) (reply : Reply) → IsNoRows same clash reply → IsNoRows queries clash reply
   no_rows_here clash reply (read, at, is) =
       let first = first_same queries same are read at in
-      (first.0, first.1, is ∙ ap (Unsatisfiable clash) (sym (same_header first.0 read first.2 [])))
+      (first.0, first.1, is ∙ ap (Unsatisfiable clash) (sym (same_rows_text first.0 read first.2 [])))
 
   chosen_moved : (others : List ConjunctiveQuery) → IsMoved (runs_chosen (Some files) other same others) (runs_chosen (Some files) catalogue queries others)
   chosen_moved others =

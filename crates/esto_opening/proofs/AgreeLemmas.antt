@@ -1,11 +1,13 @@
--- The fetch of a file agrees with itself.
+-- The fetch of a file agrees with itself, and so does a determined course.
 use Rattle.std.proofs.Common.{◌≡◌, ◌<◌, ℕ, List, Some, sym, ap, ◌∙◌, arith, length}
 use Rattle.std.proofs.lemmas.Option.{none-some}
 use Rattle.std.specs.FinMap.{get}
 use Rattle.esto_ports.specs.Files.{Files}
 use Rattle.esto_opening.specs.Answers.{IsCaused}
 use Rattle.esto_opening.specs.Calm.{AgreeCalmly}
-use Rattle.esto_course.proofs.Alike.{once_alike}
+use Rattle.esto_course.proofs.Alike.{once_alike, fewer_alike}
+use Rattle.esto_course.specs.Agreement.{IsDetermined}
+use Rattle.esto_course.specs.Course.{Course}
 use Rattle.esto_fill.specs.Filled.{without_mark}
 use Rattle.esto_opening.specs.Fetch.{FetchStops, fetches}
 use Rattle.esto_opening.specs.Fetch.FetchStops.{fails, is_longer}
@@ -38,3 +40,13 @@ module _ (files : Files) (name : List ℕ) (limit : ℕ) where
           let found = longer said caused there in
           let same : here.0 ≡ found.0 = same-file here.0 found.0 (sym here.1 ∙ found.1) in
           omega (arith, here.2, found.2, ap length same)
+
+-- a determined course agrees with itself where no fetch is at a fault
+pub calmly : {A : Type 0} (course : Course Status A) → IsDetermined course → AgreeCalmly ◌≡◌ course course
+calmly course determined = record {
+  one = determined.one;
+  one_stop = λ error other because because'. determined.one_stop error other tt tt;
+  apart = λ value error because. determined.apart value error tt;
+  other_apart = λ value error because. determined.other_apart value error tt;
+  alike = fewer_alike (IsCaused ⊥) (λ _. Unit {0}) course course (λ said caused. tt) determined.alike;
+}

@@ -118,7 +118,7 @@ module _ (files : Files) (catalogue : Catalogue) where
 
 -- a file that is readable over one of two catalogues that say the same is so over the other
 module _ (files : Files) (catalogue other : Catalogue) (alike : AreSame catalogue other) where
-  stored_here : (number : ℕ) (stored : Stored) → IsStoredAt other number stored → (own : Stored) × IsStoredAt catalogue number own
+  pub stored_here : (number : ℕ) (stored : Stored) → IsStoredAt other number stored → (own : Stored) × IsStoredAt catalogue number own
   stored_here number stored at =
       let definition = map_at-from (λ (it : FragmentDef). it.name) catalogue.fragments number stored.definition.name
       (ap (λ it. slice_get it number) alike.names ∙ map_at (λ (it : FragmentDef). it.name) other.fragments number stored.definition at.definition) in

@@ -94,7 +94,7 @@ same_at m things others place thing other same is is_other =
 
 module _ (catalogue other : Catalogue) (alike : AreSame catalogue other) (number : ℕ) (stored other_stored : Stored) (at : IsStoredAt catalogue number stored)
     (other_at : IsStoredAt other number other_stored) where
-  same_stored : stored_as stored.store ≡ stored_as other_stored.store
+  pub same_stored : stored_as stored.store ≡ stored_as other_stored.store
   same_stored = same_at stored_as catalogue.stores other.stores number stored.store other_stored.store alike.stores at.store other_at.store
 
   pub same_file : stored.store.file ≡ other_stored.store.file

@@ -36,6 +36,7 @@ use Rattle.esto_opening.specs.declared.reply.Reply.{Reply}
 use Rattle.esto_opening.specs.declared.reply.Reply.TheVariants.{Done}
 use Rattle.esto_opening.specs.declared.status.Status.{Status}
 use Rattle.esto_opening.specs.declared.status.Status.TheVariants.{Differs, NodeInRow}
+use Rattle.esto_opening.proofs.UnionLemmas.{itself}
 use Rattle.esto_ports.specs.Files.{Files}
 use Rattle.esto_query.specs.Making.{query_of}
 use Rattle.esto_query.specs.declared.query.Name.{Name}
@@ -65,7 +66,7 @@ use Rattle.esto_reading_laws.proofs.DecisionLemmas.{same_list}
 use Rattle.esto_outcome_laws.proofs.ListedLemmas.{Listed}
 use Rattle.esto_outcome_laws.proofs.FileLemmas.{file_rows}
 use Rattle.esto_outcome_laws.proofs.PlannedLemmas.{are_rules, views_are}
-use Rattle.esto_outcome_laws.proofs.RunLemmas.{fragments_end, same_catalogue}
+use Rattle.esto_outcome_laws.proofs.RunLemmas.{fragments_end}
 use Rattle.esto_outcome_laws.proofs.TextLemmas.{database_answers, texts_listed, views_judged}
 
 -- ---- two sets of rows that stand in lists: they are one, or a least row is in one of them alone
@@ -313,7 +314,7 @@ module _ (laws : BelowLaws) (decide : RulesAreDecided) (stand : RulesStand) (fil
             (fragments_end files catalogue (laws.keeps.catalogues catalogue).stored (all_fragments catalogue) below) (λ contents goes.
             ends_then (compares catalogue facts contents) (λ _. gives (Done (audit_text catalogue)))
             (compares_end laws decide stand catalogue facts flat texts files contents
-            ((laws.readable files catalogue catalogue (all_fragments catalogue) (same_catalogue catalogue)).goes contents goes))
+            ((laws.readable files catalogue catalogue (all_fragments catalogue) (itself catalogue)).goes contents goes))
             (λ _ _. gives_ends (Done (audit_text catalogue)))))
       ]
     where

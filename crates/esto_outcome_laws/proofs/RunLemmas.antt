@@ -5,7 +5,6 @@ use Rattle.std.proofs.lemmas.Bool.{cases_order}
 use Rattle.either.specs.Either.{MatchEither}
 use Rattle.either.specs.declared.Either.{Either}
 use Rattle.either.specs.declared.Either.TheVariants.{Left, Right}
-use Rattle.esto_catalog.specs.Determined.{AreSame}
 use Rattle.esto_catalog.specs.declared.catalogue.Catalogue.{Catalogue}
 use Rattle.esto_chase_laws.specs.declared.clash.Clash.{Clash}
 use Rattle.esto_course.specs.Course.{judges, gives, and_then}
@@ -17,6 +16,7 @@ use Rattle.esto_opening.specs.Fragments.{with_content}
 use Rattle.esto_opening.specs.declared.fragments.TheConstants.{FRAGMENT_LIMIT}
 use Rattle.esto_opening.specs.declared.status.Status.{Status}
 use Rattle.esto_opening.specs.declared.status.Status.TheVariants.{BadFragment, NoRewriting, NoSuchNumber, Unsatisfiable}
+use Rattle.esto_opening.proofs.UnionLemmas.{itself}
 use Rattle.esto_planning.specs.Choice.{HasNoPlace, IsItemOf, IsPlace}
 use Rattle.esto_planning.specs.Choice.HasNoPlace.{is_empty, is_above}
 use Rattle.esto_planning.specs.Listing.{IsClash, IsListing, IsListOf, IsPlanned}
@@ -104,23 +104,6 @@ module _ (files : Files) (catalogue : Catalogue) (stores : length catalogue.stor
       ends_then (opens_fragment (Some files) catalogue number) (λ bytes. gives (with_content contents number bytes)) (fragment_ends number (below number inside))
       (λ bytes _. gives_ends (with_content contents number bytes)))
 
-pub same_catalogue : (catalogue : Catalogue) → AreSame catalogue catalogue
-same_catalogue catalogue = record {
-  schema = refl;
-  words = refl;
-  datasets = refl;
-  names = refl;
-  views = refl;
-  patterns = refl;
-  weights = refl;
-  stores = refl;
-  rules = refl;
-  rule_names = refl;
-  given = refl;
-  ranks = refl;
-  core = refl;
-}
-
 -- the fragments of a plan's atoms are the catalogue's
 pub atom_below : (plan : Plan) (fragments : List FragmentDef) → IsPlanOver plan fragments → (atom : Fact Term) → Contains (plan_query plan).body atom
     → atom.relation < length fragments
@@ -186,7 +169,7 @@ module _ (laws : BelowLaws) (catalogue : Catalogue) (query : Query) where
       rows_exist contents goes =
           answers_text query (IsAnswerOver (IsFileRow catalogue.stores contents) (candidate (plan_query plan) item.set))
           (file_answers laws.rows files catalogue (laws.keeps.catalogues catalogue).shapes numbers contents
-          ((laws.readable files catalogue catalogue numbers (same_catalogue catalogue)).goes contents goes) (candidate (plan_query plan) item.set)
+          ((laws.readable files catalogue catalogue numbers (itself catalogue)).goes contents goes) (candidate (plan_query plan) item.set)
           (λ term inside. (laws.lists.form catalogue query plan planned).flat_body term
           (Mentions-among (chosen item.set (plan_query plan).body) (plan_query plan).body term (chosen-among (plan_query plan) item.set) inside))
           is.set.0.safe

@@ -27,6 +27,7 @@ use Rattle.esto_opening.specs.declared.reply.Reply.{Reply}
 use Rattle.esto_opening.specs.declared.reply.Reply.TheVariants.{Done, Unsatisfiable as UnsatisfiableReply}
 use Rattle.esto_opening.specs.declared.status.Status.{Status}
 use Rattle.esto_opening.specs.declared.status.Status.TheVariants.{NoRewriting, NoSuchNumber, Unsatisfiable}
+use Rattle.esto_opening.proofs.UnionLemmas.{itself}
 use Rattle.esto_planning.specs.Choice.{IsPlace}
 use Rattle.esto_planning.specs.Listing.{IsPlanned}
 use Rattle.esto_ports.specs.Files.{Files}
@@ -58,7 +59,7 @@ use Rattle.esto_outcome_laws.proofs.CourseLemmas.{ends_judged, ends_then, gives_
 use Rattle.esto_outcome_laws.proofs.FileLemmas.{answers_text, union_answers}
 use Rattle.esto_outcome_laws.proofs.ListLemmas.{text_exists}
 use Rattle.esto_outcome_laws.proofs.PlannedLemmas.{end_exists, list_in_exists}
-use Rattle.esto_outcome_laws.proofs.RunLemmas.{atom_below, fragments_end, same_catalogue}
+use Rattle.esto_outcome_laws.proofs.RunLemmas.{atom_below, fragments_end}
 
 -- ---- the first places of numbers
 
@@ -346,7 +347,7 @@ module _ (laws : BelowLaws) (catalogue : Catalogue) where
           (fragments_end files catalogue (laws.keeps.catalogues catalogue).stored numbers (λ it inside. below numbers used it inside))
           (λ contents goes.
           ends_judged (IsUnionRunText catalogue queries others contents) (λ _. ⊥) (λ text. gives (Done text))
-          (text_of numbers used contents ((laws.readable files catalogue catalogue numbers (same_catalogue catalogue)).goes contents goes))
+          (text_of numbers used contents ((laws.readable files catalogue catalogue numbers (itself catalogue)).goes contents goes))
           (λ text is. gives_ends (Done text))))
         where
           after : (ℕ → List ℕ) → Course Status Reply

@@ -16,12 +16,12 @@ use Rattle.esto_contain.specs.declared.containing.Contain.TheVariants.{Yes, No}
 use Rattle.esto_contain.specs.declared.minimising.Minimal.{Minimal}
 use Rattle.esto_course.specs.Agreement.{IsDetermined}
 use Rattle.esto_course.specs.Course.{Course, and_then, demands, judges}
-use Rattle.esto_course.proofs.Alike.{fewer_alike}
 use Rattle.esto_course.proofs.Determined.{demands_determined, judges_agree, judges_determined, then_agree, then_determined}
 use Rattle.esto_opening.specs.Answers.{IsCaused}
 use Rattle.esto_opening.specs.Calm.{AgreeCalmly}
 use Rattle.esto_opening.specs.declared.status.Status.{Status}
 use Rattle.esto_opening.specs.declared.status.Status.TheVariants.{HeadLengths, Unsatisfiable}
+use Rattle.esto_opening.proofs.AgreeLemmas.{calmly}
 use Rattle.esto_query.specs.Making.{query_of}
 use Rattle.esto_query.specs.Schemas.{names_of}
 use Rattle.esto_query.specs.declared.query.Name.{Name}
@@ -37,16 +37,6 @@ use Rattle.esto_universal.specs.RenamedLaws.{RenamedPlanIsOne}
 use Rattle.esto_reasoning.specs.Contains.{SaysTold, compares}
 use Rattle.esto_reasoning.specs.Minimise.{IsMinimalText, minimises}
 use Rattle.esto_reasoning.specs.Texts.{minimal_text, no_text}
-
--- a course that is determined is so where causes are asked for
-calmly : {A : Type 0} (course : Course Status A) → IsDetermined course → AgreeCalmly ◌≡◌ course course
-calmly course determined = record {
-  one = determined.one;
-  one_stop = λ error other because because'. determined.one_stop error other tt tt;
-  apart = λ value error because. determined.apart value error tt;
-  other_apart = λ value error because. determined.other_apart value error tt;
-  alike = fewer_alike (IsCaused ⊥) (λ _. Unit {0}) course course (λ said caused. tt) determined.alike;
-}
 
 -- ---- what is told of two queries
 

@@ -78,9 +78,6 @@ module _ (catalogues : CataloguesOpenAlike) (queries : QueriesOpenAlike) (files 
       (λ text other_text goes2 texts. gives_agree _ (Done text) (Done other_text) (ap Done texts))))
 
   module _ (catalogue : Catalogue) (opens : (opens_catalogue (Some files) catalogue_name).goes catalogue) where
-    opened_leads : (Refusal : Status → Type 0) → Leads (opens_catalogue (Some files) catalogue_name) (AreSame catalogue) Refusal
-    opened_leads Refusal = agreed_leads AreSame _ _ catalogue Refusal (catalogues files catalogue_name) opens
-
     read_leads : (other : Catalogue) → AreSame catalogue other → (name : List ℕ) (query : Query) → (opens_query (Some files) name catalogue).goes query
         → (Refusal : Status → Type 0) → Leads (opens_query (Some files) name other) (IsSameQuery query) Refusal
     read_leads other alike name query goes Refusal = agreed_leads IsSameQuery _ _ query Refusal (queries files name catalogue other alike) goes
@@ -90,7 +87,7 @@ module _ (catalogues : CataloguesOpenAlike) (queries : QueriesOpenAlike) (files 
         → Leads (compares catalogue left right) (Fact status.Done) (λ said. Fact said (line_of said))
         → SaysAlways (contains_course (Some files) catalogue_name left_name right_name) Fact
     contains_says Fact left_name right_name left right left_opens right_opens leads =
-        then-leads _ _ (AreSame catalogue) _ _ (opened_leads _) (λ other alike.
+        then-leads _ _ (AreSame catalogue) _ _ (agreed_leads AreSame _ _ catalogue _ (catalogues files catalogue_name) opens) (λ other alike.
         then-leads _ _ (IsSameQuery left) _ _ (read_leads other alike left_name left left_opens _) (λ other_left lefts.
         then-leads _ _ (IsSameQuery right) _ _ (read_leads other alike right_name right right_opens _) (λ other_right rights.
         replies_say (compares other other_left other_right) Fact
@@ -101,7 +98,7 @@ module _ (catalogues : CataloguesOpenAlike) (queries : QueriesOpenAlike) (files 
         → Leads (minimises catalogue query) (Fact status.Done) (λ said. Fact said (line_of said))
         → SaysAlways (minimise_course (Some files) catalogue_name query_name) Fact
     minimise_says Fact query_name query query_opens leads =
-        then-leads _ _ (AreSame catalogue) _ _ (opened_leads _) (λ other alike.
+        then-leads _ _ (AreSame catalogue) _ _ (agreed_leads AreSame _ _ catalogue _ (catalogues files catalogue_name) opens) (λ other alike.
         then-leads _ _ (IsSameQuery query) _ _ (read_leads other alike query_name query query_opens _) (λ other_query same.
         replies_say (minimises other other_query) Fact
         (minimised_leads (Fact status.Done) (λ said. Fact said (line_of said)) catalogue other alike query other_query same leads)))

@@ -12,9 +12,9 @@ use Rattle.esto_semantics.specs.Listed.{candidate}
 use Rattle.esto_semantics.specs.Queries.{ConjunctiveQuery}
 use Rattle.esto_stores.specs.Rows.{Row}
 use Rattle.esto_views.specs.declared.plan.Plan.{Plan}
-use Rattle.esto_data.proofs.AlikeLemmas.{same_rows_text}
 use Rattle.esto_top.specs.Run.{IsRunText}
 use Rattle.esto_opening.specs.Alike.{IsSameQuery, StoresHaveOneContent}
+use Rattle.esto_opening.proofs.AlikeLemmas.{same_rows_text}
 use Rattle.esto_planning.specs.Alike.{IsSamePlan}
 
 -- a set of rows has one text

@@ -28,7 +28,6 @@ use Rattle.esto_top.specs.Grammar.Request.{CheckOf, ListFor, RunFor, FillFor, An
 use Rattle.esto_top.specs.List.{list_course, lists_queries, lists_query, prints_list}
 use Rattle.esto_top.specs.Run.{run_course, runs_queries}
 use Rattle.esto_top.specs.Outcome.{CompleteWhereTold, Says}
-use Rattle.esto_opening.specs.Opening.{opens_catalogue, opens_union}
 use Rattle.esto_opening.specs.declared.reply.Reply.TheVariants.{Done}
 use Rattle.esto_opening.specs.declared.status.Status.{Status}
 use Rattle.esto_opening.specs.declared.status.Status.TheVariants as status
@@ -69,13 +68,7 @@ pub record OneLaws : Type 0 where
   pub explain : ExplainHasOneStatus
 
 module _ (laws : CourseLaws) (unions : UnionLaws) (summaries : SummariesAreOne) (on_each : OneLaws) (files : Files) where
-  opened_agree : (name : List ℕ) → AgreeCalmly AreSame (opens_catalogue (Some files) name) (opens_catalogue (Some files) name)
-  opened_agree name = laws.opening.catalogues files name
-
   module _ (catalogue other : Catalogue) (alike : AreSame catalogue other) where
-    unions_agree : (name : List ℕ) → AgreeCalmly AreSameQueries (opens_union (Some files) name catalogue) (opens_union (Some files) name other)
-    unions_agree name = laws.opening.unions files name catalogue other alike
-
     module _ (query other_query : Query) (same : IsSameQuery query other_query) where
       printed_agree : (plan other_plan : Plan) → IsSamePlan plan other_plan
           → AgreeCalmly ◌≡◌ (prints_list catalogue query plan) (prints_list other other_query other_plan)
@@ -114,21 +107,21 @@ module _ (laws : CourseLaws) (unions : UnionLaws) (summaries : SummariesAreOne) 
   list_agrees : (catalogue_name query_name : List ℕ) → AgreeCalmly ◌≡◌ (list_course (Some files) catalogue_name query_name)
       (list_course (Some files) catalogue_name query_name)
   list_agrees catalogue_name query_name =
-      then_agree _ AreSame ◌≡◌ _ _ _ _ (opened_agree catalogue_name) (λ catalogue other goes alike.
-      then_agree _ AreSameQueries ◌≡◌ _ _ _ _ (unions_agree catalogue other alike query_name) (λ queries others goes1 same.
+      then_agree _ AreSame ◌≡◌ _ _ _ _ (laws.opening.catalogues files catalogue_name) (λ catalogue other goes alike.
+      then_agree _ AreSameQueries ◌≡◌ _ _ _ _ (laws.opening.unions files query_name catalogue other alike) (λ queries others goes1 same.
       then_agree _ ◌≡◌ ◌≡◌ _ _ _ _ (all_listed_agree catalogue other alike queries others same)
       (λ text other_text goes2 texts. gives_agree _ (Done text) (Done other_text) (ap Done texts))))
 
   run_agrees : (catalogue_name query_name : List ℕ) (number : Option ℕ) → AgreeCalmly ◌≡◌ (run_course (Some files) catalogue_name query_name number)
       (run_course (Some files) catalogue_name query_name number)
   run_agrees catalogue_name query_name number =
-      then_agree _ AreSame ◌≡◌ _ _ _ _ (opened_agree catalogue_name) (λ catalogue other goes alike.
-      then_agree _ AreSameQueries ◌≡◌ _ _ _ _ (unions_agree catalogue other alike query_name) (λ queries others goes1 same.
+      then_agree _ AreSame ◌≡◌ _ _ _ _ (laws.opening.catalogues files catalogue_name) (λ catalogue other goes alike.
+      then_agree _ AreSameQueries ◌≡◌ _ _ _ _ (laws.opening.unions files query_name catalogue other alike) (λ queries others goes1 same.
       all_run_agree catalogue other alike number queries others same))
 
   check_agrees : (name : List ℕ) → AgreeCalmly ◌≡◌ (check_course (Some files) name) (check_course (Some files) name)
   check_agrees name =
-      then_agree _ AreSame ◌≡◌ _ _ _ _ (opened_agree name) (λ catalogue other goes alike. gives_agree _ (Done (check_text catalogue))
+      then_agree _ AreSame ◌≡◌ _ _ _ _ (laws.opening.catalogues files name) (λ catalogue other goes alike. gives_agree _ (Done (check_text catalogue))
       (Done (check_text other)) (ap Done (check_one catalogue other alike)))
 
   request_agrees : (request : Request) → AgreeCalmly (CountsAs (writes_certificate (Some request))) (course_of_request (Some files) request)

@@ -23,6 +23,7 @@ use Rattle.esto_query.specs.declared.query.Query.{Query}
 use Rattle.esto_semantics.specs.Queries.{ConjunctiveQuery}
 use Rattle.esto_views.specs.declared.plan.Plan.{Plan}
 use Rattle.esto_opening.proofs.UnionLemmas.{itself}
+use Rattle.esto_opening.proofs.StatusLemmas.{clash_not_above, none_not_above, done_not_above}
 use Rattle.esto_top.specs.CertificateOutcomes.{ExplainsWhereTold, IsExactExplain, IsNumbered, OutcomesAreExplained, OutcomesAreVerified}
 use Rattle.esto_top.specs.CertificateOutcomes.{OutcomesOfExplainAreAccepted}
 use Rattle.esto_top.specs.Headline.{HasAnswers, IsExactRefusal, Rewrites}
@@ -43,20 +44,11 @@ above_one asked count number other same = (cc, cc)
 clash_done : (clash : Clash) → status.Unsatisfiable clash ≡ status.Done → ⊥
 clash_done clash same = cc
 
-clash_above : (clash : Clash) (asked count : ℕ) → status.Unsatisfiable clash ≡ status.NoSuchNumber asked count → ⊥
-clash_above clash asked count same = cc
-
 none_done : status.NoRewriting ≡ status.Done → ⊥
 none_done same = cc
 
-none_above : (asked count : ℕ) → status.NoRewriting ≡ status.NoSuchNumber asked count → ⊥
-none_above asked count same = cc
-
 above_done : (asked count : ℕ) → status.NoSuchNumber asked count ≡ status.Done → ⊥
 above_done asked count same = cc
-
-done_above : (asked count : ℕ) → status.Done ≡ status.NoSuchNumber asked count → ⊥
-done_above asked count same = cc
 
 done_none : status.Done ≡ status.NoRewriting → ⊥
 done_none same = cc
@@ -96,7 +88,7 @@ module _ (laws : ListingLaws) (catalogue : Catalogue) (query : Query) (number : 
       refused = (λ never. (clash, ends, is, line ∙ ap line_of is), refusal_tells said text);
       no_rewriting = λ answers. absurd (never_clashes clash ends answers);
       no_number = λ asked count.
-          ((λ tells. absurd (clash_above clash asked count (sym is ∙ tells))), (λ above. absurd (never_planned above.plan above.planned)));
+          ((λ tells. absurd (clash_not_above clash asked count (sym is ∙ tells))), (λ above. absurd (never_planned above.plan above.planned)));
       done = ((λ tells. absurd (clash_done clash (sym is ∙ tells))), (λ (plan, item, at). absurd (never_planned plan at.planned)));
       certifies = λ plan item at. absurd (never_planned plan at.planned);
       line = λ undone. line;
@@ -133,7 +125,7 @@ module _ (laws : ListingLaws) (catalogue : Catalogue) (query : Query) (number : 
           refused = refused_here said text;
           no_rewriting = λ answers. ((λ tells. empty_here.0 empty), (λ absent. is));
           no_number = λ asked count. (
-            (λ tells. absurd (none_above asked count (sym is ∙ tells))),
+            (λ tells. absurd (none_not_above asked count (sym is ∙ tells))),
             (λ above. absurd (above.some (sym (above_items asked count above) ∙ empty))),
           );
           done = ((λ tells. absurd (none_done (sym is ∙ tells))), (λ (other, item, at). absurd (none_numbered other item at)));
@@ -152,7 +144,7 @@ module _ (laws : ListingLaws) (catalogue : Catalogue) (query : Query) (number : 
         above_exact = record {
           refused = refused_here said text;
           no_rewriting = λ answers. (
-            (λ tells. absurd (none_above number (length items) (sym tells ∙ is))),
+            (λ tells. absurd (none_not_above number (length items) (sym tells ∙ is))),
             (λ absent. absurd (some (empty_here.1 absent))),
           );
           no_number = λ asked count. (
@@ -195,7 +187,7 @@ module _ (laws : ListingLaws) (catalogue : Catalogue) (query : Query) (number : 
           (λ absent. absurd (none-some item (sym (ap (λ (it : List Listed). slice_get it (number - 1)) (empty_here.1 absent)) ∙ there))),
         );
         no_number = λ asked count. (
-          (λ tells. absurd (done_above asked count (sym is ∙ tells))),
+          (λ tells. absurd (done_not_above asked count (sym is ∙ tells))),
           (λ above. absurd (not_above asked count above)),
         );
         done = ((λ tells. (plan, item, numbered_here)), (λ found. is));

@@ -35,8 +35,7 @@ use Rattle.esto_opening.specs.Answers.{IsCaused}
 use Rattle.esto_opening.specs.Fragments.{IsReadableFragment, opens_fragments}
 use Rattle.esto_opening.specs.Readable.{AreReadable, OpenedAreReadable, ReadableAreOpened, TellsOfFile}
 use Rattle.esto_opening.specs.Readable.TellsOfFile.{fails, is_longer, has_fault}
-use Rattle.esto_data.proofs.AlikeLemmas.{same_rows_text}
-use Rattle.esto_opening.proofs.StatusLemmas.{same_clash}
+use Rattle.esto_opening.proofs.StatusLemmas.{same_clash, same_asked, same_least}
 use Rattle.esto_top.specs.Grammar.{course_of, is_list_number}
 use Rattle.esto_top.specs.Headline.{FilesSay, HasAnswers, Rewrites}
 use Rattle.esto_opening.specs.Replies.{reply_status, reply_text}
@@ -53,6 +52,7 @@ use Rattle.esto_top.specs.Laws.{ListingLaws, OpeningLaws}
 use Rattle.esto_top.proofs.HeadlineLemmas.{empty-without}
 use Rattle.esto_opening.specs.Calm.{Leads}
 use Rattle.esto_opening.proofs.LeadLemmas.{then-leads}
+use Rattle.esto_opening.proofs.AlikeLemmas.{same_rows_text}
 use Rattle.esto_top.proofs.LeadLemmas.{says-leads}
 use Rattle.esto_top.proofs.RunLemmas.{same_rows, uses_only}
 use Rattle.esto_top.proofs.SayLemmas.{alone_opens, catalogue_leads, catalogue_opens, one_alone, union_leads}
@@ -214,12 +214,6 @@ module _ (laws : RunLaws) (catalogue : Catalogue) (query : Query) (plan : Plan) 
   run_printed = record { rows = is_text; answers = answers-printed }
 
 -- ---- the numbers
-
-same_asked : (asked count other more : ℕ) → status.NoSuchNumber asked count ≡ status.NoSuchNumber other more → asked ≡ other
-same_asked asked count other more same = cc
-
-same_count : (asked count other more : ℕ) → status.NoSuchNumber asked count ≡ status.NoSuchNumber other more → count ≡ more
-same_count asked count other more same = cc
 
 -- ---- the whole course
 
@@ -494,8 +488,8 @@ module _ (opening : OpeningLaws) (files : Files) (catalogue_name query_name : Li
                 items = items;
                 list = list_here plan planned items list;
                 some = some;
-                counts = same_count own (length items) asked count h;
-                above = omega (arith, less, same_asked own (length items) asked count h, same_count own (length items) asked count h);
+                counts = same_least own (length items) asked count h;
+                above = omega (arith, less, same_asked own (length items) asked count h, same_least own (length items) asked count h);
               }
       number_tells refusal (not_opened plan planned items list place chosen item there numbers used caused stops) asked count = (
         λ said. absurd (file_not_above asked count refusal ((run_laws.opened files catalogue other numbers alike).stops refusal caused stops) said),
