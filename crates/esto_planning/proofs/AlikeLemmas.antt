@@ -26,7 +26,7 @@ use Rattle.esto_planning.specs.Alike.{EndIsOne, IsSameEnd, IsSamePlan, ListIsOne
 use Rattle.esto_planning.specs.Laws.{PlanLaws}
 use Rattle.esto_planning.specs.Listing.{IsClash, IsListing, IsListOf, IsPlanned}
 use Rattle.esto_planning.specs.Planning.{ends_query, lists_plan, plans_query}
-use Rattle.esto_planning.proofs.MovedLemmas.{clash_moved, list_moved, listing_moved, planned_moved}
+use Rattle.esto_planning.proofs.MovedLemmas.{list_moved, listing_moved, planned_moved, clash_moved}
 use Rattle.esto_planning.proofs.OneListLemmas.{items_same, text_same}
 
 -- ---- over one catalogue
@@ -68,19 +68,17 @@ module _ (laws : PlanLaws) (catalogue : Catalogue) (query : Query) where
 
 module _ (laws : PlanLaws) (catalogue other : Catalogue) (query other_query : Query) (alike : AreSame catalogue other)
     (same : IsSameQuery query other_query) where
-  plan_here : (plan : Plan) → IsPlanned other other_query plan → IsPlanned catalogue query plan
-  plan_here = planned_moved catalogue other alike query other_query same
-
-  clash_here : (clash : Clash) → IsClash other other_query clash → IsClash catalogue query clash
-  clash_here = clash_moved catalogue other alike query other_query same
-
   same_end : (end other_end : Either Plan Clash) → (ends_query catalogue query).goes end → (ends_query other other_query).goes other_end
       → IsSameEnd end other_end
   unfolding judges
-  same_end (Left plan) (Left other_plan) here there = plans_one laws catalogue query plan other_plan here (plan_here other_plan there)
-  same_end (Left plan) (Right clash) here there = apart laws catalogue query plan clash here (clash_here clash there)
-  same_end (Right clash) (Left plan) here there = apart laws catalogue query plan clash (plan_here plan there) here
-  same_end (Right clash) (Right other_clash) here there = clashes_one laws catalogue query clash other_clash here (clash_here other_clash there)
+  same_end (Left plan) (Left other_plan) here there =
+      plans_one laws catalogue query plan other_plan here (planned_moved catalogue other alike query other_query same other_plan there)
+  same_end (Left plan) (Right clash) here there =
+      apart laws catalogue query plan clash here (clash_moved catalogue other alike query other_query same clash there)
+  same_end (Right clash) (Left plan) here there =
+      apart laws catalogue query plan clash (planned_moved catalogue other alike query other_query same plan there) here
+  same_end (Right clash) (Right other_clash) here there =
+      clashes_one laws catalogue query clash other_clash here (clash_moved catalogue other alike query other_query same other_clash there)
 
   end_agrees : AgreeCalmly IsSameEnd (ends_query catalogue query) (ends_query other other_query)
   unfolding judges
@@ -89,11 +87,12 @@ module _ (laws : PlanLaws) (catalogue other : Catalogue) (query other_query : Qu
 
   plan_agrees : AgreeCalmly IsSamePlan (plans_query catalogue query) (plans_query other other_query)
   plan_agrees = judges_agree _ _ _ _ _ _
-      (λ plan other_plan here there. plans_one laws catalogue query plan other_plan here (plan_here other_plan there))
+      (λ plan other_plan here there. plans_one laws catalogue query plan other_plan here
+      (planned_moved catalogue other alike query other_query same other_plan there))
       (λ said other_said caused other_caused here there. here.2 ∙ ap status.Unsatisfiable (clashes_one laws catalogue query here.0 there.0 here.1
-      (clash_here there.0 there.1)) ∙ sym there.2)
-      (λ plan said caused here there. apart laws catalogue query plan there.0 here (clash_here there.0 there.1))
-      (λ plan said caused here there. apart laws catalogue query plan there.0 (plan_here plan here) there.1)
+      (clash_moved catalogue other alike query other_query same there.0 there.1)) ∙ sym there.2)
+      (λ plan said caused here there. apart laws catalogue query plan there.0 here (clash_moved catalogue other alike query other_query same there.0 there.1))
+      (λ plan said caused here there. apart laws catalogue query plan there.0 (planned_moved catalogue other alike query other_query same plan here) there.1)
 
   list_agrees : (plan other_plan : Plan) → IsSamePlan plan other_plan
       → AgreeCalmly ◌≡◌ (lists_plan catalogue query plan) (lists_plan other other_query other_plan)
