@@ -123,6 +123,20 @@ module _ (size : ℕ) (few : size ≤ MAX_SIZE) where
 abbrev pub HasMadeView : ℕ → FragmentDef → Type 0
 HasMadeView size fragment = (relation : ℕ) × (relation < size) × (query_of fragment.view ≡ made_view relation)
 
+-- the terms of a fragment's head are two variables
+pub variables_apart : AllPairs ◌≢◌ (Plain 0 ∷ Plain 1 ∷ [])
+variables_apart = distinct_cons (Plain 0) (Plain 1 ∷ []) (λ inside. apart (Contains-one (Plain 1) (Plain 0) inside))
+    (distinct_cons (Plain 1) [] (Contains-nil (Plain 1)) distinct_none)
+  where
+    apart : Plain 1 ≡ Plain 0 → ⊥
+    apart same = omega (arith, Plain-same 1 0 same)
+
+pub variable_of : (term : Term) → Contains (Plain 0 ∷ Plain 1 ∷ []) term → IsVariable term
+variable_of term inside = elim (Contains-cases (Plain 0) (Plain 1 ∷ []) term inside) [
+  | inl is ↦ (0, sym is)
+  | inr later ↦ (1, sym (Contains-one (Plain 1) term later))
+]
+
 module _ (size : ℕ) (fragments : List FragmentDef) (are : AreMadeFragments size fragments) where
   pub view_made : (fragment : FragmentDef) → Contains fragments fragment → HasMadeView size fragment
   view_made fragment inside =
@@ -144,19 +158,6 @@ module _ (size : ℕ) (fragments : List FragmentDef) (are : AreMadeFragments siz
 
   head_made : (fragment : FragmentDef) → Contains fragments fragment → fragment.view.head ≡ Plain 0 ∷ Plain 1 ∷ []
   head_made fragment inside = ap (λ (it : ConjunctiveQuery). it.head) (view_made fragment inside).2
-
-  variables_apart : AllPairs ◌≢◌ (Plain 0 ∷ Plain 1 ∷ [])
-  variables_apart = distinct_cons (Plain 0) (Plain 1 ∷ []) (λ inside. apart (Contains-one (Plain 1) (Plain 0) inside))
-      (distinct_cons (Plain 1) [] (Contains-nil (Plain 1)) distinct_none)
-    where
-      apart : Plain 1 ≡ Plain 0 → ⊥
-      apart same = omega (arith, Plain-same 1 0 same)
-
-  variable_of : (term : Term) → Contains (Plain 0 ∷ Plain 1 ∷ []) term → IsVariable term
-  variable_of term inside = elim (Contains-cases (Plain 0) (Plain 1 ∷ []) term inside) [
-    | inl is ↦ (0, sym is)
-    | inr later ↦ (1, sym (Contains-one (Plain 1) term later))
-  ]
 
   fragment_is : AreFragments fragments
   fragment_is fragment inside = record {

@@ -11,6 +11,7 @@ use Rattle.esto_bench.proofs.BothLemmas.{both_at, both_long}
 use Rattle.esto_bench.proofs.CaseLemmas.{chain_is, view_sound}
 use Rattle.esto_bench.proofs.PlanLemmas.{some_listed}
 use Rattle.esto_bench.proofs.ViewLemmas.{satisfied}
+use Rattle.esto_bench.proofs.CatalogueLemmas.{variable_of, variables_apart}
 use Rattle.esto_chase.proofs.ChaseLemmas.{depth_of, depth-small}
 use Rattle.esto_chase_laws.specs.Runs.{Step, IsEnd, IsRun, IsStart, start_of}
 use Rattle.esto_list.specs.Items.{totals_of}
@@ -18,14 +19,12 @@ use Rattle.esto_list.specs.declared.listing.Listed.{Listed as Item}
 use Rattle.esto_query.specs.declared.query.Name.TheVariants.{Hidden}
 use Rattle.esto_semantics.specs.Expansions.{FitsViews}
 use Rattle.esto_semantics.specs.Listed.{AreListed}
-use Rattle.esto_semantics.specs.Maps.{IsVariable}
 use Rattle.esto_semantics.specs.Plans.{IsUniversalPlan}
 use Rattle.esto_semantics.specs.Queries.{ConjunctiveQuery, IsQuery}
 use Rattle.esto_semantics.specs.Rewritings.{IsPlanFor}
 use Rattle.esto_semantics.specs.Rules.{AreRules}
 use Rattle.esto_semantics.specs.declared.fact.Fact.{Fact}
 use Rattle.esto_term.specs.declared.term.Term.{Term}
-use Rattle.esto_term.specs.declared.term.Term.TheVariants.{Plain}
 use Rattle.esto_term.proofs.ChoiceLemmas.{Decided, contains_more}
 use Rattle.esto_term.proofs.DistinctLemmas.{decided_contains, distinct_cons, distinct_none}
 use Rattle.esto_term.proofs.ListLemmas.{Contains-nil, Contains-cases, Contains-rest}
@@ -39,7 +38,6 @@ use Rattle.esto_views.proofs.FormLemmas.{plan_form}
 use Rattle.esto_outcome_laws.specs.Laws.{BelowLaws, BenchLaws}
 use Rattle.esto_reading_laws.proofs.DecisionLemmas.{same_list}
 use Rattle.esto_outcome_laws.proofs.ListLemmas.{items_exist}
-use Rattle.esto_semantics.proofs.TermLemmas.{Plain-same}
 use Rattle.esto_outcome_laws.proofs.PlanLemmas.{stated_exists}
 use Rattle.esto_outcome_laws.proofs.RewritingLemmas.{Chases, IsPlanKnown, listed_sets_exist}
 use Rattle.esto_outcome_laws.proofs.TextLemmas.{database_answers, decided_value}
@@ -131,22 +129,10 @@ module _ (laws : BelowLaws) (bench : BenchLaws) (size : ℕ) (some : 0 < size) w
           record {
             same_length = sym (length-map view.head m) ∙ ap length (sym row_is) ∙ sym (length-map row.terms of.renaming)
                 ∙ ap (λ (it : Fact Term). length it.terms) same;
-            variables = λ term in_head. two_variables term (subst (λ (it : ConjunctiveQuery). Contains it.head term) (sym own.1) in_head);
-            distinct = subst (λ (it : ConjunctiveQuery). AllPairs ◌≢◌ it.head) own.1 apart;
+            variables = λ term in_head. variable_of term (subst (λ (it : ConjunctiveQuery). Contains it.head term) (sym own.1) in_head);
+            distinct = subst (λ (it : ConjunctiveQuery). AllPairs ◌≢◌ it.head) own.1 variables_apart;
           },
         )
-      where
-        two_variables : (term : Term) → Contains (Plain 0 ∷ Plain 1 ∷ []) term → IsVariable term
-        two_variables term in_head = elim (Contains-cases (Plain 0) (Plain 1 ∷ []) term in_head) [
-          | inl is ↦ (0, sym is)
-          | inr later ↦ elim (Contains-cases (Plain 1) [] term later) [ inl is ↦ (1, sym is) | inr none ↦ absurd (Contains-nil term none) ]
-        ]
-
-        apart : AllPairs ◌≢◌ (Plain 0 ∷ Plain 1 ∷ [])
-        apart = distinct_cons (Plain 0) (Plain 1 ∷ []) (λ there. elim (Contains-cases (Plain 1) [] (Plain 0) there) [
-          | inl is ↦ let wrong = Plain-same 1 0 is in omega (arith, wrong)
-          | inr none ↦ Contains-nil (Plain 0) none
-        ]) (distinct_cons (Plain 1) [] (Contains-nil (Plain 1)) distinct_none)
 
     known : IsPlanKnown (made_views size) (plan_query plan)
     known = record { flat_body = form.flat_body; flat_head = λ term inside. named-flat plan term ((laws.keeps.plans plan).named_head term inside); fits = fits }
