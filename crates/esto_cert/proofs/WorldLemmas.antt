@@ -1,6 +1,6 @@
 -- Entries that rest on a set alone: what follows from them is covered by more of them.
 use Rattle.std.proofs.Common.{◌≡◌, ◌↔◌, inl, inr, zero, suc, ℕ, ◌==◌, ◌-◌, Bool, true, false, cond, List, [], ◌∷◌, ◌++◌, map, slice_get, option_map, Option}
-use Rattle.std.proofs.Common.{Some, None, Contains, refl, sym, ap, ◌∙◌, subst, arith}
+use Rattle.std.proofs.Common.{Some, None, Contains, refl, sym, ap, subst, arith}
 use Rattle.std.specs.List.{AllZip}
 use Rattle.std.proofs.lemmas.Bool.{false≢true}
 use Rattle.std.proofs.lemmas.List.Elements.{Contains-append_left, Contains-append_right, Contains-append_cases}
@@ -17,9 +17,8 @@ use Rattle.esto_semantics.specs.Sets.{Has, Within, united}
 use Rattle.esto_semantics.specs.declared.fact.Fact.{Fact}
 use Rattle.esto_semantics.proofs.SetLemmas.{has_united}
 use Rattle.esto_semantics.proofs.TermLemmas.{decided_term}
-use Rattle.esto_chase_laws.specs.Joined.{same_fact}
+use Rattle.esto_semantics.proofs.FactLemmas.{decided_fact}
 use Rattle.esto_chase_laws.specs.Making.{extended}
-use Rattle.esto_chase_laws.proofs.JoinedLemmas.{same_fact-Decides}
 use Rattle.esto_views.specs.declared.expansion.ExpandedFact.{ExpandedFact}
 use Rattle.esto_world_laws.specs.Worlds.{InWorld, Linked, here, along, back}
 use Rattle.esto_world_laws.specs.Matches.{Touching, match_map, IsMatch}
@@ -39,13 +38,6 @@ use Rattle.esto_cert.proofs.MatchLemmas.{are_chosen, are_like}
 
 -- ---- which claims there are is decided
 
-decided_fact : (fact other : Fact Term) → Decided (fact ≡ other)
-decided_fact fact other = by (same_fact fact other) refl
-  where
-    by : (answer : Bool) → same_fact fact other ≡ answer → Decided (fact ≡ other)
-    by true told = inl ((same_fact-Decides fact other).0 told)
-    by false told = inr (λ is. let wrong : true ≡ false = sym ((same_fact-Decides fact other).1 is) ∙ told in cc)
-
 stated_one : (fact other : Fact Term) → Stated fact ≡ Stated other → fact ≡ other
 stated_one fact other same = cc
 
@@ -53,7 +45,7 @@ same_ones : (left right other_left other_right : Term) → Same left right ≡ S
 same_ones left right other_left other_right same = (cc, cc)
 
 decided_claim : (claim other : Claim) → Decided (claim ≡ other)
-decided_claim (Stated fact) (Stated other) = decided_as (ap Stated, stated_one fact other) (decided_fact fact other)
+decided_claim (Stated fact) (Stated other) = decided_as (ap Stated, stated_one fact other) (decided_fact decided_term fact other)
 decided_claim (Stated fact) (Same left right) = inr (λ is. cc)
 decided_claim (Same left right) (Stated fact) = inr (λ is. cc)
 decided_claim (Same left right) (Same other_left other_right) =
