@@ -12,6 +12,7 @@ use Rattle.esto_fill.specs.Files.{AreApart, HasRelation}
 use Rattle.esto_fill.specs.Laws.{AnswersRestOnDatasets}
 use Rattle.esto_fill.specs.Texts.{AreTextsOf, HaveTextsOnly}
 use Rattle.esto_fill.specs.declared.datasets.DatasetBytes.{DatasetBytes}
+use Rattle.esto_fill.proofs.LawLemmas.{texts_no_node}
 use Rattle.esto_ports.specs.Files.{Files}
 use Rattle.esto_query.specs.Making.{query_of}
 use Rattle.esto_query.specs.declared.query.Query.{Query}
@@ -38,7 +39,6 @@ use Rattle.esto_data.specs.Laws.{RepliesAreAudited}
 use Rattle.esto_data.specs.DataLaws.{DataLaws}
 use Rattle.esto_data.proofs.AlikeLemmas.{fragments_long}
 use Rattle.esto_data.proofs.DatasetLemmas.{sources_there}
-use Rattle.esto_data.proofs.ExactLemmas.{no_node}
 use Rattle.esto_data.proofs.FragmentLemmas.{each_opened, opened_within}
 use Rattle.esto_data.proofs.LeadLemmas.{AreLoaded, AreOpenedFiles, CanOpen, are_loaded, loads_never}
 use Rattle.esto_data.proofs.LoadLemmas.{dataset_agree}
@@ -181,7 +181,7 @@ module _ (laws : DataLaws) (rest : AnswersRestOnDatasets) (files : Files) (datas
     unfolding judges
     rows_lead some goes = record {
       goes = λ rows are. texts_over (IsUnionAnswerOfFacts queries facts) (IsUnionAnswerOfFacts queries some) (union_same some goes) texts rows are;
-      stops = λ said caused (column, first, is). no_node (IsUnionAnswerOfFacts queries some) column (union_texts some goes) first;
+      stops = λ said caused (column, first, is). texts_no_node (IsUnionAnswerOfFacts queries some) column (union_texts some goes) first;
     }
 
     loads_lead : Leads (loads (Some files) datasets needs) (λ some. (loads (Some files) datasets needs).goes some) (λ _. ⊥)

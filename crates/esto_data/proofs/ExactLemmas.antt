@@ -1,7 +1,6 @@
 -- What `fill`, `answer` and `audit` answer where nothing is wrong with the files.
-use Rattle.std.proofs.Common.{◌≡◌, ◌≢◌, ◌↔◌, ℕ, suc, List, [], ◌∷◌, ◌++◌, map, length, slice_get, Contains, Option, Some, None, Err, refl, sym, ap, subst, ◌∙◌}
-use Rattle.std.proofs.Common.{arith, inl, inr}
-use Rattle.std.proofs.lemmas.Bool.{cases_order}
+use Rattle.std.proofs.Common.{◌≡◌, ◌≢◌, ◌↔◌, ℕ, suc, List, [], ◌∷◌, ◌++◌, map, length, Contains, Option, Some, None, Err, refl, sym, ap, subst, ◌∙◌}
+use Rattle.std.proofs.Common.{inl, inr}
 use Rattle.std.proofs.lemmas.Option.{same_Some, none-some}
 use Rattle.esto_catalog.specs.Determined.{AreSame, CataloguesAreSound}
 use Rattle.esto_catalog.specs.declared.catalogue.Catalogue.{Catalogue}
@@ -12,11 +11,12 @@ use Rattle.esto_course.specs.Course.{Course, judges, demands, gives, and_then, e
 use Rattle.esto_fill.specs.Databases.{database_of}
 use Rattle.esto_fill.specs.Differences.{HoldViewRows}
 use Rattle.esto_fill.specs.Filled.{Fills}
-use Rattle.esto_fill.specs.Texts.{AreTextViews, AreTextsOf, HaveTextsOnly, HasNodeIn, IsFirstNodeColumn, IsFirstNodeView, IsTextRow}
+use Rattle.esto_fill.specs.Texts.{AreTextViews, AreTextsOf, IsFirstNodeColumn, IsFirstNodeView}
 use Rattle.esto_fill.specs.declared.auditing.Difference.{Difference}
 use Rattle.esto_fill.specs.declared.filled.FillError.{FillError}
 use Rattle.esto_fill.specs.declared.filled.FillError.TheVariants as filled
 use Rattle.esto_fill.specs.declared.datasets.DatasetBytes.{DatasetBytes}
+use Rattle.esto_fill.proofs.LawLemmas.{texts_no_node, columns_one, views_no_node, views_one}
 use Rattle.esto_ports.specs.Files.{Files}
 use Rattle.esto_ports.specs.declared.file_fault.FileFault.{FileFault}
 use Rattle.esto_query.specs.Making.{query_of}
@@ -25,12 +25,11 @@ use Rattle.esto_run.specs.Answers.{rows_text}
 use Rattle.esto_run.specs.Stores.{IsFileRow}
 use Rattle.esto_semantics.specs.Facts.{Database}
 use Rattle.esto_semantics.specs.Maps.{AreFlat}
-use Rattle.esto_semantics.specs.Queries.{ConjunctiveQuery, IsAnswer}
+use Rattle.esto_semantics.specs.Queries.{ConjunctiveQuery}
 use Rattle.esto_semantics.specs.declared.fact.Fact.{Fact}
 use Rattle.esto_semantics.specs.declared.fact.Value.{Value}
-use Rattle.esto_semantics.specs.declared.fact.Value.TheVariants.{Text, Node}
 use Rattle.esto_stores.specs.Rows.{Row}
-use Rattle.esto_term.proofs.ListLemmas.{Contains-at, map_at-from, place-from_Contains}
+use Rattle.esto_term.proofs.ListLemmas.{Contains-at, place-from_Contains}
 use Rattle.esto_term.specs.declared.term.Term.{Term}
 use Rattle.esto_views.specs.Fragments.{views_of}
 use Rattle.esto_opening.specs.Alike.{AreSameQueries}
@@ -91,23 +90,6 @@ says-more course Fact More more says = record {
 
 -- ---- nodes in rows
 
--- rows of texts hold no node
-pub no_node : (Rows : List Value → Type 0) (column : ℕ) → HaveTextsOnly Rows → IsFirstNodeColumn Rows column → ⊥
-no_node Rows column texts first = none (texts first.values first.there) first.node
-  where
-    apart : (text : List ℕ) (node : ℕ) → Text text ≡ Node node → ⊥
-    apart text node same = cc
-
-    none : IsTextRow first.values → HasNodeIn column first.values → ⊥
-    none (row, is) (place, node, counted, at) =
-        let found = map_at-from Text row place (Node node) (subst (λ (it : List Value). slice_get it place ≡ Some (Node node)) is at) in
-        apart found.0 node found.2
-
--- the least column is one
-pub one_column : (Rows : List Value → Type 0) (column other : ℕ) → IsFirstNodeColumn Rows column → IsFirstNodeColumn Rows other → column ≡ other
-one_column Rows column other here there =
-    omega (arith, here.least there.values other there.there there.node, there.least here.values column here.there here.node)
-
 done_not_node : (column : ℕ) → status.Done ≡ status.NodeInRow column → ⊥
 done_not_node column same = cc
 
@@ -122,17 +104,17 @@ module _ (Rows : List Value → Type 0) (text_of : List Row → List ℕ) where
     prints = λ only. (refl, (rows, texts, refl));
     node = λ column. (
       (λ same. absurd (done_not_node column same)),
-      (λ first. absurd (no_node Rows column (λ values there. let found = (texts.exact values).0 there in (found.0, found.2)) first)),
+      (λ first. absurd (texts_no_node Rows column (λ values there. let found = (texts.exact values).0 there in (found.0, found.2)) first)),
     );
   }
 
   refused : (column : ℕ) (said : Status) (text : List ℕ) → IsFirstNodeColumn Rows column → said ≡ status.NodeInRow column
       → GivesExactly Rows text_of said text
   refused column said text first is = record {
-    prints = λ only. absurd (no_node Rows column only first);
+    prints = λ only. absurd (texts_no_node Rows column only first);
     node = λ other. (
       (λ same. subst (IsFirstNodeColumn Rows) (node_same column other (sym is ∙ same)) first),
-      (λ its. is ∙ ap status.NodeInRow (one_column Rows column other first its)),
+      (λ its. is ∙ ap status.NodeInRow (columns_one Rows column other first its)),
     );
   }
 
@@ -353,23 +335,6 @@ agree_texts views database Holds rows view inside values answers =
     let found = (rows (record { relation = place.0; terms = values })).0 (view, place.1, answers) in
     (found.0, found.2)
 
-texts_not_view : (views : List ConjunctiveQuery) (database : Database) (column : ℕ) → AreTextViews views database → IsFirstNodeView views database column → ⊥
-texts_not_view views database column texts first =
-    no_node (IsAnswer first.view database) column (texts first.view (Contains-at views first.number first.view first.there)) first.first
-
-one_view_column : (views : List ConjunctiveQuery) (database : Database) (column other : ℕ) → IsFirstNodeView views database column
-    → IsFirstNodeView views database other → column ≡ other
-one_view_column views database column other here there = elim (cases_order here.number there.number) [
-  | inl equal ↦
-      let same : here.view ≡ there.view = same_Some here.view there.view (sym here.there ∙ ap (slice_get views) equal ∙ there.there) in
-      one_column (IsAnswer there.view database) column other
-      (subst (λ (it : ConjunctiveQuery). IsFirstNodeColumn (IsAnswer it database) column) same here.first) there.first
-  | inr apart ↦ elim apart [
-    | inl less ↦ absurd (no_node (IsAnswer here.view database) column (there.before here.number here.view less here.there) here.first)
-    | inr more ↦ absurd (no_node (IsAnswer there.view database) other (here.before there.number there.view more there.there) there.first)
-  ]
-]
-
 differs_same : (difference other : Difference) → status.Differs difference ≡ status.Differs other → difference ≡ other
 differs_same difference other same = cc
 
@@ -417,11 +382,11 @@ module _ (laws : DataLaws) (catalogue : Catalogue) (facts : List (Fact Term)) (f
     noded column first is = record {
       done = (
         (λ same. absurd (done_not_node column (sym same ∙ is))),
-        (λ agree. absurd (texts_not_view (views_of catalogue.fragments) (database_of facts) column
+        (λ agree. absurd (views_no_node (views_of catalogue.fragments) (database_of facts) column
             (agree_texts (views_of catalogue.fragments) (database_of facts) (IsFileRow catalogue.stores contents) agree.rows) first)),
       );
       prints = λ same. absurd (done_not_node column (sym same ∙ is));
-      differs = λ texts difference. absurd (texts_not_view (views_of catalogue.fragments) (database_of facts) column texts first);
+      differs = λ texts difference. absurd (views_no_node (views_of catalogue.fragments) (database_of facts) column texts first);
     }
 
 module _ (laws : DataLaws) (files : Files) (catalogue : Catalogue) (many : length catalogue.stores ≡ length catalogue.fragments) where
@@ -437,7 +402,7 @@ module _ (laws : DataLaws) (files : Files) (catalogue : Catalogue) (many : lengt
         → (said ≡ status.NodeInRow column) ↔ IsFirstNodeView (views_of catalogue.fragments) (database_of facts) column
     node_none said texts other column = (
       (λ same. absurd (other column same)),
-      (λ first. absurd (texts_not_view (views_of catalogue.fragments) (database_of facts) column texts first)),
+      (λ first. absurd (views_no_node (views_of catalogue.fragments) (database_of facts) column texts first)),
     )
 
     node_told : (said : Status) (column : ℕ) → IsFirstNodeView (views_of catalogue.fragments) (database_of facts) column
@@ -445,7 +410,7 @@ module _ (laws : DataLaws) (files : Files) (catalogue : Catalogue) (many : lengt
         → (said ≡ status.NodeInRow other) ↔ IsFirstNodeView (views_of catalogue.fragments) (database_of facts) other
     node_told said column first is other = (
       (λ same. subst (IsFirstNodeView (views_of catalogue.fragments) (database_of facts)) (node_same column other (sym is ∙ same)) first),
-      (λ its. is ∙ ap status.NodeInRow (one_view_column (views_of catalogue.fragments) (database_of facts) column other first its)),
+      (λ its. is ∙ ap status.NodeInRow (views_one (views_of catalogue.fragments) (database_of facts) column other first its)),
     )
 
     texts_moved : (others : List (Fact Term)) → (loads (Some files) catalogue.datasets IsAny).goes others

@@ -5,7 +5,8 @@ use Rattle.std.proofs.lemmas.List.Elements.{Contains-get_or}
 use Rattle.esto_catalog.specs.declared.dataset.Dataset.{Dataset}
 use Rattle.esto_course.specs.Course.{and_then, judges}
 use Rattle.esto_fill.specs.Databases.{database_of}
-use Rattle.esto_fill.specs.Texts.{AreTextsOf, IsFirstNodeColumn}
+use Rattle.esto_fill.specs.Texts.{AreTextsOf}
+use Rattle.esto_fill.proofs.TextLemmas.{column_moved}
 use Rattle.esto_ports.specs.Files.{Files}
 use Rattle.esto_query.specs.Making.{query_of}
 use Rattle.esto_query.specs.declared.query.Query.{Query}
@@ -50,14 +51,6 @@ module _ (One Other : List Value → Type 0) (same : (values : List Value) → O
   texts_moved rows are = record {
     exact = λ values. ((λ there. (are.exact values).0 ((same values).1 there)), (λ found. (same values).0 ((are.exact values).1 found)));
     rising = are.rising;
-  }
-
-  pub column_moved : (column : ℕ) → IsFirstNodeColumn One column → IsFirstNodeColumn Other column
-  column_moved column first = record {
-    values = first.values;
-    there = (same first.values).0 first.there;
-    node = first.node;
-    least = λ other lesser there node. first.least other lesser ((same other).1 there) node;
   }
 
 -- what is given exactly of the one rows is given exactly of the others, where they have one text

@@ -105,10 +105,12 @@ node_no_text column values (row, is) (place, node, counted, there) =
     let from = map_at-from Text row place (Node node) (sym (ap (λ those. slice_get those place) is) ∙ there) in
     let wrong : Text from.0 ≡ Node node = from.2 in absurd (cc)
 
-texts_no_node : (Rows : List Value → Type 0) (column : ℕ) → HaveTextsOnly Rows → IsFirstNodeColumn Rows column → ⊥
+-- rows of texts hold no node
+pub texts_no_node : (Rows : List Value → Type 0) (column : ℕ) → HaveTextsOnly Rows → IsFirstNodeColumn Rows column → ⊥
 texts_no_node Rows column texts first = node_no_text column first.values (texts first.values first.there) first.node
 
-columns_one : (Rows : List Value → Type 0) (column other : ℕ) → IsFirstNodeColumn Rows column → IsFirstNodeColumn Rows other → column ≡ other
+-- the least column with a node is one
+pub columns_one : (Rows : List Value → Type 0) (column other : ℕ) → IsFirstNodeColumn Rows column → IsFirstNodeColumn Rows other → column ≡ other
 columns_one Rows column other one two =
     let low = one.least two.values other two.there two.node in
     let high = two.least one.values column one.there one.node in
@@ -140,11 +142,11 @@ answers_are_one law query database result other one two said too = texts_one law
 pub union_answers_are_one : (law : RisingRowsAreOne) → UnionAnswersAreOne
 union_answers_are_one law queries database result other one two said too = texts_one law (IsUnionAnswer queries database) result other one two said too
 
-views_no_node : (views : List ConjunctiveQuery) (database : Database) (column : ℕ) → AreTextViews views database → IsFirstNodeView views database column → ⊥
+pub views_no_node : (views : List ConjunctiveQuery) (database : Database) (column : ℕ) → AreTextViews views database → IsFirstNodeView views database column → ⊥
 views_no_node views database column texts node =
     texts_no_node (IsAnswer node.view database) column (texts node.view (Contains-at views node.number node.view node.there)) node.first
 
-views_one : (views : List ConjunctiveQuery) (database : Database) (column other : ℕ) → IsFirstNodeView views database column
+pub views_one : (views : List ConjunctiveQuery) (database : Database) (column other : ℕ) → IsFirstNodeView views database column
     → IsFirstNodeView views database other → column ≡ other
 views_one views database column other one two = elim (cases_order one.number two.number) [
   | inl is ↦

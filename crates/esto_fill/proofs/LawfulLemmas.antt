@@ -1,7 +1,6 @@
 -- Facts that meet rules still meet them when facts of other relations come to them; and what is kept of facts that meet the rules of documents.
-use Rattle.std.proofs.Common.{◌≡◌, inl, inr, ℕ, ◌+◌, ◌<◌, ◌≤◌, List, [], ◌∷◌, ◌++◌, take, length, get_or, Contains, refl, sym, ap, subst, arith}
+use Rattle.std.proofs.Common.{◌≡◌, inl, inr, ℕ, ◌+◌, ◌<◌, ◌≤◌, List, [], ◌∷◌, ◌++◌, take, length, get_or, Contains, refl, sym, subst, arith}
 use Rattle.std.proofs.Math.Logic.{∥∥₁_elim}
-use Rattle.std.proofs.lemmas.Bool.{cases_order}
 use Rattle.std.proofs.lemmas.List.{take_all}
 use Rattle.std.proofs.lemmas.List.Elements.{Contains-append_cases, Contains-append_left, Contains-append_right}
 use Rattle.esto_constraint.specs.EncodingRules.{atom, document_rules_2}
@@ -10,11 +9,12 @@ use Rattle.esto_read.specs.declared.words.DataModel.{DataModel}
 use Rattle.esto_semantics.specs.Facts.{Mentions, image}
 use Rattle.esto_semantics.specs.Rules.{Rule, tuple, equality, denial}
 use Rattle.esto_semantics.specs.declared.fact.Fact.{Fact}
-use Rattle.esto_semantics.proofs.FactLemmas.{image_agree}
+use Rattle.esto_semantics.proofs.FactLemmas.{image_agree, decided_fact}
 use Rattle.esto_semantics.proofs.TermLemmas.{decided_term}
 use Rattle.esto_term.proofs.ChoiceLemmas.{Decided}
 use Rattle.esto_term.proofs.ListLemmas.{Contains-cases, Contains-head, Contains-nil, Contains-rest}
 use Rattle.esto_term.proofs.PlaceLemmas.{take-item}
+use Rattle.esto_term.proofs.DistinctLemmas.{decided_contains}
 use Rattle.esto_term.specs.declared.term.Term.{Term}
 use Rattle.esto_term.specs.declared.term.Term.TheVariants.{Plain}
 use Rattle.esto_fill.specs.Lawful.{AreLawful, AreOfBases, IsAmong, IsLawfulBy}
@@ -64,41 +64,6 @@ IsFull (denial body) = Unit {0}
 
 -- ---- what is kept of a rule that is met
 
-decided_terms : (terms others : List Term) → Decided (terms ≡ others)
-decided_terms [] [] = inl refl
-decided_terms [] (other ∷ others) = inr (λ same. cc)
-decided_terms (term ∷ terms) [] = inr (λ same. cc)
-decided_terms (term ∷ terms) (other ∷ others) = by (decided_term term other) (decided_terms terms others)
-  where
-    by : Decided (term ≡ other) → Decided (terms ≡ others) → Decided (term ∷ terms ≡ other ∷ others)
-    by (inl one) (inl rest) = inl (λ i. one i ∷ rest i)
-    by (inl one) (inr apart) = inr (λ same. let rest : terms ≡ others = cc in apart rest)
-    by (inr apart) rest = inr (λ same. let one : term ≡ other = cc in apart one)
-
-decided_number : (one other : ℕ) → Decided (one ≡ other)
-decided_number one other = elim (cases_order one other) [
-  | inl is ↦ inl is
-  | inr (inl less) ↦ inr (λ is. absurd (omega (arith, is, less)))
-  | inr (inr more) ↦ inr (λ is. absurd (omega (arith, is, more)))
-]
-
-decided_fact : (fact other : Fact Term) → Decided (fact ≡ other)
-decided_fact fact other = by (decided_number fact.relation other.relation) (decided_terms fact.terms other.terms)
-  where
-    by : Decided (fact.relation ≡ other.relation) → Decided (fact.terms ≡ other.terms) → Decided (fact ≡ other)
-    by (inl one) (inl rest) = inl (λ i. record { relation = one i; terms = rest i })
-    by (inl one) (inr apart) = inr (λ same. apart (ap (λ (it : Fact Term). it.terms) same))
-    by (inr apart) rest = inr (λ same. apart (ap (λ (it : Fact Term). it.relation) same))
-
-decided_inside : (facts : List (Fact Term)) (fact : Fact Term) → Decided (Contains facts fact)
-decided_inside [] fact = inr (Contains-nil fact)
-decided_inside (first ∷ rest) fact = by (decided_fact first fact) (decided_inside rest fact)
-  where
-    by : Decided (first ≡ fact) → Decided (Contains rest fact) → Decided (Contains (first ∷ rest) fact)
-    by (inl is) later = inl (subst (Contains (first ∷ rest)) is (Contains-head first rest))
-    by (inr apart) (inl later) = inl (Contains-rest first rest fact later)
-    by (inr apart) (inr outside) = inr (λ inside. elim (Contains-cases first rest fact inside) [ inl is ↦ apart is | inr later ↦ outside later ])
-
 known : {P : Type 0} → Decided P → ((P → ⊥) → ⊥) → P
 known (inl holds) kept = holds
 known (inr fails) kept = absurd (kept fails)
@@ -109,7 +74,7 @@ met_known facts (tuple body head) full kept m keeps sends = (
   keeps,
   (λ term mentioned. refl),
   λ it inside.
-      known (decided_inside facts (image m it)) (λ outside. kept (λ met.
+      known (decided_contains (decided_fact decided_term) facts (image m it)) (λ outside. kept (λ met.
       let got = met m keeps sends in
       outside (subst (Contains facts) (sym (image_agree m got.0 it (λ term at. got.2 term (full it inside term at)))) (got.3 it inside)))),
 )

@@ -188,8 +188,8 @@ first_node rows place column counted ((row, inside, (term, at, open_)), least) =
 -- ---- the same rows
 
 module _ (One Other : List Value → Type 0) (same : (values : List Value) → One values ↔ Other values) where
-  node_same : (column : ℕ) → IsFirstNodeColumn One column → IsFirstNodeColumn Other column
-  node_same column first = record {
+  pub column_moved : (column : ℕ) → IsFirstNodeColumn One column → IsFirstNodeColumn Other column
+  column_moved column first = record {
     values = first.values;
     there = (same first.values).0 first.there;
     node = first.node;
@@ -201,12 +201,12 @@ module _ (One Other : List Value → Type 0) (same : (values : List Value) → O
     exact = λ values. ((λ there. (given.exact values).0 ((same values).1 there)), (λ found. (same values).0 ((given.exact values).1 found)));
     rising = given.rising;
   }
-  gives_same (Err (NodeInRow column)) given = node_same column given
+  gives_same (Err (NodeInRow column)) given = column_moved column given
   gives_same (Err OutOfMemory) given = tt
 
   pub judges_same : (result : Result (Unit {0}) AnswerError) → JudgesRows One result → JudgesRows Other result
   judges_same (Ok done) given = λ values there. given values ((same values).1 there)
-  judges_same (Err (NodeInRow column)) given = node_same column given
+  judges_same (Err (NodeInRow column)) given = column_moved column given
   judges_same (Err OutOfMemory) given = tt
 
 -- the images of the rows that stand for others are these
