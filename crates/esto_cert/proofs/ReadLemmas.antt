@@ -1,12 +1,8 @@
 -- Steps of the walks over items that may be wanting.
 use Rattle.std.proofs.Common.{◌≡◌, ◌≢◌, ℕ, length, List, [], ◌∷◌, ◌++◌, Option, Some, None, refl, ap}
 use Rattle.std.proofs.lemmas.List.{append_assoc}
+use Rattle.esto_term.proofs.ListLemmas.{after}
 use Rattle.esto_cert.specs.Lines.{with_item, line_of_words}
-
--- The items before the others, if these are there.
-abbrev pub after : {A : Type 0} → List A → Option (List A) → Option (List A)
-after done None = None
-after done (Some rest) = Some (done ++ rest)
 
 pub after_nothing : {A : Type 0} (rest : Option (List A)) → after [] rest ≡ rest
 after_nothing None = refl

@@ -133,9 +133,13 @@ places_more buckets bucket place at =
     ++ cond answer ((0 + length (take place buckets)) ∷ []) []) ((Decides-eqb bucket bucket).1 refl)
     ∙ ap (λ it. places_of 0 bucket (take place buckets) ++ it ∷ []) start
 
+-- the place before `next`, if there is one, is of the bucket
+abbrev pub OwnsLast : List ℕ → ℕ → ℕ → Type 0
+OwnsLast buckets bucket next = (place : ℕ) → place + 1 ≡ next → slice_get buckets place ≡ Some bucket
+
 -- the places below `next` and those that were collected, the last first, are all
 pub record Collected (buckets : List ℕ) (bucket next : ℕ) (places : List ℕ) : Type 0 where
-  pub own : (place : ℕ) → place + 1 ≡ next → slice_get buckets place ≡ Some bucket
+  pub own : OwnsLast buckets bucket next
   pub all : places_of 0 bucket (take next buckets) ++ reverse places ≡ places_of 0 bucket buckets
 
 pub collect_start : (buckets : List ℕ) (bucket last : ℕ) → LeadsOn buckets bucket (length buckets) last → Collected buckets bucket last []

@@ -156,16 +156,17 @@ pub there_more : (entries others : List Entry) (claim : Claim) (product : List B
 there_more entries others claim product there atoms within = IsCovered-more (InWorld-more entries (entries ++ others) atoms
     (λ own inside. Contains-append_left entries others own inside)) claim (there atoms within)
 
+pub added_keeps : (entries later : List Entry) (entry : Entry) → IsAdded entries entry.claim entry.product entry.reason later → (other : Entry)
+    → Contains entries other → Contains later other
+added_keeps entries later entry added other inside = elim added [
+  | inl same ↦ subst (λ its. Contains its other) (sym same.1) inside
+  | inr new ↦ subst (λ its. Contains its other) (sym new.1) (Contains-append_left entries (entry ∷ []) other inside)
+]
+
 -- one entry more that was asked for
 module _ (entries later : List Entry) (entry : Entry) (added : IsAdded entries entry.claim entry.product entry.reason later) where
   pub added_more : (others : List Entry) × (later ≡ entries ++ others)
   added_more = elim added [ inl same ↦ ([], same.1 ∙ sym (append-nil entries)) | inr new ↦ (entry ∷ [], new.1) ]
-
-  pub added_keeps : (other : Entry) → Contains entries other → Contains later other
-  added_keeps other inside = elim added [
-    | inl same ↦ subst (λ its. Contains its other) (sym same.1) inside
-    | inr new ↦ subst (λ its. Contains its other) (sym new.1) (Contains-append_left entries (entry ∷ []) other inside)
-  ]
 
   pub added_there : IsThere later entry.claim entry.product
   added_there atoms within = elim added [

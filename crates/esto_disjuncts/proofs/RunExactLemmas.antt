@@ -9,9 +9,9 @@ use Rattle.esto_constraint.specs.Constraints.{rules_of}
 use Rattle.esto_opening.specs.Alike.{AreSameQueries}
 use Rattle.esto_opening.specs.Answers.{IsCaused}
 use Rattle.esto_opening.specs.Calm.{Leads}
-use Rattle.esto_opening.specs.Fragments.{IsReadableFragment, opens_fragments}
+use Rattle.esto_opening.specs.Fragments.{opens_fragments, IsReadableFragment}
 use Rattle.esto_opening.specs.Line.{line_of}
-use Rattle.esto_opening.specs.Readable.{AreReadable, OpenedAreReadable, ReadableAreOpened, TellsOfFile}
+use Rattle.esto_opening.specs.Readable.{OpenedAreReadable, ReadableAreOpened, TellsOfFile}
 use Rattle.esto_opening.specs.Readable.TellsOfFile.{fails, is_longer, has_fault}
 use Rattle.esto_opening.specs.Replies.{reply_status, reply_text}
 use Rattle.esto_opening.specs.declared.reply.Reply.{Reply}
@@ -305,15 +305,12 @@ module _ (laws : RunExactLaws) (files : Files) (catalogue : Catalogue) (queries 
             (laws.members catalogue catalogue queries queries can.members members (itself catalogue) (themselves queries) can.are are)
             can.others others can.chosen chosen
 
-        readable : AreReadable files catalogue numbers can.contents
-        readable fragment inside =
-            let (other, among, atom, within, is) = used_from others numbers used fragment inside in
-            subst (λ (it : ℕ). IsReadableFragment files catalogue it (can.contents it)) is
-            (can.readable other (subst (λ (it : List ConjunctiveQuery). Contains it other) (sym same_others) among) atom within)
-
         opens : Leads (opens_fragments (Some files) catalogue numbers)
             (λ opened. (fragment : ℕ) → Contains numbers fragment → opened fragment ≡ can.contents fragment) (λ _. ⊥)
-        opens = laws.readable files catalogue catalogue numbers can.contents (itself catalogue) readable
+        opens = laws.readable files catalogue catalogue numbers can.contents (itself catalogue) (λ fragment inside.
+            let (other, among, atom, within, is) = used_from others numbers used fragment inside in
+            subst (λ (it : ℕ). IsReadableFragment files catalogue it (can.contents it)) is
+            (can.readable other (subst (λ (it : List ConjunctiveQuery). Contains it other) (sym same_others) among) atom within))
 
         -- what was opened are the files that are readable
         prints : (contents : ℕ → List ℕ) → (opens_fragments (Some files) catalogue numbers).goes contents → (text : List ℕ)

@@ -7,6 +7,7 @@ use Rattle.std.proofs.lemmas.Option.{none-some, slice_get_within}
 use Rattle.esto_term.proofs.ListLemmas.{Contains-at, at_left, at_end, at_pushed, map_at, place-from_Contains}
 use Rattle.esto_term.proofs.PlaceLemmas.{take-there}
 use Rattle.esto_columns.specs.Indexed.{Index, IsIndexOf, LeadsOn, AreChains, bucket_of}
+use Rattle.esto_columns.proofs.IndexLemmas.{OwnsLast}
 use Rattle.esto_plan.specs.declared.steps.Get.{Get}
 use Rattle.esto_plan.specs.declared.steps.Source.{Source}
 use Rattle.esto_plan.specs.Meaning.{Follows}
@@ -55,7 +56,7 @@ abbrev pub FromNext : (ℕ → List ℕ → Type 0) → List ℕ → ℕ → ℕ
 FromNext Gives buckets bucket next both = (place : ℕ) × (next ≤ place) × (slice_get buckets place ≡ Some bucket) × Gives place both
 
 pub record Walked (Gives : ℕ → List ℕ → Type 0) (buckets : List ℕ) (bucket next : ℕ) (start new : List (List ℕ)) : Type 0 where
-  pub own : (place : ℕ) → place + 1 ≡ next → slice_get buckets place ≡ Some bucket
+  pub own : OwnsLast buckets bucket next
   pub gains : GainsOnly start new (FromNext Gives buckets bucket next)
 
 module _ (Gives : ℕ → List ℕ → Type 0) (buckets : List ℕ) (bucket : ℕ) (start : List (List ℕ)) where

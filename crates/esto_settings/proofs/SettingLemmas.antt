@@ -9,13 +9,10 @@ use Rattle.toml.specs.Data.{Data, Items, item, string, integer, float, boolean, 
 use Rattle.toml.specs.Data.{as_array, as_table}
 use Rattle.toml.specs.View.{view, items_view, members_view}
 use Rattle.toml.specs.declared.value.Value.{Value}
+use Rattle.esto_term.proofs.ListLemmas.{after}
 use Rattle.esto_settings.specs.Settings.{texts_of, array_setting, setting_of, entry_of, switch_of, entries_of, section_of}
 use Rattle.esto_settings.specs.declared.setting.Field.{Field}
 use Rattle.esto_settings.specs.declared.setting.Setting.TheVariants.{Text, Integer, Other}
-
--- what is done, and then what is left
-abbrev pub after : {A : Type 0} → List A → Option (List A) → Option (List A)
-after done left = option_map (λ rest. done ++ rest) left
 
 pub after_none : {A : Type 0} (left : Option (List A)) → left ≡ after [] left
 after_none None = refl

@@ -1,6 +1,6 @@
 -- Lists: what they contain, what stands at a place of them, and what a map, a test and a joining make of them.
 use Rattle.std.proofs.Common.{◌≡◌, ◌≢◌, ◌↔◌, ◌⊎◌, inl, inr, zero, suc, ℕ, ◌<◌, ◌≤◌, ◌+◌, ◌==◌, Bool, true, false, cond, List, [], ◌∷◌, ◌++◌, map, length, take}
-use Rattle.std.proofs.Common.{set, swap, get_or, Contains, AllPairs, slice_get, Some, refl, sym, ap, ◌∙◌, subst, arith}
+use Rattle.std.proofs.Common.{set, swap, get_or, Contains, AllPairs, slice_get, Some, refl, sym, ap, ◌∙◌, subst, arith, Option, option_map}
 use Rattle.std.specs.List.{filter, flat_map, range_with_len}
 use Rattle.std.specs.List.Sorted.{IsPermutation}
 use Rattle.std.proofs.lemmas.Bool.{cases_order}
@@ -99,6 +99,10 @@ one_length m other things others made is is_other =
     sym (length-map things m) ∙ sym (ap length is) ∙ ap length is_other ∙ length-map others other
 
 -- ---- joined lists, and what passes a test
+
+-- what is done, and then what is left, if it is there
+abbrev pub after : {X : Type 0} → List X → Option (List X) → Option (List X)
+after done left = option_map (λ rest. done ++ rest) left
 
 -- two lists that are put at the end
 pub two_more : {X : Type 0} (all middle more first second : List X) → middle ≡ all ++ first → more ≡ middle ++ second → more ≡ all ++ (first ++ second)

@@ -1,6 +1,6 @@
 use Rattle.std.proofs.Common.{◌≡◌, drop}
+use Rattle.esto_term.proofs.ListLemmas.{after}
 use Rattle.esto_cert.specs.Certificates.{facts_at}
-use Rattle.esto_cert.proofs.ReadLemmas.{after}
 use Rattle.esto_cert.proofs.naming.facts_at.Given as goal
 
 abbrev pub invariant-numbers : goal.invariant-numbers

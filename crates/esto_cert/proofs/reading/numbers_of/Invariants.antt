@@ -1,6 +1,6 @@
 use Rattle.std.proofs.Common.{◌≡◌, drop, map}
+use Rattle.esto_term.proofs.ListLemmas.{after}
 use Rattle.esto_cert.specs.Lines.{numbers_of}
-use Rattle.esto_cert.proofs.ReadLemmas.{after}
 use Rattle.esto_cert.proofs.reading.numbers_of.Given as goal
 
 abbrev pub invariant-parts : goal.invariant-parts
