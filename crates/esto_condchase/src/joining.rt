@@ -14,6 +14,7 @@ ghost use Rattle.esto_known.specs.declared.group.Group.{Group};
 ghost use Rattle.esto_condchase.specs.Rounds.{AsksMore, AreOld, AreOpen, IsEndMet, IsMetWithAll, IsSideMet, IsUnionMet, MeetAt, MeetBy, TellOne};
 
 use crate::covering::same;
+use crate::news::has_later;
 use esto_bits::{Products, RowBits};
 use esto_known::{Group, Groups, Known};
 use esto_term::{List, OutOfMemory, Places, Replicate, Term, Values};
@@ -68,19 +69,6 @@ fn open_places(
         }
     }
     Ok(open)
-}
-
-/// Whether one of the places is none of the first few.
-fn has_new(places: &[usize], since: usize) -> bool
-    ensures new { IsTrue result → ¬ (AreOld since places.now) }
-    ensures old { result ≡ false → AreOld since places.now }
-{
-    'places: for place in places {
-        if *place >= since {
-            return true;
-        }
-    }
-    false
 }
 
 /// The union of the products of two entries.
@@ -233,7 +221,7 @@ fn join_open(
 {
     let firsts = open_places(alloc, entries, first.places.items(), sets)?;
     let seconds = open_places(alloc, entries, second.places.items(), sets)?;
-    if !has_new(firsts.items(), since) && !has_new(seconds.items(), since) {
+    if !has_later(firsts.items(), since) && !has_later(seconds.items(), since) {
         return Ok(());
     }
     join_each(
@@ -346,7 +334,7 @@ fn join_at(
     let Some(second) = groups.items().get(place) else {
         return Ok(());
     };
-    if place < number && has_new(second.places.items(), since) {
+    if place < number && has_later(second.places.items(), since) {
         return Ok(());
     }
     let Claim::Same(left, right) = &second.claim else {
@@ -416,7 +404,7 @@ fn join_group(
         ⊎ IsMetWithAll entries.now groups.now since (entries.now ++ more.new) number
         first.now.claim) }
 {
-    if !has_new(first.places.items(), since) {
+    if !has_later(first.places.items(), since) {
         return Ok(());
     }
     let Claim::Same(left, right) = &first.claim else {

@@ -5,6 +5,7 @@ ghost use Rattle.esto_term.specs.declared.term.Term.{Term};
 ghost use Rattle.esto_world_laws.specs.Worlds.{AreOfCount};
 ghost use Rattle.esto_acyclic.specs.Relations.{HasRelation};
 ghost use Rattle.esto_condchase.specs.News.{IsApart, IsSettled, AreFoundAnew};
+ghost use Rattle.esto_condchase.specs.Rounds.{AreOld};
 ghost use Rattle.esto_condchase.specs.Ways.{AreCounted, IsOldWay};
 
 use crate::steps::both;
@@ -54,7 +55,8 @@ fn has_news(entries: &[Entry], since: usize, body: &[Atom]) -> bool
 
 /// Whether one of the places is none of the first few.
 pub fn has_later(places: &[usize], since: usize) -> bool
-    ensures { result ≡ false → (place : ℕ) → Contains places.now place → place < since }
+    ensures new { IsTrue result → ¬ (AreOld since places.now) }
+    ensures old { result ≡ false → AreOld since places.now }
 {
     'places: for place in places {
         if *place >= since {

@@ -4,14 +4,14 @@ use Rattle.esto_condchase.proofs.CoverLemmas.{read_at, AsksMore-then}
 use Rattle.esto_condchase.proofs.JoinLemmas.{side_met, side_none}
 use Rattle.esto_condchase.proofs.joining.join_at.Goals as goal
 
-pub returns-then-has_new-clause-met : goal.returns-then-has_new-clause-met
-returns-then-has_new-clause-met c other at =
+pub returns-then-has_later-clause-met : goal.returns-then-has_later-clause-met
+returns-then-has_later-clause-met c other at =
     let both : Some c.in-Some.second.now ≡ Some other = sym (subst (λ its. slice_get its c.args.place ≡ Some c.in-Some.second.now) c.items.ensures
     (read_at c.items.result.now c.args.place c.in-Some.second.now c.in-Some.ensures.lookup.0 c.in-Some.ensures.lookup.1)) ∙ at in
     let same : c.in-Some.second.now ≡ other = cc in
     subst (λ it. IsSideMet c.args.entries.now c.args.since (c.args.entries.now ++ c.args.more.now) c.args.number c.args.first.now.claim c.args.place it
     c.args.from.now c.args.via.now) same
-    (inl (c.if-place-number.true, λ old. c.has_new.ensures.new c.if-has_new.true (subst (AreOld c.args.since) (sym c.items-then-place-number.ensures) old)))
+    (inl (c.if-place-number.true, λ old. c.has_later.ensures.new c.if-has_later.true (subst (AreOld c.args.since) (sym c.items-then-place-number.ensures) old)))
 
 pub returns-in_default-claim-clause-met : goal.returns-in_default-claim-clause-met
 returns-in_default-claim-clause-met c other at =

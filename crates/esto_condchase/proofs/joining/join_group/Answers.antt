@@ -4,8 +4,8 @@ use Rattle.esto_condchase.proofs.CoverLemmas.{AsksMore-then}
 use Rattle.esto_condchase.proofs.JoinLemmas.{group_met}
 use Rattle.esto_condchase.proofs.joining.join_group.Goals as goal
 
-pub returns-then-not-has_new-clause-met : goal.returns-then-not-has_new-clause-met
-returns-then-not-has_new-clause-met c = inl (subst (AreOld c.args.since) c.items.ensures (c.has_new.ensures.old c.if-not-has_new.true))
+pub returns-then-not-has_later-clause-met : goal.returns-then-not-has_later-clause-met
+returns-then-not-has_later-clause-met c = inl (subst (AreOld c.args.since) c.items.ensures (c.has_later.ensures.old c.if-not-has_later.true))
 
 pub returns-clause-asks : goal.returns-clause-asks
 returns-clause-asks c rules = AsksMore-then rules c.args.count c.args.entries.now c.args.more.now _ _ (c.in_ok-join_side.ensures.asks rules)

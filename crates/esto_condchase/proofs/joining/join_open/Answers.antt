@@ -4,10 +4,10 @@ use Rattle.esto_condchase.specs.Rounds.{AreOld, AreOpen}
 use Rattle.esto_condchase.proofs.JoinLemmas.{groups_met, places_meet, touching_later}
 use Rattle.esto_condchase.proofs.joining.join_open.Goals as goal
 
-pub returns-then-not-has_new-2-clause-met : goal.returns-then-not-has_new-2-clause-met
-returns-then-not-has_new-2-clause-met c =
-    let old = subst (AreOld c.args.since) c.items-3.ensures (c.has_new.ensures.old c.if-not-has_new.true) in
-    let old_too = subst (AreOld c.args.since) c.items-then-not-has_new.ensures (c.has_new-then-not-has_new.ensures.old c.if-not-has_new-2.true) in
+pub returns-then-not-has_later-2-clause-met : goal.returns-then-not-has_later-2-clause-met
+returns-then-not-has_later-2-clause-met c =
+    let old = subst (AreOld c.args.since) c.items-3.ensures (c.has_later.ensures.old c.if-not-has_later.true) in
+    let old_too = subst (AreOld c.args.since) c.items-then-not-has_later.ensures (c.has_later-then-not-has_later.ensures.old c.if-not-has_later-2.true) in
     groups_met c.args.entries.now c.args.more.now c.args.since c.args.first.now c.args.second.now c.args.from.now c.args.to.now c.requires.first
     c.requires.second c.requires.meet c.requires.before c.args.sets.now.sets c.requires.tell c.in_ok-firsts.firsts c.in_ok-seconds.seconds
     (subst (λ it. AreOpen c.args.entries.now c.args.sets.now.sets it c.in_ok-firsts.firsts) c.items.ensures c.in_ok-firsts.ensures)

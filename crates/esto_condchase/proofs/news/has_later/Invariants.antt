@@ -1,6 +1,7 @@
-use Rattle.std.proofs.Common.{◌<◌, ℕ, take, Contains}
+use Rattle.std.proofs.Common.{take}
+use Rattle.esto_condchase.specs.Rounds.{AreOld}
 use Rattle.esto_condchase.proofs.news.has_later.Given as goal
 
 -- the places so far are among the first few
 abbrev pub invariant-places : goal.invariant-places
-invariant-places l = (place : ℕ) → Contains (take l.place-index l.places) place → place < l.since
+invariant-places l = AreOld l.since (take l.place-index l.places)

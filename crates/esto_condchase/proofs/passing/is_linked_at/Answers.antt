@@ -12,4 +12,4 @@ returns-then-equal c _ = passed_equal c.args.step.now.known.now (meets c.args.st
 pub returns : goal.returns
 returns c told = passed_unlinked c.args.step.now.known.now (meets c.args.step.now.from.now c.args.step.now.terms.now c.args.step.now.to.now c.args.step.now.owns.now) c.args.step.now.terms.now c.args.step.now.owns.now c.args.at c.args.floor [] (λ _. ⊥)
     _ c.index-step-at.result _ c.index-step-at-2.result c.met_first-goal.result.now c.links_of.result.now c.requires.at
-    (subst (λ n. c.args.at < n) c.requires.rows c.requires.at) refl refl c.met_first-goal.ensures c.links_of.ensures (c.has_later.ensures told)
+    (subst (λ n. c.args.at < n) c.requires.rows c.requires.at) refl refl c.met_first-goal.ensures c.links_of.ensures (c.has_later.ensures.old told)
