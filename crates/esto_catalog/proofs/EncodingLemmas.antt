@@ -6,7 +6,8 @@ use Rattle.std.proofs.Math.Seq.{take-length}
 use Rattle.std.proofs.lemmas.List.{append-nil, append_assoc, length-map, map-append, take-append-le, take_all}
 use Rattle.std.proofs.lemmas.List.Elements.{Contains-append_cases}
 use Rattle.esto_constraint.specs.Constraints.{rule_of, rules_of}
-use Rattle.esto_constraint.specs.EncodingRules.{atom, document_rules, document_rules_2, key_rules, root, below, written}
+use Rattle.esto_constraint.specs.EncodingRules.{written}
+use Rattle.esto_semantics.specs.DocumentRules.{atom, document_rules, document_rules_2, key_rules, root, below}
 use Rattle.esto_constraint.specs.declared.rule.Constraint.{Constraint}
 use Rattle.esto_query.specs.Schemas.{arities_of}
 use Rattle.esto_query.specs.declared.schema.Relation.{Relation}

@@ -1,7 +1,8 @@
 -- The rules of a catalogue: its own constraints, and then those that the encodings of its datasets bring.
 use Rattle.std.specs.Prelude.{◌≡◌, ℕ, List, [], ◌∷◌, ◌++◌, length, map, take}
 use Rattle.esto_constraint.specs.Constraints.{rules_of}
-use Rattle.esto_constraint.specs.EncodingRules.{document_rules, document_rules_2, key_rules, written, document_names, document_names_2, key_names}
+use Rattle.esto_constraint.specs.EncodingRules.{written, document_names, document_names_2, key_names}
+use Rattle.esto_semantics.specs.DocumentRules.{document_rules, document_rules_2, key_rules}
 use Rattle.esto_constraint.specs.declared.rule.Constraint.{Constraint}
 use Rattle.esto_query.specs.declared.query.Name.{Name}
 use Rattle.esto_read.specs.declared.words.DataModel.{DataModel}

@@ -9,12 +9,12 @@ use Rattle.std.proofs.lemmas.Option.{same_Some, slice_get_within}
 use Rattle.std.specs.FinMap.{get-empty}
 use Rattle.esto_term.specs.declared.term.Term.{Term}
 use Rattle.esto_term.proofs.ListLemmas.{map_at, place-from_Contains}
-use Rattle.esto_semantics.specs.Rules.{Rule, tuple, equality, denial}
+use Rattle.esto_semantics.specs.Rules.{Rule, tuple, equality, denial, IsMet, AreMet}
 use Rattle.esto_semantics.specs.declared.fact.Fact.{Fact}
 use Rattle.esto_query.specs.Matches.{IsFound}
 use Rattle.esto_query.specs.Valuations.{Assignment}
 use Rattle.esto_constraint.specs.Constraints.{rule_of, rules_of}
-use Rattle.esto_constraint.specs.Matches.{IsMet, AreMet, IsLeastActive, LeastActiveIsLeast}
+use Rattle.esto_constraint.specs.Matches.{IsLeastActive, LeastActiveIsLeast}
 use Rattle.esto_constraint.specs.Tests.{IsOver}
 use Rattle.esto_constraint.specs.declared.meeting.Broken.{Broken}
 use Rattle.esto_constraint.specs.declared.rule.Constraint.{Constraint}

@@ -1,7 +1,7 @@
 //! The match that is next.
 ghost use Rattle.std.specs.Prelude.{◌≡◌, ◌↔◌, length, IsTrue, IfOk, MatchOption};
 ghost use Rattle.esto_constraint.specs.Constraints.{rule_of, rules_of};
-ghost use Rattle.esto_constraint.specs.Matches.{AreMet};
+ghost use Rattle.esto_semantics.specs.Rules.{AreMet};
 ghost use Rattle.esto_chase_laws.specs.Runs.{kind_of};
 ghost use Rattle.esto_chase.specs.Next.{number_of, AreMetBelow, IsFirstOf, IsNextFound};
 

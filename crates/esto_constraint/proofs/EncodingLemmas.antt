@@ -14,7 +14,7 @@ use Rattle.esto_semantics.specs.Maps.{IsFlat, AreFlat}
 use Rattle.esto_semantics.specs.declared.fact.Fact.{Fact}
 use Rattle.esto_query.specs.Soundness.{AreNamed}
 use Rattle.esto_query.specs.declared.query.Name.{Name}
-use Rattle.esto_constraint.specs.EncodingRules.{atom}
+use Rattle.esto_semantics.specs.DocumentRules.{atom}
 use Rattle.esto_constraint.specs.Soundness.{IsSoundTuple, IsSoundEquality, IsSoundDenial}
 
 -- a number among others that are below a bound

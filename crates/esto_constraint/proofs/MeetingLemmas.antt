@@ -13,14 +13,14 @@ use Rattle.esto_term.specs.declared.term.Term.TheVariants.{Plain}
 use Rattle.esto_term.proofs.ListLemmas.{each_more, each_seen}
 use Rattle.esto_semantics.specs.Facts.{Mentions}
 use Rattle.esto_semantics.specs.Maps.{AreFlat}
-use Rattle.esto_semantics.specs.Rules.{Rule, body_of}
+use Rattle.esto_semantics.specs.Rules.{Rule, body_of, IsMet, AreMet}
 use Rattle.esto_semantics.specs.declared.fact.Fact.{Fact}
 use Rattle.esto_query.specs.Active.{Completes, NoneIsActive, IsLeastActiveFrom}
 use Rattle.esto_query.specs.Valuations.{Assignment, Extends}
 use Rattle.esto_query.specs.declared.matches.Found.{Found}
 use Rattle.esto_query.proofs.MatchLemmas.{found_variables}
 use Rattle.esto_constraint.specs.Constraints.{rule_of, rules_of}
-use Rattle.esto_constraint.specs.Matches.{IsMet, AreMet, IsLeastActive, IsFirstBroken}
+use Rattle.esto_constraint.specs.Matches.{IsLeastActive, IsFirstBroken}
 use Rattle.esto_constraint.specs.declared.rule.Constraint.{Constraint}
 
 -- ---- where nothing is known at the start

@@ -1,23 +1,15 @@
--- Active matches of rules, and what it is for facts over terms to meet rules.
-use Rattle.std.specs.Prelude.{◌≡◌, ℕ, List, Some, take, slice_get, Contains}
+-- Least active matches of rules, and the first rule that facts do not meet.
+use Rattle.std.specs.Prelude.{◌≡◌, ℕ, List, Some, take, slice_get}
 use Rattle.std.specs.FinMap.{empty}
 use Rattle.esto_term.specs.declared.term.Term.{Term}
 use Rattle.esto_term.specs.declared.term.Term.TheVariants.{Const}
 use Rattle.esto_semantics.specs.Maps.{Keeps}
 use Rattle.esto_semantics.specs.Matches.{IsMatch, IsAtMost, IsActive}
-use Rattle.esto_semantics.specs.Rules.{Rule, body_of, MeetsInto}
+use Rattle.esto_semantics.specs.Rules.{Rule, body_of, AreMet}
 use Rattle.esto_semantics.specs.declared.fact.Fact.{Fact}
 pub use Rattle.esto_query.specs.Active.{Holds}
 use Rattle.esto_query.specs.Valuations.{Assignment, Extends, map_of}
 use Rattle.esto_query.specs.Matches.{IsFound}
-
--- The facts, read over terms, meet the rule.
-abbrev pub IsMet : List (Fact Term) → Rule → Type 0
-IsMet facts rule = MeetsInto Const ◌≡◌ (Contains facts) rule
-
--- The facts, read over terms, meet each of the rules.
-abbrev pub AreMet : List (Fact Term) → List Rule → Type 0
-AreMet facts rules = (rule : Rule) → Contains rules rule → IsMet facts rule
 
 -- The valuation and the places are those of a match of the rule's body under which the rule does not hold, and no such match comes before it.
 pub record IsLeastActive (rule : Rule) (facts : List (Fact Term)) (valuation : Assignment) (places : List ℕ) : Type 0 where

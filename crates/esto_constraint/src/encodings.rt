@@ -6,7 +6,8 @@ ghost use Rattle.esto_term.specs.declared.term.Term.TheVariants.{Plain};
 ghost use Rattle.esto_query.specs.declared.query.Name.TheVariants.{Given};
 ghost use Rattle.esto_semantics.specs.Rules.{tuple, equality, denial};
 ghost use Rattle.esto_constraint.specs.Constraints.{rules_of};
-ghost use Rattle.esto_constraint.specs.EncodingRules.{atom, document_rules, document_rules_2, key_rules, written, document_names, document_names_2, key_names};
+ghost use Rattle.esto_constraint.specs.EncodingRules.{written, document_names, document_names_2, key_names};
+ghost use Rattle.esto_semantics.specs.DocumentRules.{atom, document_rules, document_rules_2, key_rules};
 
 use crate::rule::{Constraint, Denial, Egd, Rules, Tgd};
 use esto_query::{Name, Names};

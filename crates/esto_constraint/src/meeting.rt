@@ -4,9 +4,9 @@ ghost use Rattle.std.specs.FinMap as map;
 ghost use Rattle.esto_query.specs.Active.{IsAimed, rule_of as rule_of_lent};
 ghost use Rattle.esto_query.specs.Valuations.{map_of};
 ghost use Rattle.esto_semantics.specs.Maps.{AreFlat};
-ghost use Rattle.esto_semantics.specs.Rules.{body_of};
+ghost use Rattle.esto_semantics.specs.Rules.{body_of, IsMet, AreMet};
 ghost use Rattle.esto_constraint.specs.Constraints.{rule_of, rules_of};
-ghost use Rattle.esto_constraint.specs.Matches.{IsMet, AreMet, IsLeastActive, IsFirstBroken, LeastActiveIsLeast};
+ghost use Rattle.esto_constraint.specs.Matches.{IsLeastActive, IsFirstBroken, LeastActiveIsLeast};
 
 use crate::rule::{Constraint, Rules};
 use esto_query::{Columns, Conclusion, Found, IndexedFacts, LentRule, Valuation};

@@ -2,8 +2,8 @@
 use Rattle.std.proofs.Common.{◌≡◌, ℕ, List, [], sym, subst}
 use Rattle.esto_term.specs.declared.term.Term.{Term}
 use Rattle.esto_semantics.specs.declared.fact.Fact.{Fact}
-use Rattle.esto_constraint.specs.EncodingRules.{document_rules_2}
-use Rattle.esto_constraint.specs.Matches.{AreMet}
+use Rattle.esto_semantics.specs.DocumentRules.{document_rules_2}
+use Rattle.esto_semantics.specs.Rules.{AreMet}
 use Rattle.esto_docmodel.proofs.FlatLemmas.{meets_flat, from_flat_in}
 use Rattle.esto_docmodel.proofs.RisingLemmas.{named_once}
 use Rattle.esto_docmodel.proofs.RuleLemmas.{rules_hold, no_root_below}

@@ -6,12 +6,11 @@ use Rattle.esto_term.specs.declared.term.Term.TheVariants.{Plain}
 use Rattle.esto_docmodel.proofs.KindRules.{MeetsDocumentRules}
 use Rattle.esto_docmodel.proofs.Worlds.{Sends}
 use Rattle.esto_docmodel.specs.DocumentFacts.{DocFact, root, field, item, value, below, carried, kind, row_of, flat}
-use Rattle.esto_constraint.specs.EncodingRules.{document_rules_2}
-use Rattle.esto_constraint.specs.Matches.{IsMet, AreMet}
+use Rattle.esto_semantics.specs.DocumentRules.{document_rules_2}
 use Rattle.esto_semantics.specs.declared.fact.Fact.{Fact}
 use Rattle.esto_semantics.specs.Facts.{image}
 use Rattle.esto_semantics.specs.Maps.{SendsInto}
-use Rattle.esto_semantics.specs.Rules.{Rule}
+use Rattle.esto_semantics.specs.Rules.{Rule, IsMet, AreMet}
 
 natural : (base : ℕ) (m : Term → Term) (f : DocFact Term) → flat base (carried m f) ≡ image m (flat base f)
 natural base m (root n) = refl

@@ -1,7 +1,7 @@
 //! The encoding of documents.
 ghost use Rattle.std.specs.Prelude.{◌≡◌, ◌≤◌, ◌+◌, suc, [], ◌∷◌, ◌++◌, map, IfOk, OnOk};
-ghost use Rattle.esto_constraint.specs.EncodingRules.{document_rules_2};
-ghost use Rattle.esto_constraint.specs.Matches.{AreMet};
+ghost use Rattle.esto_semantics.specs.DocumentRules.{document_rules_2};
+ghost use Rattle.esto_semantics.specs.Rules.{AreMet};
 ghost use Rattle.esto_docmodel.specs.Encodings.{every, facts_from, facts_of, kept, kept_of, size};
 ghost use Rattle.esto_docmodel.specs.Meanings.{HaveRootsOnTop};
 ghost use Rattle.esto_docmodel.specs.Putting.{Encodes, turned, node_facts};

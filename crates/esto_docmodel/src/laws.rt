@@ -1,8 +1,8 @@
 //! Laws of documents and patterns.
 ghost use Rattle.std.specs.Prelude.{ℕ, List};
 ghost use Rattle.esto_term.specs.declared.term.Term.{Term};
-ghost use Rattle.esto_constraint.specs.EncodingRules.{document_rules_2};
-ghost use Rattle.esto_constraint.specs.Matches.{AreMet};
+ghost use Rattle.esto_semantics.specs.DocumentRules.{document_rules_2};
+ghost use Rattle.esto_semantics.specs.Rules.{AreMet};
 ghost use Rattle.esto_semantics.specs.Maps.{IsConstant};
 ghost use Rattle.esto_docmodel.specs.Encodings.{facts_of};
 ghost use Rattle.esto_docmodel.specs.Forests.{Node};

@@ -9,7 +9,6 @@ use Rattle.std.proofs.lemmas.Bool.{cases_order}
 use Rattle.std.proofs.lemmas.Cmp.{nat_list_cmp_total}
 use Rattle.std.proofs.lemmas.Option.{same_Some}
 use Rattle.std.proofs.lemmas.Map.Lookups.{exact_bytes}
-use Rattle.esto_constraint.specs.Matches.{AreMet}
 use Rattle.esto_plan.specs.Rows.{IsRowOf, held_by}
 use Rattle.esto_query.proofs.MatchLemmas.{images_same}
 use Rattle.esto_query.specs.declared.query.Name.{Name}
@@ -18,7 +17,7 @@ use Rattle.esto_semantics.specs.Facts.{terms_of}
 use Rattle.esto_semantics.specs.Maps.{AreFlat}
 use Rattle.esto_semantics.specs.Matches.{IsActive, IsAtMost, IsMatch}
 use Rattle.esto_semantics.specs.Queries.{ConjunctiveQuery}
-use Rattle.esto_semantics.specs.Rules.{Rule, AreRules, body_of, Meets}
+use Rattle.esto_semantics.specs.Rules.{Rule, AreRules, body_of, Meets, AreMet}
 use Rattle.esto_semantics.specs.Standing.{RulesStand}
 use Rattle.esto_semantics.specs.declared.fact.Fact.{Fact}
 use Rattle.esto_semantics.specs.declared.fact.Value.TheVariants.{Text}

@@ -7,7 +7,7 @@ use Rattle.std.proofs.lemmas.List.{get_or_past, length-map}
 use Rattle.std.proofs.lemmas.Option.{get_or_from_slice_get, same_Some, slice_get_cases, slice_get_within}
 use Rattle.esto_constraint.specs.Constraints.{rule_of, rules_of}
 use Rattle.esto_constraint.specs.EncodingRules.{written}
-use Rattle.esto_constraint.specs.Matches.{AreMet, IsFirstBroken as IsFirstUnmet, LeastActiveIsLeast}
+use Rattle.esto_constraint.specs.Matches.{IsFirstBroken as IsFirstUnmet, LeastActiveIsLeast}
 use Rattle.esto_constraint.specs.declared.rule.Constraint.{Constraint}
 use Rattle.esto_plan.specs.Rows.{IsRowOf, held_by}
 use Rattle.esto_query.specs.Making.{query_of}
@@ -16,7 +16,7 @@ use Rattle.esto_query.specs.Valuations.{Assignment, map_of}
 use Rattle.esto_query.specs.declared.query.Name.{Name}
 use Rattle.esto_semantics.specs.Facts.{Database}
 use Rattle.esto_semantics.specs.Queries.{ConjunctiveQuery, IsAnswer}
-use Rattle.esto_semantics.specs.Rules.{Rule, IsRule, AreRules, body_of, Meets}
+use Rattle.esto_semantics.specs.Rules.{Rule, IsRule, AreRules, body_of, Meets, AreMet}
 use Rattle.esto_semantics.specs.Standing.{Stands, RulesStand}
 use Rattle.esto_semantics.specs.Views.{IsViewRow}
 use Rattle.esto_semantics.specs.declared.fact.Fact.{Fact}

@@ -3,11 +3,10 @@ use Rattle.std.proofs.Common.{◌≡◌, inl, inr, ℕ, ◌+◌, ◌<◌, ◌≤
 use Rattle.std.proofs.Math.Logic.{∥∥₁_elim}
 use Rattle.std.proofs.lemmas.List.{take_all}
 use Rattle.std.proofs.lemmas.List.Elements.{Contains-append_cases, Contains-append_left, Contains-append_right}
-use Rattle.esto_constraint.specs.EncodingRules.{atom, document_rules_2}
-use Rattle.esto_constraint.specs.Matches.{AreMet, IsMet}
+use Rattle.esto_semantics.specs.DocumentRules.{atom, document_rules_2}
 use Rattle.esto_read.specs.declared.words.DataModel.{DataModel}
 use Rattle.esto_semantics.specs.Facts.{Mentions, image}
-use Rattle.esto_semantics.specs.Rules.{Rule, tuple, equality, denial}
+use Rattle.esto_semantics.specs.Rules.{Rule, tuple, equality, denial, AreMet, IsMet}
 use Rattle.esto_semantics.specs.declared.fact.Fact.{Fact}
 use Rattle.esto_semantics.proofs.FactLemmas.{image_agree, decided_fact}
 use Rattle.esto_semantics.proofs.TermLemmas.{decided_term}

@@ -1,10 +1,9 @@
 -- Facts of documents that meet their rules by law, and which rules are tried.
 use Rattle.std.specs.Prelude.{ℕ, ◌+◌, ◌<◌, ◌≤◌, List, Contains}
-use Rattle.esto_constraint.specs.EncodingRules.{document_rules_2}
-use Rattle.esto_constraint.specs.Matches.{AreMet}
+use Rattle.esto_semantics.specs.DocumentRules.{document_rules_2}
 use Rattle.esto_read.specs.declared.words.DataModel.{DataModel}
 use Rattle.esto_read.specs.declared.words.DataModel.TheVariants.{Table, Documents, Keys}
-use Rattle.esto_semantics.specs.Rules.{Rule}
+use Rattle.esto_semantics.specs.Rules.{Rule, AreMet}
 use Rattle.esto_semantics.specs.declared.fact.Fact.{Fact}
 use Rattle.esto_term.specs.declared.term.Term.{Term}
 use Rattle.esto_fill.specs.declared.wanted.Wanted.{Wanted}

@@ -1,7 +1,8 @@
 //! The rules that are tried: those that don't hold by law.
 ghost use Rattle.std.specs.Prelude.{◌≡◌, IsTrue, Contains, MatchOption, IfOk};
 ghost use Rattle.esto_constraint.specs.Constraints.{rule_of, rules_of};
-ghost use Rattle.esto_constraint.specs.Matches.{AreMet, IsFirstBroken, IsLeastActive, IsMet};
+ghost use Rattle.esto_constraint.specs.Matches.{IsFirstBroken, IsLeastActive};
+ghost use Rattle.esto_semantics.specs.Rules.{AreMet, IsMet};
 
 use esto_constraint::{Broken, Constraint, Egd, Rules, Tgd, active_in};
 use esto_query::{Columns, Found, IndexedFacts};

@@ -7,7 +7,8 @@ use Rattle.std.proofs.lemmas.Bool.{ltb-true, and_parts}
 use Rattle.std.proofs.lemmas.Option.{get_or_from_slice_get}
 use Rattle.esto_constraint.proofs.EncodingLemmas.{sound_equality, sound_tuple, sound_denial}
 use Rattle.esto_constraint.specs.Constraints.{rules_of}
-use Rattle.esto_constraint.specs.EncodingRules.{atom, letters, written}
+use Rattle.esto_constraint.specs.EncodingRules.{letters, written}
+use Rattle.esto_semantics.specs.DocumentRules.{atom}
 use Rattle.esto_constraint.specs.declared.rule.Constraint.{Constraint}
 use Rattle.esto_constraint.specs.declared.rule.Constraint.TheVariants.{Tuple, Equal, Never}
 use Rattle.esto_query.specs.Schemas.{arities_of}

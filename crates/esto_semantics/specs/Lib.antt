@@ -28,3 +28,4 @@ pub mod AccessSteps
 pub mod AccessLaws
 pub mod ListedLaws
 pub mod PlanLaws
+pub mod DocumentRules

@@ -5,6 +5,7 @@ use Rattle.esto_semantics.specs.Facts.{Database}
 use Rattle.esto_semantics.specs.Maps.{AreFlat, IsFixedBy, Keeps, SendsInto, AgreeOn}
 use Rattle.esto_semantics.specs.declared.fact.Fact.{Fact}
 use Rattle.esto_semantics.specs.declared.fact.Value.TheVariants.{Text}
+use Rattle.esto_term.specs.declared.term.Term.TheVariants.{Const}
 
 -- A tuple rule has a body and a head of atoms; an equality rule has a body and two sides; a denial has a body alone.
 pub data Rule : Type 0 where
@@ -68,3 +69,11 @@ MeetsRule rule database = MeetsInto Text ◌≡◌ (Contains database) rule
 -- The database meets each of the rules.
 abbrev pub Meets : List Rule → Database → Type 0
 Meets rules database = (rule : Rule) → Contains rules rule → MeetsRule rule database
+
+-- The facts, read over terms, meet the rule.
+abbrev pub IsMet : List (Fact Term) → Rule → Type 0
+IsMet facts rule = MeetsInto Const ◌≡◌ (Contains facts) rule
+
+-- The facts, read over terms, meet each of the rules.
+abbrev pub AreMet : List (Fact Term) → List Rule → Type 0
+AreMet facts rules = (rule : Rule) → Contains rules rule → IsMet facts rule

@@ -5,7 +5,7 @@ use Rattle.std.proofs.Common.{refl, subst, arith}
 use Rattle.std.specs.Prelude.{slice_index}
 use Rattle.esto_term.specs.declared.term.Term.{Term}
 use Rattle.esto_semantics.specs.declared.fact.Fact.{Fact}
-use Rattle.esto_constraint.specs.Matches.{AreMet}
+use Rattle.esto_semantics.specs.Rules.{AreMet}
 use Rattle.esto_chase_laws.specs.Runs.{HasClashed}
 use Rattle.esto_chase.specs.Next.{IsNextFound}
 use Rattle.esto_chase.specs.Steps.{IsTaken}

@@ -3,7 +3,8 @@ use Rattle.esto_chase.specs.Next.{number_of}
 use Rattle.std.proofs.Common.{sym, ◌∙◌}
 use Rattle.std.proofs.lemmas.Bool.{false≢true}
 use Rattle.std.proofs.lemmas.Option.{MatchOption-at_none}
-use Rattle.esto_constraint.specs.Matches.{IsMet, IsLeastActive}
+use Rattle.esto_constraint.specs.Matches.{IsLeastActive}
+use Rattle.esto_semantics.specs.Rules.{IsMet}
 use Rattle.esto_chase.proofs.NextLemmas.{one_more_below}
 use Rattle.esto_chase.proofs.next.first_of.Goals.{then-is_of+in_ok-outcome+in_default, else-is_of}
 use Rattle.esto_chase.proofs.next.first_of.Goals as goal

@@ -1,6 +1,6 @@
 use Rattle.std.proofs.Common.{MatchOption, List}
 use Rattle.esto_constraint.specs.Constraints.{rules_of}
-use Rattle.esto_constraint.specs.Matches.{AreMet}
+use Rattle.esto_semantics.specs.Rules.{AreMet}
 use Rattle.esto_chase.specs.Next.{IsNextFound}
 use Rattle.std.proofs.Common.{subst}
 use Rattle.esto_term.specs.declared.term.Term.{Term}

@@ -3,7 +3,8 @@ use Rattle.std.specs.Result.{OnOk}
 use Rattle.esto_semantics.specs.Rules.{denial}
 use Rattle.esto_constraint.proofs.EncodingLemmas.{after}
 use Rattle.esto_constraint.specs.Constraints.{rules_of}
-use Rattle.esto_constraint.specs.EncodingRules.{atom, below, document_rules, document_names, written}
+use Rattle.esto_constraint.specs.EncodingRules.{document_names, written}
+use Rattle.esto_semantics.specs.DocumentRules.{atom, below, document_rules}
 use Rattle.esto_constraint.proofs.encodings.add_rules_of_documents_2.Goals as goal
 
 pub returns-clause-rules : goal.returns-clause-rules

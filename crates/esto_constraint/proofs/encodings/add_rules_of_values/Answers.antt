@@ -1,7 +1,8 @@
 use Rattle.std.proofs.Common.{map, take}
 use Rattle.esto_constraint.proofs.EncodingLemmas.{grown, after}
 use Rattle.esto_constraint.specs.Constraints.{rules_of}
-use Rattle.esto_constraint.specs.EncodingRules.{document_rules, document_names, written}
+use Rattle.esto_constraint.specs.EncodingRules.{document_names, written}
+use Rattle.esto_semantics.specs.DocumentRules.{document_rules}
 use Rattle.esto_constraint.proofs.encodings.add_rules_of_values.Goals as goal
 
 pub returns-clause-rules : goal.returns-clause-rules

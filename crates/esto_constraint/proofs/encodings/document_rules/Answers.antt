@@ -1,7 +1,8 @@
 use Rattle.std.proofs.Common.{ap, map}
 use Rattle.esto_constraint.proofs.EncodingLemmas.{begun}
 use Rattle.esto_constraint.specs.Constraints.{rule_of}
-use Rattle.esto_constraint.specs.EncodingRules.{document_rules, document_names, written}
+use Rattle.esto_constraint.specs.EncodingRules.{document_names, written}
+use Rattle.esto_semantics.specs.DocumentRules.{document_rules}
 use Rattle.esto_constraint.proofs.encodings.document_rules.Goals as goal
 
 pub returns-clause-rules : goal.returns-clause-rules

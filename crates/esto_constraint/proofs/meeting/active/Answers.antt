@@ -4,7 +4,8 @@ use Rattle.std.specs.Result.{IfOk}
 use Rattle.esto_term.specs.declared.term.Term.{Term}
 use Rattle.esto_semantics.specs.declared.fact.Fact.{Fact}
 use Rattle.esto_constraint.specs.Constraints.{rule_of}
-use Rattle.esto_constraint.specs.Matches.{IsMet, IsLeastActive}
+use Rattle.esto_constraint.specs.Matches.{IsLeastActive}
+use Rattle.esto_semantics.specs.Rules.{IsMet}
 use Rattle.esto_constraint.proofs.meeting.active.Goals as goal
 
 pub returns : goal.returns

@@ -4,7 +4,8 @@ use Rattle.std.specs.Result.{IfOk}
 use Rattle.esto_term.specs.declared.term.Term.{Term}
 use Rattle.esto_semantics.specs.declared.fact.Fact.{Fact}
 use Rattle.esto_constraint.specs.Constraints.{rules_of}
-use Rattle.esto_constraint.specs.Matches.{AreMet, IsFirstBroken}
+use Rattle.esto_constraint.specs.Matches.{IsFirstBroken}
+use Rattle.esto_semantics.specs.Rules.{AreMet}
 use Rattle.esto_constraint.proofs.meeting.meets.Goals as goal
 
 pub returns : goal.returns
