@@ -7,11 +7,11 @@ use Rattle.std.proofs.lemmas.List.Sums.{sum_by-set}
 use Rattle.std.proofs.lemmas.List.Elements.{Contains-get_or}
 use Rattle.esto_semantics.specs.Matches.{IsAtMost}
 use Rattle.esto_query.proofs.PlaceLemmas.{IsAtMost-nil}
-use Rattle.esto_acyclic.specs.Graphs.{Joins, IsWithin, IsWalk, IsCycleAt, HasNoCycle, IsLeastCycleAt}
+use Rattle.esto_constraint.specs.Graphs.{Joins, IsWithin, IsWalk, IsCycleAt, HasNoCycle, IsLeastCycleAt}
 use Rattle.esto_acyclic.specs.Rounds.{IsLong, Leads, AreNear, AreDistances, Lowers, FallsAt}
-use Rattle.esto_acyclic.proofs.WalkLemmas.{same_or_apart, short_walk, long_walk_loops, Loops}
+use Rattle.esto_constraint.proofs.WalkLemmas.{same_or_apart, short_walk, long_walk_loops, Loops}
 use Rattle.esto_acyclic.proofs.RankLemmas.{set_at_each, so_far}
-use Rattle.esto_acyclic.proofs.CycleLemmas.{IsAtMost-less, IsAtMost-same}
+use Rattle.esto_constraint.proofs.CycleLemmas.{IsAtMost-less, IsAtMost-same}
 
 -- ---- one edge
 

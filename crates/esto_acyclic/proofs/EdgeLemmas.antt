@@ -5,9 +5,10 @@ use Rattle.std.proofs.lemmas.List.Elements.{All-from_recursion}
 use Rattle.esto_term.specs.declared.term.Term.{Term}
 use Rattle.esto_semantics.specs.Rules.{Rule, tuple, equality, denial}
 use Rattle.esto_semantics.specs.declared.fact.Fact.{Fact}
-use Rattle.esto_acyclic.specs.Graphs.{Joins, IsWithin, IsWalk, IsLeastCycle, IsAcyclic, AreRanks}
+use Rattle.esto_constraint.specs.Graphs.{Joins, IsWithin, IsWalk, IsLeastCycle, IsAcyclic, AreRanks}
 use Rattle.esto_acyclic.proofs.SameLemmas.{IsWithin-same, IsLeastCycle-same, AreRanks-same}
-use Rattle.esto_acyclic.specs.Relations.{HasRelation, IsEdge, edges_from, edges_of_rule, edges_of}
+use Rattle.esto_acyclic.specs.Relations.{edges_from, edges_of_rule, edges_of}
+use Rattle.esto_constraint.specs.Relations.{HasRelation, IsEdge}
 use Rattle.esto_term.proofs.ListLemmas.{Contains-cases, Contains-flat, Contains-flat_from, Contains-head, Contains-nil}
 
 -- ---- membership

@@ -5,10 +5,10 @@ use Rattle.std.specs.List.{sum}
 use Rattle.std.proofs.lemmas.List.{length-set, get_or-set_same, get_or-set_other, length-replicate, get_or-replicate, get_or_default}
 use Rattle.std.proofs.lemmas.List.Sums.{sum_by-set, sum_by-le}
 use Rattle.std.proofs.lemmas.List.Elements.{All-from_get_or, Contains-get_or}
-use Rattle.esto_acyclic.specs.Graphs.{Joins, IsWithin, Arrives, AreRanks}
+use Rattle.esto_constraint.specs.Graphs.{Joins, IsWithin, Arrives, AreRanks}
 use Rattle.esto_acyclic.specs.Rounds.{IsLong, AreReached, Lifts, RisesAt}
 use Rattle.esto_acyclic.specs.declared.graph.Round.TheVariants.{Still, Rose, Full}
-use Rattle.esto_acyclic.proofs.WalkLemmas.{same_or_apart, walk_rises, Arrives-next}
+use Rattle.esto_constraint.proofs.WalkLemmas.{same_or_apart, walk_rises, Arrives-next}
 
 -- ---- numbers in a list, of which one is set
 

@@ -1,6 +1,6 @@
 -- Two graphs with the same edges have the same walks, ranks and cycles.
 use Rattle.std.proofs.Common.{◌↔◌, ℕ, List, [], ◌∷◌}
-use Rattle.esto_acyclic.specs.Graphs.{IsWithin, IsWalk, HasNoCycle, IsLeastCycleAt, IsLeastCycle, IsRank, AreRanks}
+use Rattle.esto_constraint.specs.Graphs.{IsWithin, IsWalk, HasNoCycle, IsLeastCycleAt, IsLeastCycle, IsRank, AreRanks}
 
 module _ (Edge Other : ℕ → ℕ → Type 0) where
   -- each edge of the first graph is one of the second

@@ -1,3 +1,2 @@
-pub mod Graphs
 pub mod Rounds
 pub mod Relations

@@ -1,20 +1,11 @@
--- The graph of relations of rules.
-use Rattle.std.specs.Prelude.{◌≡◌, ℕ, List, [], ◌∷◌, Some, map, slice_get, Contains}
+-- The edges of the graph of relations of rules, as a list, and the relations' names.
+use Rattle.std.specs.Prelude.{◌≡◌, ℕ, List, [], ◌∷◌, Some, map, slice_get}
 use Rattle.std.specs.List.{flat_map}
 use Rattle.esto_term.specs.declared.term.Term.{Term}
 use Rattle.esto_semantics.specs.Rules.{Rule, tuple, equality, denial}
 use Rattle.esto_semantics.specs.declared.fact.Fact.{Fact}
 use Rattle.esto_query.specs.Schemas.{names_of}
 use Rattle.esto_query.specs.declared.schema.Relation.{Relation}
-
--- Some atom is over the relation.
-abbrev pub HasRelation : List (Fact Term) → ℕ → Type 0
-HasRelation atoms relation = (atom : Fact Term) × Contains atoms atom × (atom.relation ≡ relation)
-
--- Some tuple rule has an atom over the first relation in its body, and one over the second in its head.
-abbrev pub IsEdge : List Rule → ℕ → ℕ → Type 0
-IsEdge rules from to =
-    (body : List (Fact Term)) × (head : List (Fact Term)) × Contains rules (tuple body head) × HasRelation body from × HasRelation head to
 
 -- They are the schema's names of the relations, in order.
 abbrev pub AreNamesOf : List Relation → List ℕ → List (List ℕ) → Type 0

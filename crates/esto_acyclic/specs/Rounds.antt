@@ -1,7 +1,7 @@
 -- Rounds over the edges of a graph: numbers that rise along edges up to the ranks, and distances that fall.
 use Rattle.std.specs.Prelude.{◌≡◌, ℕ, ◌<◌, ◌≤◌, ◌+◌, Bool, true, false, List, length, slice_index, slice_index_or, slice_set}
 use Rattle.std.specs.List.{sum}
-use Rattle.esto_acyclic.specs.Graphs.{Joins, IsWalk, Arrives}
+use Rattle.esto_constraint.specs.Graphs.{Joins, IsWalk, Arrives}
 use Rattle.esto_acyclic.specs.declared.graph.Round.{Round}
 use Rattle.esto_acyclic.specs.declared.graph.Round.TheVariants.{Still, Rose, Full}
 

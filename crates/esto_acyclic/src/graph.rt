@@ -1,7 +1,7 @@
 //! Graphs over numbered relations: their ranks, or their least cycle.
 ghost use Rattle.std.specs.Prelude.{◌≡◌, ◌<◌, ◌≤◌, ◌⊎◌, ℕ, length, slice_index, replicate, IfOk, MatchOption};
 ghost use Rattle.either.specs.Either.{MatchEither};
-ghost use Rattle.esto_acyclic.specs.Graphs.{Joins, IsWithin, HasNoCycle, IsLeastCycle, IsLeastCycleAt, AreRanks};
+ghost use Rattle.esto_constraint.specs.Graphs.{Joins, IsWithin, HasNoCycle, IsLeastCycle, IsLeastCycleAt, AreRanks};
 ghost use Rattle.esto_acyclic.specs.Rounds.{AreReached, IsLong, Lifts, Raises, AreNear, AreDistances, Lowers, Sinks};
 
 use either::{Either, Left, Right};

@@ -1,60 +1,19 @@
 //! The graph of relations of some rules, and its judgement.
-ghost use Rattle.std.specs.Prelude.{◌≡◌, ◌<◌, ◌++◌, ℕ, List, length, slice_index, All, IfOk, OnOk, ⊤};
+ghost use Rattle.std.specs.Prelude.{◌≡◌, ◌<◌, ◌++◌, ℕ, List, length, All, IfOk, OnOk, ⊤};
 ghost use Rattle.either.specs.Either.{MatchEither};
 ghost use Rattle.esto_semantics.specs.Rules.{Rule};
 ghost use Rattle.esto_constraint.specs.Constraints.{rule_of, rules_of};
-ghost use Rattle.esto_acyclic.specs.Graphs.{IsWithin, IsAcyclic, IsLeastCycle, AreRanks};
-ghost use Rattle.esto_acyclic.specs.Relations.{IsEdge, AreNamesOf, edges_from, edges_between, edges_of_rule, edges_of};
+ghost use Rattle.esto_constraint.specs.Graphs.{IsWithin, IsAcyclic, IsLeastCycle, AreRanks};
+ghost use Rattle.esto_acyclic.specs.Relations.{AreNamesOf, edges_from, edges_between, edges_of_rule, edges_of};
+ghost use Rattle.esto_constraint.specs.Relations.{IsEdge};
 
+use esto_constraint::{Constraint, Cycle, Ranks, Rules};
 use crate::graph::{Edge, judge_edges};
 use either::{Either, Left, Right};
-use esto_constraint::{Constraint, Rules};
 use esto_query::Schema;
 use esto_semantics::Atom;
-use esto_term::{List, OutOfMemory, Places, Replicate, TextRow, Values};
+use esto_term::{List, OutOfMemory, Replicate, TextRow, Values};
 use std::alloc::Global;
-use std::marker::Model;
-
-/// The ranks of the relations of a schema, where the rules' graph of relations is acyclic. Contracts see their
-/// list, in the order of the relations.
-#[derive(Drop)]
-pub struct Ranks {
-    ranks: Vec<usize>,
-}
-
-impl Model for Ranks {
-    ghost use Rattle.std.specs.Prelude.{List, ℕ};
-
-    ghost Value = { List ℕ };
-
-    ghost view = { λ it. it.ranks.items };
-}
-
-impl Ranks {
-    /// How many relations the schema has for which the ranks were judged.
-    pub fn len(&self) -> usize
-        ensures { result ≡ length self.now }
-    {
-        self.ranks.len()
-    }
-
-    /// The rank of a relation of the schema for which the ranks were judged: the greatest number of edges on a
-    /// walk that ends there.
-    pub fn rank(&self, relation: usize) -> u64
-        requires { relation < length self.now }
-        ensures { result ≡ slice_index self.now relation }
-    {
-        self.ranks[relation] as u64
-    }
-}
-
-/// A cycle of the graph of relations: for each of its edges, in order, the relation at which it starts, and that
-/// relation's name.
-#[derive(Drop)]
-pub struct Cycle {
-    pub relations: Places,
-    pub names: TextRow,
-}
 
 /// Puts the edges from a relation to the relations of a head's atoms at the end.
 fn add_edges_from(
@@ -140,23 +99,13 @@ pub fn judge(
     let edges = edges_of(alloc, rules.items())?;
     let judged = judge_edges(alloc, schema.len(), edges.items())?;
     match judged {
-        Left(ranks) => Ok(Left(Ranks { ranks })),
+        Left(ranks) => Ok(Left(Ranks::of(ranks))),
         Right(relations) => {
             let names = names_of(alloc, schema, relations.items())?;
             Ok(Right(Cycle { relations, names }))
         }
     }
 }
-
-/// A law: ranks rise along every edge, and each is below the number of relations.
-pub fn ranks_rise()
-    ensures rise { (rules : List Rule) (count : ℕ) (ranks : List ℕ) → IsWithin count (IsEdge rules)
-        → AreRanks (IsEdge rules) count ranks → (from to : ℕ) → IsEdge rules from to
-        → slice_index ranks from < slice_index ranks to }
-    ensures small { (rules : List Rule) (count : ℕ) (ranks : List ℕ) → IsWithin count (IsEdge rules)
-        → AreRanks (IsEdge rules) count ranks → (relation : ℕ) → relation < count
-        → slice_index ranks relation < count }
-{}
 
 /// A law: where there are ranks no cycle is there; there is one list of ranks, and one least cycle.
 pub fn judgements_are_exact()

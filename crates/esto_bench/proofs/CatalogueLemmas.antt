@@ -5,8 +5,8 @@ use Rattle.std.specs.Prelude.{codes}
 use Rattle.std.proofs.lemmas.List.{length-map}
 use Rattle.std.proofs.lemmas.List.Elements.{All-map, All-from_get_or, Contains-get_or}
 use Rattle.std.proofs.lemmas.List.FromFn.{length-range_with_len}
-use Rattle.esto_acyclic.specs.Graphs.{AreRanks, IsAcyclic, IsWithin}
-use Rattle.esto_acyclic.specs.Relations.{IsEdge}
+use Rattle.esto_constraint.specs.Graphs.{AreRanks, IsAcyclic, IsWithin}
+use Rattle.esto_constraint.specs.Relations.{IsEdge}
 use Rattle.esto_catalog.specs.Datasets.{AreColumns, IsDataset, StandFrom, words_of}
 use Rattle.esto_catalog.specs.Soundness.{AreShapes, FitView, IsShapeFor, IsSoundCatalogue}
 use Rattle.esto_catalog.specs.declared.access.TheConstants.{MAX_WEIGHT}

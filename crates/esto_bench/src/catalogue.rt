@@ -1,7 +1,7 @@
 //! The catalogue of the made case.
 ghost use Rattle.std.specs.Prelude.{◌≡◌, ◌<◌, ◌≤◌, ◌++◌, ◌∷◌, [], length, Contains, IfOk, OnOk};
-ghost use Rattle.esto_acyclic.specs.Graphs.{AreRanks};
-ghost use Rattle.esto_acyclic.specs.Relations.{IsEdge};
+ghost use Rattle.esto_constraint.specs.Graphs.{AreRanks};
+ghost use Rattle.esto_constraint.specs.Relations.{IsEdge};
 ghost use Rattle.esto_catalog.specs.Datasets.{words_of};
 ghost use Rattle.esto_query.specs.Schemas.{names_of};
 ghost use Rattle.esto_bench.specs.Case.{IsMadeCatalogue, made_dataset, made_datasets, made_schema, numbered};
@@ -9,8 +9,9 @@ ghost use Rattle.esto_bench.specs.Case.{IsMadeCatalogue, made_dataset, made_data
 use crate::case::MAX_SIZE;
 use crate::fragments::{made_columns, made_fragments, made_stores, numbered};
 use either::{Left, Right};
-use esto_acyclic::{Ranks, judge};
+use esto_acyclic::judge;
 use esto_catalog::{Catalogue, Dataset, Datasets};
+use esto_constraint::Ranks;
 use esto_docs::Layout;
 use esto_query::{MAX_RELATIONS, Schema, SchemaError};
 use esto_read::{DataModel, Vocabulary, Word};

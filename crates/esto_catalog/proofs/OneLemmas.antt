@@ -8,9 +8,9 @@ use Rattle.std.proofs.lemmas.Cmp.{nat_list_cmp_total}
 use Rattle.std.proofs.lemmas.List.{map-append}
 use Rattle.std.proofs.lemmas.Map.Lookups.{exact_bytes}
 use Rattle.std.proofs.lemmas.Option.{same_Some}
-use Rattle.esto_acyclic.specs.Graphs.{AreRanks, IsLeastCycle}
-use Rattle.esto_acyclic.specs.Relations.{IsEdge}
-use Rattle.esto_acyclic.specs.declared.relations.Cycle.{Cycle}
+use Rattle.esto_constraint.specs.Graphs.{AreRanks, IsLeastCycle}
+use Rattle.esto_constraint.specs.Relations.{IsEdge}
+use Rattle.esto_constraint.specs.declared.ranks.Cycle.{Cycle}
 use Rattle.esto_constraint.specs.Constraints.{rules_of}
 use Rattle.esto_constraint.specs.EncodingRules.{written}
 use Rattle.esto_constraint.specs.Soundness.{IsSoundTuple, IsSoundEquality, IsSoundDenial}

@@ -7,8 +7,9 @@ use Rattle.std.proofs.Math.Logic.{∥∥₁_elim, ∥∥₁_map}
 use Rattle.std.proofs.lemmas.Bool.{and_parts, eqb-true, false≢true, and_from}
 use Rattle.std.proofs.lemmas.Str.{IsUtf8-from_is_utf8, is_utf8-from_IsUtf8}
 use Rattle.esto_acyclic.proofs.EdgeLemmas.{joins_edges}
-use Rattle.esto_acyclic.specs.Graphs.{AreRanks, Arrives, IsWalk, IsWithin, Joins}
-use Rattle.esto_acyclic.specs.Relations.{IsEdge, edges_of}
+use Rattle.esto_constraint.specs.Graphs.{AreRanks, Arrives, IsWalk, IsWithin, Joins}
+use Rattle.esto_acyclic.specs.Relations.{edges_of}
+use Rattle.esto_constraint.specs.Relations.{IsEdge}
 use Rattle.esto_constraint.specs.Constraints.{rules_of, rule_of}
 use Rattle.esto_constraint.specs.declared.rule.Constraint.{Constraint}
 use Rattle.esto_query.specs.Schemas.{IsSchema, arities_of}

@@ -5,9 +5,10 @@ use Rattle.std.proofs.Math.ListN.{length-map}
 use Rattle.std.specs.Prelude.{slice_get}
 use Rattle.std.proofs.lemmas.List.Elements.{Contains-push_cases}
 use Rattle.std.proofs.lemmas.Option.{none-some, slice_get_within}
-use Rattle.esto_acyclic.specs.Graphs.{AreRanks, IsLeastCycle, IsWithin}
-use Rattle.esto_acyclic.specs.Relations.{AreNamesOf, HasRelation, IsEdge}
-use Rattle.esto_acyclic.specs.declared.relations.Cycle.{Cycle}
+use Rattle.esto_constraint.specs.Graphs.{AreRanks, IsLeastCycle, IsWithin}
+use Rattle.esto_acyclic.specs.Relations.{AreNamesOf}
+use Rattle.esto_constraint.specs.Relations.{HasRelation, IsEdge}
+use Rattle.esto_constraint.specs.declared.ranks.Cycle.{Cycle}
 use Rattle.esto_constraint.specs.Constraints.{rule_of, rules_of}
 use Rattle.esto_constraint.specs.declared.rule.Constraint.{Constraint}
 use Rattle.esto_course.proofs.Steps.{Leads, first_stops, then_goes, gives_goes, turn_next, turn_stops}

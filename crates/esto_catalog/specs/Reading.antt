@@ -1,8 +1,9 @@
 -- What the bytes of a catalogue say, and what is wrong with them.
 use Rattle.std.specs.Prelude.{◌≡◌, ℕ, Bool, List, length}
-use Rattle.esto_acyclic.specs.Graphs.{IsAcyclic, AreRanks, IsLeastCycle}
-use Rattle.esto_acyclic.specs.Relations.{IsEdge, AreNamesOf}
-use Rattle.esto_acyclic.specs.declared.relations.Cycle.{Cycle}
+use Rattle.esto_constraint.specs.Graphs.{IsAcyclic, AreRanks, IsLeastCycle}
+use Rattle.esto_acyclic.specs.Relations.{AreNamesOf}
+use Rattle.esto_constraint.specs.Relations.{IsEdge}
+use Rattle.esto_constraint.specs.declared.ranks.Cycle.{Cycle}
 use Rattle.esto_constraint.specs.declared.rule.Constraint.{Constraint}
 use Rattle.esto_course.specs.Course.{Course, judges, gives, and_then}
 use Rattle.esto_semantics.specs.Rules.{Rule}

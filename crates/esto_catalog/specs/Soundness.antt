@@ -1,7 +1,7 @@
 -- What catalogues keep.
 use Rattle.std.specs.Prelude.{◌≡◌, ◌≢◌, ℕ, ◌≤◌, List, Some, length, slice_get, AllPairs, Contains}
-use Rattle.esto_acyclic.specs.Graphs.{IsWithin, AreRanks}
-use Rattle.esto_acyclic.specs.Relations.{IsEdge}
+use Rattle.esto_constraint.specs.Graphs.{IsWithin, AreRanks}
+use Rattle.esto_constraint.specs.Relations.{IsEdge}
 use Rattle.esto_catalog.specs.Datasets.{IsDataset, begins_plain, words_of}
 use Rattle.esto_catalog.specs.declared.access.TheConstants.{MAX_PATTERNS, MAX_WEIGHT}
 use Rattle.esto_catalog.specs.declared.dataset.Dataset.{Dataset}

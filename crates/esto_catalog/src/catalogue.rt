@@ -2,8 +2,7 @@
 ghost use Rattle.esto_catalog.specs.Soundness.{IsSoundCatalogue};
 
 use crate::dataset::Datasets;
-use esto_acyclic::Ranks;
-use esto_constraint::Rules;
+use esto_constraint::{Ranks, Rules};
 use esto_docmodel::Pattern;
 use esto_docs::Layout;
 use esto_query::Schema;

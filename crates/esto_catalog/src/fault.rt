@@ -3,7 +3,7 @@ ghost use Rattle.std.specs.Prelude.{◌≡◌, ◌+◌, ◌<◌, true};
 ghost use Rattle.esto_course.specs.Course.{demands};
 ghost use Rattle.esto_catalog.specs.Rows.{IsFault, Walks, fault_at, fault_with};
 
-use esto_acyclic::Cycle;
+use esto_constraint::Cycle;
 use esto_term::{OutOfMemory, Text};
 use esto_text::TextFault;
 use std::alloc::Global;

@@ -1,7 +1,7 @@
 //! The walk over the rows of the whole catalogue.
 ghost use Rattle.std.specs.Prelude.{◌≡◌, ◌≤◌, List, length, IfOk, IfErr};
-ghost use Rattle.esto_acyclic.specs.Graphs.{IsWithin, AreRanks};
-ghost use Rattle.esto_acyclic.specs.Relations.{IsEdge};
+ghost use Rattle.esto_constraint.specs.Graphs.{IsWithin, AreRanks};
+ghost use Rattle.esto_constraint.specs.Relations.{IsEdge};
 ghost use Rattle.esto_constraint.specs.Constraints.{rules_of};
 ghost use Rattle.esto_constraint.specs.declared.rule.Constraint.{Constraint};
 ghost use Rattle.esto_query.specs.Schemas.{arities_of};
@@ -25,8 +25,8 @@ use crate::rules::with_encodings;
 use crate::scope::{Scope, scope_of};
 use crate::whole::{Sections, read_whole};
 use either::{Left, Right};
-use esto_acyclic::{Ranks, judge, judgements_are_exact};
-use esto_constraint::Rules;
+use esto_acyclic::{judge, judgements_are_exact};
+use esto_constraint::{Ranks, Rules};
 use esto_read::{
     constraint_readings_are_determined, layout_readings_are_determined, readings_are_determined,
     views_name_their_columns,

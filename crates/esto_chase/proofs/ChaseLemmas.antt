@@ -11,7 +11,7 @@ use Rattle.esto_semantics.specs.Rules.{Rule, IsRule, AreRules}
 use Rattle.esto_semantics.specs.Containment.{IsSatisfiable}
 use Rattle.esto_constraint.specs.Constraints.{rule_of, rules_of}
 use Rattle.esto_constraint.specs.declared.rule.Constraint.{Constraint}
-use Rattle.esto_acyclic.specs.Relations.{IsEdge}
+use Rattle.esto_constraint.specs.Relations.{IsEdge}
 use Rattle.esto_chase_laws.specs.Bounds.{RanksRise, most_steps}
 use Rattle.esto_chase_laws.specs.Runs.{Step, IsRun, begun, went}
 use Rattle.esto_instance.specs.Instances.{state_of, trace_of, step_of, steps_of}

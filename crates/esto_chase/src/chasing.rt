@@ -4,8 +4,8 @@ ghost use Rattle.either.specs.Either.{MatchEither};
 ghost use Rattle.esto_semantics.specs.Containment.{IsSatisfiable};
 ghost use Rattle.esto_semantics.specs.Instances.{IsUniversalFor};
 ghost use Rattle.esto_constraint.specs.Constraints.{rules_of};
-ghost use Rattle.esto_acyclic.specs.Graphs.{IsWithin, AreRanks};
-ghost use Rattle.esto_acyclic.specs.Relations.{IsEdge};
+ghost use Rattle.esto_constraint.specs.Graphs.{IsWithin, AreRanks};
+ghost use Rattle.esto_constraint.specs.Relations.{IsEdge};
 ghost use Rattle.esto_chase_laws.specs.Received.{IsReceivedBy};
 ghost use Rattle.esto_chase_laws.specs.Runs.{IsStart, moved_by};
 ghost use Rattle.esto_instance.specs.Instances.{state_of, trace_of, steps_of};
@@ -14,12 +14,11 @@ ghost use Rattle.esto_chase.specs.Chased.{IsFinishedRun, RunClashes, ReceivesNot
 use crate::next::next;
 use crate::steps::take_step;
 use either::{Either, Left, Right};
-use esto_acyclic::{Ranks, ranks_rise};
 use esto_chase_laws::{
     Clash, clashes_receive_nothing, finished_runs_decide, runs_end, states_are_received,
     states_are_universal, terms_nest_within_ranks,
 };
-use esto_constraint::{Rules, rules_are_sound};
+use esto_constraint::{Ranks, Rules, ranks_rise, rules_are_sound};
 use esto_instance::Instance;
 use esto_term::OutOfMemory;
 use std::alloc::Global;

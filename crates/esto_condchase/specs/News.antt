@@ -1,6 +1,6 @@
 -- What is new since a round: the entries from a place on.
 use Rattle.std.specs.Prelude.{◌⊎◌, ℕ, Bool, List, take, Contains}
-use Rattle.esto_acyclic.specs.Relations.{HasRelation}
+use Rattle.esto_constraint.specs.Relations.{HasRelation}
 use Rattle.esto_term.specs.declared.term.Term.{Term}
 use Rattle.esto_semantics.specs.Facts.{terms_of}
 use Rattle.esto_semantics.specs.Sets.{Within}

@@ -3,7 +3,7 @@ ghost use Rattle.std.specs.Prelude.{◌≡◌, ◌↔◌, ◌<◌, ◌++◌, ◌
 ghost use Rattle.esto_semantics.specs.declared.fact.Fact.{Fact};
 ghost use Rattle.esto_term.specs.declared.term.Term.{Term};
 ghost use Rattle.esto_world_laws.specs.Worlds.{AreOfCount};
-ghost use Rattle.esto_acyclic.specs.Relations.{HasRelation};
+ghost use Rattle.esto_constraint.specs.Relations.{HasRelation};
 ghost use Rattle.esto_condchase.specs.News.{IsApart, IsSettled, AreFoundAnew};
 ghost use Rattle.esto_condchase.specs.Rounds.{AreOld};
 ghost use Rattle.esto_condchase.specs.Ways.{AreCounted, IsOldWay};

@@ -2,3 +2,5 @@ pub mod RuleLemmas
 pub mod MakingLemmas
 pub mod MeetingLemmas
 pub mod EncodingLemmas
+pub mod WalkLemmas
+pub mod CycleLemmas

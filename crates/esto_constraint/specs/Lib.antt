@@ -4,3 +4,5 @@ pub mod Making
 pub mod Matches
 pub mod Tests
 pub mod EncodingRules
+pub mod Graphs
+pub mod Relations

@@ -1,13 +1,15 @@
-//! Rules, their active matches, and whether facts meet them. Start from `Constraint`,
-//! `make_tuple_rule` and `meets`.
+//! Rules, their active matches, whether facts meet them, and the graph of their relations with its ranks.
+//! Start from `Constraint`, `make_tuple_rule`, `meets` and `Ranks`.
 #![tactic(auto)]
 
 mod encodings;
 mod make;
 mod meeting;
+mod ranks;
 mod rule;
 
 pub use encodings::{document_rules, document_rules_2, key_rules};
 pub use make::{make_denial, make_equal_rule, make_tuple_rule, rules_are_sound};
 pub use meeting::{Broken, active, active_in, least_active_matches_are_least, meets, value_of};
+pub use ranks::{Cycle, Ranks, ranks_rise};
 pub use rule::{Constraint, Denial, Egd, Rules, Tgd};

@@ -6,9 +6,9 @@ use Rattle.std.proofs.lemmas.Bool.{cases_eq}
 use Rattle.std.proofs.lemmas.List.{length-map}
 use Rattle.toml.specs.Data.{Members}
 use Rattle.toml.specs.Parse.{parse_document}
-use Rattle.esto_acyclic.specs.Graphs.{IsAcyclic, IsWithin}
-use Rattle.esto_acyclic.specs.Relations.{IsEdge}
-use Rattle.esto_acyclic.specs.declared.relations.Cycle.{Cycle}
+use Rattle.esto_constraint.specs.Graphs.{IsAcyclic, IsWithin}
+use Rattle.esto_constraint.specs.Relations.{IsEdge}
+use Rattle.esto_constraint.specs.declared.ranks.Cycle.{Cycle}
 use Rattle.esto_constraint.specs.Constraints.{rules_of}
 use Rattle.esto_constraint.specs.declared.rule.Constraint.{Constraint}
 use Rattle.esto_query.specs.Schemas.{arities_of}

@@ -1,8 +1,8 @@
 -- That whatever bytes say a catalogue, or have a first fault or a least cycle.
 use Rattle.std.specs.Prelude.{ℕ, ◌≢◌, ◌⊎◌, List}
-use Rattle.esto_acyclic.specs.Graphs.{IsWithin, IsLeastCycle, AreRanks}
-use Rattle.esto_acyclic.specs.Relations.{IsEdge}
-use Rattle.esto_acyclic.specs.declared.relations.Cycle.{Cycle}
+use Rattle.esto_constraint.specs.Graphs.{IsWithin, IsLeastCycle, AreRanks}
+use Rattle.esto_constraint.specs.Relations.{IsEdge}
+use Rattle.esto_constraint.specs.declared.ranks.Cycle.{Cycle}
 use Rattle.esto_semantics.specs.Rules.{Rule}
 use Rattle.esto_catalog.specs.Determined.{AreSame}
 use Rattle.esto_catalog.specs.Reading.{IsCatalogueOf, IsCatalogueError}

@@ -10,9 +10,9 @@ ghost use Rattle.esto_opening.specs.declared.status.Status.TheVariants as status
 
 use crate::cell::{cell_text, record_text};
 use crate::status::Status;
-use esto_acyclic::Cycle;
 use esto_catalog::{CatalogueFault, CatalogueKind, Section};
 use esto_chase::Clash;
+use esto_constraint::Cycle;
 use esto_fill::Difference;
 use esto_list::{put_constant, put_number};
 use esto_ports::{FileFault, FileKind};

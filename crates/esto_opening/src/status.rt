@@ -3,9 +3,9 @@ ghost use Rattle.std.specs.Prelude.{◌≡◌};
 ghost use Rattle.esto_opening.specs.Line.{code_of};
 ghost use Rattle.esto_opening.specs.declared.status.Status.TheVariants as status;
 
-use esto_acyclic::Cycle;
 use esto_catalog::CatalogueFault;
 use esto_chase::Clash;
+use esto_constraint::Cycle;
 use esto_fill::Difference;
 use esto_ports::FileFault;
 use esto_term::{OutOfMemory, Text};

@@ -1,7 +1,7 @@
 -- The laws of the crates below on which the ends of steps rest.
 use Rattle.std.specs.Prelude.{ℕ, ◌<◌, List, [], slice_index}
-use Rattle.esto_acyclic.specs.Graphs.{IsWithin, AreRanks}
-use Rattle.esto_acyclic.specs.Relations.{IsEdge}
+use Rattle.esto_constraint.specs.Graphs.{IsWithin, AreRanks}
+use Rattle.esto_constraint.specs.Relations.{IsEdge}
 use Rattle.esto_catalog.specs.Determined.{CataloguesAreSound}
 use Rattle.esto_chase_laws.specs.ReceivedLaws.{ClashesReceiveNothing, FinishedRunsDecide, StatesAreUniversal, StatesAreUniversalForQueries}
 use Rattle.esto_chase_laws.specs.RunLaws.{HeadsGoAlong, QueriesHaveStarts, RunsReachAnEnd, StartsHaveTheBody}

@@ -1,13 +1,12 @@
 //! Laws of the crates below, gathered.
 ghost use Rattle.esto_outcome_laws.specs.Laws.{BelowLaws, BenchLaws, ChaseLaws, KeptLaws, ListLaws, ReadingLaws, ReasoningLaws};
 
-use esto_acyclic::ranks_rise;
 use esto_catalog::catalogues_are_sound;
 use esto_chase_laws::{
     clashes_receive_nothing, finished_runs_decide, heads_go_along, queries_have_starts,
     runs_reach_an_end, states_are_universal,
 };
-use esto_constraint::rules_are_sound;
+use esto_constraint::{ranks_rise, rules_are_sound};
 use esto_input_laws::{catalogues_are_total, files_are_total};
 use esto_opening::readable_fragments_are_opened;
 use esto_plan_laws::{maps_between_plans_compose, renamed_plans_are_alike};

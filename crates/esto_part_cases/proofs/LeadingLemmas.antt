@@ -1,7 +1,7 @@
 -- Rules that lead between relations below a count.
 use Rattle.std.proofs.Common.{ℕ, ◌<◌, List, length, Contains, sym, subst}
-use Rattle.esto_acyclic.specs.Graphs.{IsWithin, AreRanks}
-use Rattle.esto_acyclic.specs.Relations.{HasRelation, IsEdge}
+use Rattle.esto_constraint.specs.Graphs.{IsWithin, AreRanks}
+use Rattle.esto_constraint.specs.Relations.{HasRelation, IsEdge}
 use Rattle.esto_constraint.specs.Constraints.{rule_of, rules_of}
 use Rattle.esto_constraint.specs.declared.rule.Constraint.{Constraint}
 use Rattle.esto_semantics.specs.Rules.{Rule, tuple}

@@ -1,16 +1,16 @@
 //! The standard chase of a query: what it leaves, or the clash at which it ends.
 ghost use Rattle.std.specs.Prelude.{length, IsTrue};
 ghost use Rattle.esto_constraint.specs.Constraints.{rule_of, rules_of};
-ghost use Rattle.esto_acyclic.specs.Graphs.{IsWithin, AreRanks};
-ghost use Rattle.esto_acyclic.specs.Relations.{IsEdge};
+ghost use Rattle.esto_constraint.specs.Graphs.{IsWithin, AreRanks};
+ghost use Rattle.esto_constraint.specs.Relations.{IsEdge};
 ghost use Rattle.esto_part_cases.specs.Leading.{AreBelow, LeadsBelow};
 
 use crate::printing::{put_number, put_row};
 use either::{Either, Left, Right};
-use esto_acyclic::{Ranks, judge};
+use esto_acyclic::judge;
 use esto_chase::{Chased, Clash, chase};
 use esto_chase_laws::queries_have_starts;
-use esto_constraint::{Constraint, Rules};
+use esto_constraint::{Constraint, Ranks, Rules};
 use esto_instance::Instance;
 use esto_query::{Query, Schema, queries_are_sound};
 use esto_script::{Refused, let_go, put, put_counted};

@@ -8,8 +8,8 @@ use Rattle.esto_semantics.specs.Queries.{ConjunctiveQuery, IsQuery}
 use Rattle.esto_semantics.specs.Rules.{Rule, AreRules}
 use Rattle.esto_semantics.specs.Unions.{ReceivesUnions}
 use Rattle.esto_query.specs.declared.query.Name.{Name}
-use Rattle.esto_acyclic.specs.Graphs.{IsWithin, AreRanks}
-use Rattle.esto_acyclic.specs.Relations.{IsEdge}
+use Rattle.esto_constraint.specs.Graphs.{IsWithin, AreRanks}
+use Rattle.esto_constraint.specs.Relations.{IsEdge}
 use Rattle.esto_views.specs.Fragments.{views_of, AreFragments}
 use Rattle.esto_views.specs.Plans.{plan_query, IsPlanOver}
 use Rattle.esto_views.specs.declared.fragments.FragmentDef.{FragmentDef}

@@ -1,5 +1,5 @@
 use Rattle.std.proofs.Common.{length, sym, ap, ◌∙◌, subst}
-use Rattle.esto_acyclic.specs.Graphs.{Joins, IsWithin}
+use Rattle.esto_constraint.specs.Graphs.{Joins, IsWithin}
 use Rattle.esto_acyclic.specs.Rounds.{AreDistances}
 use Rattle.esto_acyclic.proofs.graph.cycle_at.Goals as goal
 

@@ -1,5 +1,5 @@
 use Rattle.std.proofs.Common.{◌≡◌, ◌+◌, ◌-◌, length, sym, subst, arith}
-use Rattle.esto_acyclic.specs.Graphs.{Joins}
+use Rattle.esto_constraint.specs.Graphs.{Joins}
 use Rattle.esto_acyclic.proofs.DistanceLemmas.{WalkedSoFar, HasNoCycle-far, walked_start, walked_next, walked_end}
 use Rattle.esto_acyclic.proofs.graph.cycle_by_distances.Goals as goal
 

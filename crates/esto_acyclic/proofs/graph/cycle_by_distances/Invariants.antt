@@ -1,5 +1,5 @@
 use Rattle.std.proofs.Common.{◌+◌}
-use Rattle.esto_acyclic.specs.Graphs.{Joins}
+use Rattle.esto_constraint.specs.Graphs.{Joins}
 use Rattle.esto_acyclic.proofs.DistanceLemmas.{WalkedSoFar}
 use Rattle.esto_acyclic.proofs.graph.cycle_by_distances.Given as goal
 

@@ -3,7 +3,7 @@ use Rattle.std.proofs.Math.ListN.{set}
 use Rattle.std.proofs.lemmas.List.{length-set, length-replicate}
 use Rattle.esto_acyclic.specs.Rounds.{AreNear, Sinks}
 use Rattle.esto_acyclic.proofs.DistanceLemmas.{AreNear-start, AreDistances-still}
-use Rattle.esto_acyclic.specs.Graphs.{Joins, IsWithin}
+use Rattle.esto_constraint.specs.Graphs.{Joins, IsWithin}
 use Rattle.esto_acyclic.proofs.graph.distances_to.Goals as goal
 
 pub sink-requires : goal.sink-requires

@@ -1,5 +1,5 @@
 use Rattle.std.proofs.Common.{◌≡◌, length, sum}
-use Rattle.esto_acyclic.specs.Graphs.{Joins}
+use Rattle.esto_constraint.specs.Graphs.{Joins}
 use Rattle.esto_acyclic.specs.Rounds.{AreNear}
 use Rattle.esto_acyclic.proofs.graph.distances_to.Given as goal
 

@@ -1,5 +1,5 @@
 use Rattle.std.proofs.Common.{arith}
-use Rattle.esto_acyclic.specs.Graphs.{Joins}
+use Rattle.esto_constraint.specs.Graphs.{Joins}
 use Rattle.esto_acyclic.proofs.DistanceLemmas.{no_long_walk}
 use Rattle.esto_acyclic.proofs.graph.least_cycle.Goals as goal
 

@@ -1,5 +1,5 @@
 use Rattle.std.proofs.Common.{◌<◌, ℕ}
-use Rattle.esto_acyclic.specs.Graphs.{Joins, HasNoCycle}
+use Rattle.esto_constraint.specs.Graphs.{Joins, HasNoCycle}
 use Rattle.esto_acyclic.proofs.graph.least_cycle.Given as goal
 
 abbrev pub invariant-starts : goal.invariant-starts

@@ -1,5 +1,5 @@
 use Rattle.std.proofs.Common.{sym, ◌∙◌, subst}
-use Rattle.esto_acyclic.specs.Graphs.{Joins, IsWithin}
+use Rattle.esto_constraint.specs.Graphs.{Joins, IsWithin}
 use Rattle.esto_acyclic.proofs.RankLemmas.{AreReached-start, AreRanks-still, room_falls}
 use Rattle.esto_acyclic.proofs.graph.ranks_of.Goals as goal
 

@@ -1,5 +1,5 @@
 use Rattle.std.proofs.Common.{◌≡◌, ◌-◌, ◌*◌, length, sum}
-use Rattle.esto_acyclic.specs.Graphs.{Joins}
+use Rattle.esto_constraint.specs.Graphs.{Joins}
 use Rattle.esto_acyclic.specs.Rounds.{AreReached}
 use Rattle.esto_acyclic.proofs.graph.ranks_of.Given as goal
 

@@ -1,8 +1,8 @@
 use Rattle.std.proofs.Common.{◌<◌, length, sym, ◌∙◌, subst}
 use Rattle.std.specs.List.{All}
 use Rattle.esto_constraint.specs.Constraints.{rules_of}
-use Rattle.esto_acyclic.specs.Relations.{IsEdge}
-use Rattle.esto_acyclic.proofs.CycleLemmas.{acyclic}
+use Rattle.esto_constraint.specs.Relations.{IsEdge}
+use Rattle.esto_constraint.proofs.CycleLemmas.{acyclic}
 use Rattle.esto_acyclic.proofs.EdgeLemmas.{cycle_below, not_acyclic, joined_within, judged_ranks, judged_cycle}
 use Rattle.esto_acyclic.proofs.relations.judge.Goals as goal
 

@@ -1,5 +1,5 @@
-use Rattle.esto_acyclic.specs.Relations.{IsEdge}
-use Rattle.esto_acyclic.proofs.CycleLemmas.{acyclic, one_list_of_ranks, one_least_cycle}
+use Rattle.esto_constraint.specs.Relations.{IsEdge}
+use Rattle.esto_constraint.proofs.CycleLemmas.{acyclic, one_list_of_ranks, one_least_cycle}
 use Rattle.esto_acyclic.proofs.relations.judgements_are_exact.Goals as goal
 
 pub returns-clause-acyclic : goal.returns-clause-acyclic

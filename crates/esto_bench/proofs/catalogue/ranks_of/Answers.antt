@@ -1,6 +1,6 @@
 use Rattle.std.proofs.Common.{List, length, subst}
-use Rattle.esto_acyclic.specs.Graphs.{AreRanks, IsAcyclic}
-use Rattle.esto_acyclic.specs.Relations.{IsEdge}
+use Rattle.esto_constraint.specs.Graphs.{AreRanks, IsAcyclic}
+use Rattle.esto_constraint.specs.Relations.{IsEdge}
 use Rattle.esto_constraint.specs.Constraints.{rules_of}
 use Rattle.esto_constraint.specs.declared.rule.Constraint.{Constraint}
 use Rattle.esto_bench.proofs.CatalogueLemmas.{within_none, acyclic_none}

@@ -1,6 +1,6 @@
 use Rattle.std.proofs.Common.{inl, length, refl, subst}
-use Rattle.esto_acyclic.specs.Graphs.{AreRanks, IsAcyclic}
-use Rattle.esto_acyclic.specs.Relations.{IsEdge}
+use Rattle.esto_constraint.specs.Graphs.{AreRanks, IsAcyclic}
+use Rattle.esto_constraint.specs.Relations.{IsEdge}
 use Rattle.esto_constraint.specs.Constraints.{rules_of}
 use Rattle.esto_catalog.proofs.RowLemmas.{judges_goes, judges_stops, memory_stops, row_exit}
 use Rattle.esto_catalog.specs.Reading.{is_ranked}

@@ -1,6 +1,6 @@
 use Rattle.std.proofs.Common.{subst, length}
-use Rattle.esto_acyclic.specs.Graphs.{IsWithin}
-use Rattle.esto_acyclic.specs.Relations.{IsEdge}
+use Rattle.esto_constraint.specs.Graphs.{IsWithin}
+use Rattle.esto_constraint.specs.Relations.{IsEdge}
 use Rattle.esto_constraint.specs.Constraints.{rules_of}
 use Rattle.esto_part_cases.proofs.LeadingLemmas.{ranks-themselves, ranks-within}
 use Rattle.esto_part_cases.proofs.chasing.put_chase.Goals as goal

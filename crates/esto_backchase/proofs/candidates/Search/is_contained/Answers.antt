@@ -1,7 +1,7 @@
 use Rattle.std.proofs.Common.{◌<◌, sym, subst}
 use Rattle.std.proofs.lemmas.Result.{IfOk-weaker}
-use Rattle.esto_acyclic.specs.Graphs.{AreRanks, IsWithin}
-use Rattle.esto_acyclic.specs.Relations.{IsEdge}
+use Rattle.esto_constraint.specs.Graphs.{AreRanks, IsWithin}
+use Rattle.esto_constraint.specs.Relations.{IsEdge}
 use Rattle.esto_chase_laws.specs.Runs.{IsStart}
 use Rattle.esto_constraint.specs.Constraints.{rules_of}
 use Rattle.esto_query.specs.Making.{query_of}

@@ -6,8 +6,8 @@ use Rattle.std.specs.declared.cmp.Ordering.TheVariants.{Less, Equal}
 use Rattle.std.proofs.lemmas.Cmp.{ranked, by_ranked}
 use Rattle.std.proofs.lemmas.Bool.Decides.{nat_tests}
 use Rattle.esto_semantics.specs.Matches.{IsAtMost}
-use Rattle.esto_acyclic.specs.Graphs.{IsWithin, IsAcyclic, IsLeastCycleAt, IsLeastCycle, IsRank, AreRanks}
-use Rattle.esto_acyclic.proofs.WalkLemmas.{same_or_apart, Arrives-next, walk_rises, walk_is_short}
+use Rattle.esto_constraint.specs.Graphs.{IsWithin, IsAcyclic, IsLeastCycleAt, IsLeastCycle, IsRank, AreRanks}
+use Rattle.esto_constraint.proofs.WalkLemmas.{same_or_apart, Arrives-next, walk_rises, walk_is_short}
 
 -- ---- lists of relations in order
 

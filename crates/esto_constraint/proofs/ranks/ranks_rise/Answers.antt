@@ -1,6 +1,6 @@
-use Rattle.esto_acyclic.specs.Relations.{IsEdge}
-use Rattle.esto_acyclic.proofs.CycleLemmas as lemmas
-use Rattle.esto_acyclic.proofs.relations.ranks_rise.Goals as goal
+use Rattle.esto_constraint.specs.Relations.{IsEdge}
+use Rattle.esto_constraint.proofs.CycleLemmas as lemmas
+use Rattle.esto_constraint.proofs.ranks.ranks_rise.Goals as goal
 
 pub returns-clause-rise : goal.returns-clause-rise
 returns-clause-rise c rules = lemmas.ranks_rise (IsEdge rules)

@@ -5,7 +5,7 @@ use Rattle.std.specs.List.{IsDistinct, list_any, AllByRecursion}
 use Rattle.std.proofs.Math.Dec.{eqb}
 use Rattle.std.proofs.lemmas.Bool.Decides.{eqb_tells}
 use Rattle.std.proofs.lemmas.Map.Steps.{length-le_from_distinct_below}
-use Rattle.esto_acyclic.specs.Graphs.{IsWithin, IsWalk, IsCycleAt, IsAcyclic, Arrives}
+use Rattle.esto_constraint.specs.Graphs.{IsWithin, IsWalk, IsCycleAt, IsAcyclic, Arrives}
 
 pub le_or_more : (i j : ℕ) → (i ≤ j) ⊎ (j < i)
 le_or_more i j = grind arith
