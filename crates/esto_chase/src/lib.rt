@@ -9,4 +9,3 @@ mod steps;
 
 pub use chasing::{Chased, chase};
 pub use esto_chase_laws::Clash;
-pub use making::frontier_of;

@@ -4,3 +4,5 @@ pub mod MeetingLemmas
 pub mod EncodingLemmas
 pub mod WalkLemmas
 pub mod CycleLemmas
+pub mod FrontierLemmas
+pub mod RankLemmas

@@ -12,7 +12,7 @@ use Rattle.esto_bench.proofs.CaseLemmas.{chain_is, view_sound}
 use Rattle.esto_bench.proofs.PlanLemmas.{some_listed}
 use Rattle.esto_bench.proofs.ViewLemmas.{satisfied}
 use Rattle.esto_bench.proofs.CatalogueLemmas.{variable_of, variables_apart}
-use Rattle.esto_chase.proofs.ChaseLemmas.{depth_of, depth-small}
+use Rattle.esto_constraint.proofs.RankLemmas.{depth_of, depth-small}
 use Rattle.esto_chase_laws.specs.Runs.{Step, IsEnd, IsRun, IsStart, start_of}
 use Rattle.esto_list.specs.Items.{totals_of}
 use Rattle.esto_list.specs.declared.listing.Listed.{Listed as Item}

@@ -5,7 +5,7 @@ use Rattle.esto_constraint.specs.Graphs.{IsWithin, AreRanks}
 use Rattle.esto_constraint.specs.Relations.{IsEdge}
 use Rattle.esto_catalog.specs.Soundness.{IsSoundCatalogue}
 use Rattle.esto_catalog.specs.declared.catalogue.Catalogue.{Catalogue}
-use Rattle.esto_chase.proofs.ChaseLemmas.{depth_of, depth-small, ranks-RanksRise, ranks-small, rules-AreRules}
+use Rattle.esto_constraint.proofs.RankLemmas.{depth_of, depth-small, ranks-RanksRise, ranks-small, rules-AreRules}
 use Rattle.esto_chase_laws.specs.Runs.{Step, IsEnd, IsRun, IsStart, start_of}
 use Rattle.esto_chase_laws.specs.declared.clash.Clash.{Clash}
 use Rattle.esto_constraint.specs.Constraints.{rules_of}

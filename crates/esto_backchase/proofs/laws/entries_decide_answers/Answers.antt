@@ -3,7 +3,7 @@ use Rattle.esto_query.specs.Making.{query_of}
 use Rattle.esto_semantics.specs.Rewritings.{IsPlanFor}
 use Rattle.esto_views.specs.Plans.{plan_query}
 use Rattle.esto_views.proofs.FlatLemmas.{plan_atoms-flat}
-use Rattle.esto_chase.proofs.ChaseLemmas.{rules-AreRules}
+use Rattle.esto_constraint.proofs.RankLemmas.{rules-AreRules}
 use Rattle.esto_backchase.proofs.EvidenceLemmas.{consistent}
 use Rattle.esto_backchase.proofs.TellLemmas.{told, union_told}
 use Rattle.esto_backchase.proofs.laws.entries_decide_answers.Goals as goal

@@ -1,5 +1,5 @@
 use Rattle.std.proofs.Common.{[]}
-use Rattle.esto_chase.proofs.ChaseLemmas.{rules-AreRules}
+use Rattle.esto_constraint.proofs.RankLemmas.{rules-AreRules}
 use Rattle.esto_constraint.specs.Constraints.{rules_of}
 use Rattle.esto_query.specs.Making.{query_of}
 use Rattle.esto_cert.specs.Judging.{case_for}

@@ -2,7 +2,8 @@ use Rattle.std.proofs.Common.{length}
 use Rattle.esto_constraint.specs.Constraints.{rules_of}
 use Rattle.esto_instance.specs.Instances.{state_of, trace_of, steps_of}
 use Rattle.std.specs.Prelude.{slice_index}
-use Rattle.esto_chase.proofs.ChaseLemmas.{rules-AreRules, ranks-RanksRise, nothing-unsatisfiable}
+use Rattle.esto_chase.proofs.ChaseLemmas.{nothing-unsatisfiable}
+use Rattle.esto_constraint.proofs.RankLemmas.{rules-AreRules, ranks-RanksRise}
 use Rattle.esto_chase.proofs.OutcomeLemmas.{on_either}
 use Rattle.esto_chase.proofs.chasing.chase.Goals as goal
 

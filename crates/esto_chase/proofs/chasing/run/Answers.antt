@@ -10,7 +10,8 @@ use Rattle.esto_chase_laws.specs.Runs.{HasClashed}
 use Rattle.esto_chase.specs.Next.{IsNextFound}
 use Rattle.esto_chase.specs.Steps.{IsTaken}
 use Rattle.std.proofs.lemmas.Option.{MatchOption-at_none}
-use Rattle.esto_chase.proofs.ChaseLemmas.{rules-AreRules, ranks-RanksRise, depth_of, ranks-small, depth-small, run-begun, run-went, fewer_left}
+use Rattle.esto_chase.proofs.ChaseLemmas.{run-begun, run-went, fewer_left}
+use Rattle.esto_constraint.proofs.RankLemmas.{rules-AreRules, ranks-RanksRise, depth_of, ranks-small, depth-small}
 use Rattle.esto_chase.proofs.chasing.run.Goals as goal
 
 -- src/chasing.rt:53:5

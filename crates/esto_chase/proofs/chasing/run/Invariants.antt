@@ -1,6 +1,7 @@
 use Rattle.esto_constraint.specs.Constraints.{rules_of}
 use Rattle.esto_instance.specs.Instances.{state_of}
-use Rattle.esto_chase.proofs.ChaseLemmas.{HasRun, left_of, depth_of}
+use Rattle.esto_chase.proofs.ChaseLemmas.{HasRun, left_of}
+use Rattle.esto_constraint.proofs.RankLemmas.{depth_of}
 use Rattle.esto_chase.proofs.chasing.run.Given as goal
 
 abbrev pub invariant-steps : goal.invariant-steps

@@ -1,7 +1,7 @@
 use Rattle.std.proofs.Common.{◌⊎◌, Bool, List, length, sym, subst}
 use Rattle.std.specs.Prelude.{slice_index}
 use Rattle.esto_constraint.specs.Constraints.{rules_of}
-use Rattle.esto_chase.proofs.ChaseLemmas.{rules-AreRules, ranks-RanksRise}
+use Rattle.esto_constraint.proofs.RankLemmas.{rules-AreRules, ranks-RanksRise}
 use Rattle.esto_world_laws.specs.Laws.{IsSound, IsReceivedNowhere, IsDatabase, AreNestedWithin}
 use Rattle.esto_world_laws.specs.Steps.{AreJoined}
 use Rattle.esto_world_laws.specs.Worlds.{InWorld, IsClosed, IsBroken, IsDenied}

@@ -1,7 +1,7 @@
 use Rattle.std.proofs.Common.{length, sym, ◌∙◌, ap, arith, subst, Contains}
 use Rattle.std.specs.Prelude.{slice_index}
 use Rattle.esto_constraint.specs.Constraints.{rules_of}
-use Rattle.esto_chase.proofs.ChaseLemmas.{rules-AreRules, ranks-RanksRise, depth_of, ranks-small, depth-small}
+use Rattle.esto_constraint.proofs.RankLemmas.{rules-AreRules, ranks-RanksRise, depth_of, ranks-small, depth-small}
 use Rattle.esto_world_laws.specs.Derived.{AreDerived}
 use Rattle.esto_world_laws.specs.Laws.{AreGiven}
 use Rattle.esto_world_laws.specs.Steps.{AreAnswered, AreJoined}

@@ -1,6 +1,6 @@
 use Rattle.std.proofs.Common.{◌-◌, length, take}
 use Rattle.esto_constraint.specs.Constraints.{rules_of}
-use Rattle.esto_chase.proofs.ChaseLemmas.{depth_of}
+use Rattle.esto_constraint.proofs.RankLemmas.{depth_of}
 use Rattle.esto_views.specs.Expanded.{facts_of}
 use Rattle.esto_world_laws.specs.Bounds.{most_entries}
 use Rattle.esto_world_laws.specs.Derived.{AreDerived}

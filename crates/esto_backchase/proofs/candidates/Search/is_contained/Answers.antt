@@ -6,7 +6,7 @@ use Rattle.esto_chase_laws.specs.Runs.{IsStart}
 use Rattle.esto_constraint.specs.Constraints.{rules_of}
 use Rattle.esto_query.specs.Making.{query_of}
 use Rattle.esto_instance.specs.Instances.{state_of}
-use Rattle.esto_chase.proofs.ChaseLemmas.{rules-AreRules}
+use Rattle.esto_constraint.proofs.RankLemmas.{rules-AreRules}
 use Rattle.esto_backchase.proofs.CandidateLemmas.{chosen-starts, contained-received}
 use Rattle.esto_backchase.proofs.candidates.Search.is_contained.Goals as goal
 

@@ -1,5 +1,5 @@
-use Rattle.esto_chase.proofs.MakingLemmas.{variable-told}
-use Rattle.esto_chase.proofs.making.is_variable_of.Goals as goal
+use Rattle.esto_constraint.proofs.FrontierLemmas.{variable-told}
+use Rattle.esto_constraint.proofs.frontier.is_variable_of.Goals as goal
 
 -- src/making.rt:19:1
 pub returns-in-Plain : goal.returns-in-Plain

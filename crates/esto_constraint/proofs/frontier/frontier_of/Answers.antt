@@ -4,8 +4,8 @@ use Rattle.esto_term.specs.Order.{same_term}
 use Rattle.esto_chase_laws.specs.Joined.{joined_by}
 use Rattle.esto_chase_laws.specs.Making.{is_variable_of}
 use Rattle.std.proofs.Common.{ap, ◌∙◌}
-use Rattle.esto_chase.proofs.MakingLemmas.{one_atom_more}
-use Rattle.esto_chase.proofs.making.frontier_of.Goals as goal
+use Rattle.esto_constraint.proofs.FrontierLemmas.{one_atom_more}
+use Rattle.esto_constraint.proofs.frontier.frontier_of.Goals as goal
 
 -- src/making.rt:67:5
 pub atoms-preserved : goal.atoms-preserved

@@ -1,6 +1,6 @@
 use Rattle.esto_chase_laws.specs.Making.{is_variable_of}
-use Rattle.esto_chase.proofs.MakingLemmas.{one_term_more}
-use Rattle.esto_chase.proofs.making.add_variables.Goals as goal
+use Rattle.esto_constraint.proofs.FrontierLemmas.{one_term_more}
+use Rattle.esto_constraint.proofs.frontier.add_variables.Goals as goal
 
 -- src/making.rt:56:5
 pub terms-preserved : goal.terms-preserved

@@ -3,10 +3,10 @@ use Rattle.esto_chase_laws.specs.Making.{is_variable_of}
 use Rattle.std.proofs.Common.{Contains, refl, sym, ap, ◌∙◌, subst}
 use Rattle.std.proofs.lemmas.Bool.{false≢true}
 use Rattle.esto_term.specs.declared.term.Term.{Term}
-use Rattle.esto_chase.proofs.MakingLemmas.{not_a_variable, there_already, put_there}
-use Rattle.esto_chase.proofs.making.add_variable.Goals.{then-not-is_variable_of-via-then-not-is_variable_of}
-use Rattle.esto_chase.proofs.making.add_variable.Goals.{then-not-is_variable_of-via-else-not-is_variable_of+then-has_term}
-use Rattle.esto_chase.proofs.making.add_variable.Goals as goal
+use Rattle.esto_constraint.proofs.FrontierLemmas.{not_a_variable, there_already, put_there}
+use Rattle.esto_constraint.proofs.frontier.add_variable.Goals.{then-not-is_variable_of-via-then-not-is_variable_of}
+use Rattle.esto_constraint.proofs.frontier.add_variable.Goals.{then-not-is_variable_of-via-else-not-is_variable_of+then-has_term}
+use Rattle.esto_constraint.proofs.frontier.add_variable.Goals as goal
 
 -- src/making.rt:40:9
 pub returns-then-not-is_variable_of : goal.returns-then-not-is_variable_of
