@@ -11,5 +11,5 @@ mod supply;
 
 pub use atoms::way_of;
 pub use laws::rounds_are_enough;
-pub use order::{Order, is_order, order_of, reached};
+pub use order::{is_order, order_of, reached};
 pub use supply::{Supplies, access_products};

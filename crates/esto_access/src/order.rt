@@ -5,15 +5,12 @@ ghost use Rattle.esto_views.specs.Fragments.{patterns_of};
 ghost use Rattle.esto_views.specs.Plans.{plan_query};
 ghost use Rattle.esto_access.specs.Runs.{CanFollow};
 
+use esto_views::{FragmentDefs, Order, Plan};
 use crate::atoms::{can_follow, names_all};
 use crate::run::greedy_order;
 use esto_bits::RowBits;
-use esto_term::{OutOfMemory, Places};
-use esto_views::{FragmentDefs, Plan};
+use esto_term::OutOfMemory;
 use std::alloc::Global;
-
-/// Numbers of a plan's atoms, counted from 0, in the order in which they are executed.
-pub type Order = Places;
 
 /// The stated order of a set of the plan's atoms: the one that takes the accessible atom of least number each time.
 /// `None` comes exactly where the set has no order.

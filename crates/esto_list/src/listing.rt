@@ -10,11 +10,11 @@ ghost use Rattle.esto_list.specs.Text.{IsListText};
 
 use crate::text::put_list;
 use crate::weight::weight_of;
-use esto_access::{Order, order_of};
+use esto_access::order_of;
 use esto_bits::{Products, RowBits};
 use esto_semantics::weights_exist;
 use esto_term::{Bytes, List, OutOfMemory, Replicate};
-use esto_views::{FragmentDefs, Plan};
+use esto_views::{FragmentDefs, Order, Plan};
 use std::alloc::Global;
 use std::marker::Model;
 

@@ -12,10 +12,9 @@ ghost use Rattle.esto_plan.specs.Planning.{IsGetBelow, IsLinkMade};
 ghost use Rattle.esto_columns.specs.Interned.{Grows};
 
 use crate::steps::{Get, Gets, Link, Links, Source, Sources, Steps};
-use esto_access::Order;
 use esto_columns::Codes;
 use esto_term::{List, OutOfMemory, Replicate, Term, Terms};
-use esto_views::{Access, AccessList, FragmentDefs, Plan, PlanAtom};
+use esto_views::{Access, AccessList, FragmentDefs, Order, Plan, PlanAtom};
 use std::alloc::Global;
 
 /// The first place of the term among the terms.

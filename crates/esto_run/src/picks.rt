@@ -1,7 +1,6 @@
 //! Sets that are run together.
-use esto_access::Order;
 use esto_bits::RowBits;
-use esto_views::Plan;
+use esto_views::{Order, Plan};
 
 /// A set of a plan's atoms that is run, with an order of it.
 #[derive(Clone, Copy)]

@@ -14,14 +14,13 @@ ghost use Rattle.esto_run.specs.Opened.{AreRowsFor, HaveTexts, held_of, rows_hel
 
 use crate::answers::lent_answers_text;
 use crate::held::FragmentRows;
-use esto_access::Order;
 use esto_columns::{Codes, Rows, StoredRows, sorted_rows, sorted_texts};
 use esto_exec::{plans_are_runnable, run_plan};
 use esto_plan::{plan_of, results_are_candidate_answers, results_have_texts};
 use esto_query::Query;
 use esto_semantics::chosen_atoms_are_named;
 use esto_term::{Bytes, OutOfMemory, TextRows};
-use esto_views::{FragmentDefs, Plan};
+use esto_views::{FragmentDefs, Order, Plan};
 use std::alloc::Global;
 
 /// Rows of codes, with the texts of the codes.
