@@ -32,11 +32,12 @@ use Rattle.esto_chase_laws.specs.RunLaws.{StartsHaveTheBody}
 use Rattle.esto_chase_laws.specs.Runs.{IsStart, start_of}
 use Rattle.esto_chase_laws.specs.declared.clash.Clash.{Clash}
 use Rattle.esto_instance.specs.Instances.{state_of}
-use Rattle.esto_views.specs.Expanded.{Expands, facts_of}
+use Rattle.esto_views.specs.Expanded.{Expands}
+use Rattle.esto_query.specs.Expanded.{facts_of}
 use Rattle.esto_views.specs.Fragments.{views_of}
 use Rattle.esto_views.specs.Plans.{fact_of, plan_query}
 use Rattle.esto_views.specs.Soundness.{IsSoundPlan}
-use Rattle.esto_views.specs.declared.expansion.ExpandedFact.{ExpandedFact}
+use Rattle.esto_query.specs.declared.expanded.ExpandedFact.{ExpandedFact}
 use Rattle.esto_views.specs.declared.fragments.FragmentDef.{FragmentDef}
 use Rattle.esto_views.specs.declared.plan.Plan.{Plan}
 use Rattle.esto_views.proofs.FlatLemmas.{named-flat}

@@ -13,10 +13,11 @@ use Rattle.esto_semantics.specs.Unions.{ReceivesUnions}
 use Rattle.esto_semantics.specs.Views.{IsFragmentAnswer}
 use Rattle.esto_semantics.specs.declared.fact.Fact.{Fact}
 use Rattle.esto_semantics.proofs.FactLemmas.{image_itself}
-use Rattle.esto_views.specs.Expanded.{Expands, facts_of}
+use Rattle.esto_views.specs.Expanded.{Expands}
+use Rattle.esto_query.specs.Expanded.{facts_of}
 use Rattle.esto_views.specs.Fragments.{views_of}
 use Rattle.esto_views.specs.Plans.{plan_query}
-use Rattle.esto_views.specs.declared.expansion.ExpandedFact.{ExpandedFact}
+use Rattle.esto_query.specs.declared.expanded.ExpandedFact.{ExpandedFact}
 use Rattle.esto_views.specs.declared.fragments.FragmentDef.{FragmentDef}
 use Rattle.esto_views.specs.declared.plan.Plan.{Plan}
 use Rattle.esto_world_laws.specs.Laws.{AreFactsOf}

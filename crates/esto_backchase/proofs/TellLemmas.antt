@@ -26,10 +26,10 @@ use Rattle.esto_views.specs.Expanded.{Expands}
 use Rattle.esto_views.specs.Fragments.{views_of}
 use Rattle.esto_views.specs.Plans.{plan_query}
 use Rattle.esto_views.specs.Soundness.{IsSoundPlan}
-use Rattle.esto_views.specs.declared.expansion.ExpandedFact.{ExpandedFact}
+use Rattle.esto_query.specs.declared.expanded.ExpandedFact.{ExpandedFact}
 use Rattle.esto_views.specs.declared.fragments.FragmentDef.{FragmentDef}
 use Rattle.esto_views.specs.declared.plan.Plan.{Plan}
-use Rattle.esto_world_laws.specs.Contained.{IsSafelyContained, MatchedSetsAreContained}
+use Rattle.esto_prov.specs.Contained.{IsSafelyContained, MatchedSetsAreContained}
 use Rattle.esto_world_laws.specs.Laws.{AreFactsOf, HasGivenHead, HasMatch, ContainmentShowsMatches}
 use Rattle.esto_world_laws.specs.Worlds.{InWorld, IsBroken, IsDenied}
 use Rattle.esto_world_laws.specs.declared.entry.Claim.{Claim}

@@ -14,7 +14,7 @@ use Rattle.esto_semantics.specs.Unions.{ReceivesUnions}
 use Rattle.esto_views.specs.Expanded.{AreExpanded, Expands}
 use Rattle.esto_views.specs.Fragments.{views_of, patterns_of}
 use Rattle.esto_views.specs.Plans.{plan_query}
-use Rattle.esto_views.specs.declared.expansion.ExpandedFact.{ExpandedFact}
+use Rattle.esto_query.specs.declared.expanded.ExpandedFact.{ExpandedFact}
 use Rattle.esto_views.specs.declared.plan.Plan.{Plan}
 use Rattle.esto_world_laws.specs.Derived.{AreDerived}
 use Rattle.esto_world_laws.specs.Laws.{AreGiven, HasMatch, IsSound, IsReceivedNowhere, IsDatabase, AreNestedWithin}

@@ -10,6 +10,7 @@ ghost use Rattle.esto_backchase.specs.Listing.{ListedCoverRewritings};
 
 use esto_chase_laws::queries_have_starts;
 use esto_constraint::rules_are_sound;
+use esto_prov::matched_sets_are_contained;
 use esto_query::queries_are_sound;
 use esto_semantics::{
     an_expansion_means_the_same, an_expansion_of_a_plan_expands_its_candidates,
@@ -17,7 +18,7 @@ use esto_semantics::{
     listed_sets_are_minimal, rewritings_map_onto_sets,
 };
 use esto_views::plans_are_sound;
-use esto_world_laws::{matched_sets_are_contained, matches_decide_containment};
+use esto_world_laws::matches_decide_containment;
 
 /// A law: each query over fragments that is an executable rewriting of a satisfiable query maps to a universal plan of
 /// it, head to head, and onto a set of the plan's atoms that has one of the sets within it, where these are exactly the

@@ -17,7 +17,7 @@ use Rattle.esto_prov.specs.declared.why.Why.{Why, fold-roll-Why}
 use Rattle.esto_prov.specs.declared.why.Why.TheOpen.{Why-F}
 use Rattle.esto_prov.specs.declared.why.Why.TheVariants as why
 use Rattle.esto_prov.specs.declared.why.Why.TheVariants.{rolls-Expanded, rolls-Same, rolls-Step}
-use Rattle.esto_views.specs.declared.expansion.ExpandedFact.{ExpandedFact}
+use Rattle.esto_query.specs.declared.expanded.ExpandedFact.{ExpandedFact}
 use Rattle.esto_world_laws.specs.Worlds.{Linked, here, along, back}
 use Rattle.esto_world_laws.specs.Matches.{match_map, IsMatch}
 use Rattle.esto_world_laws.specs.declared.entry.Claim.{Claim}

@@ -23,8 +23,8 @@ use Rattle.esto_semantics.proofs.TermLemmas.{Const-apart-Plain, decided_term}
 use Rattle.esto_views.specs.Expanded.{placed, AreExpanded, Expands}
 use Rattle.esto_views.specs.Fragments.{views_of}
 use Rattle.esto_views.specs.Plans.{fact_of as atom_of}
-use Rattle.esto_views.specs.Spreads.{IsSpread}
-use Rattle.esto_views.specs.declared.expansion.ExpandedFact.{ExpandedFact}
+use Rattle.esto_query.specs.Spreads.{IsSpread}
+use Rattle.esto_query.specs.declared.expanded.ExpandedFact.{ExpandedFact}
 use Rattle.esto_views.specs.declared.fragments.FragmentDef.{FragmentDef}
 use Rattle.esto_views.specs.declared.plan.Plan.{Plan}
 use Rattle.esto_views.specs.declared.plan.PlanAtom.{PlanAtom}

@@ -19,7 +19,7 @@ use Rattle.esto_semantics.proofs.SetLemmas.{has_united}
 use Rattle.esto_semantics.proofs.TermLemmas.{decided_term}
 use Rattle.esto_semantics.proofs.FactLemmas.{decided_fact}
 use Rattle.esto_chase_laws.specs.Making.{extended}
-use Rattle.esto_views.specs.declared.expansion.ExpandedFact.{ExpandedFact}
+use Rattle.esto_query.specs.declared.expanded.ExpandedFact.{ExpandedFact}
 use Rattle.esto_world_laws.specs.Worlds.{InWorld, Linked, here, along, back}
 use Rattle.esto_world_laws.specs.Matches.{Touching, match_map, IsMatch}
 use Rattle.esto_world_laws.specs.Steps.{IsAsked, IsCovered}

@@ -8,7 +8,7 @@ use Rattle.esto_semantics.specs.Rules.{Rule, tuple, equality, denial, body_of}
 use Rattle.esto_semantics.specs.Sets.{Has}
 use Rattle.esto_semantics.specs.declared.fact.Fact.{Fact}
 use Rattle.esto_chase_laws.specs.Making.{extended}
-use Rattle.esto_views.specs.declared.expansion.ExpandedFact.{ExpandedFact}
+use Rattle.esto_query.specs.declared.expanded.ExpandedFact.{ExpandedFact}
 use Rattle.esto_world_laws.specs.Worlds.{Linked}
 use Rattle.esto_world_laws.specs.Matches.{match_map, IsMatch}
 use Rattle.esto_world_laws.specs.declared.entry.Claim.{Claim}

@@ -14,10 +14,10 @@ use Rattle.esto_prov.specs.declared.why.Why.{Why}
 use Rattle.esto_views.specs.Expanded.{AreExpanded}
 use Rattle.esto_views.specs.Fragments.{views_of}
 use Rattle.esto_views.specs.Plans.{plan_query}
-use Rattle.esto_views.specs.declared.expansion.ExpandedFact.{ExpandedFact}
+use Rattle.esto_query.specs.declared.expanded.ExpandedFact.{ExpandedFact}
 use Rattle.esto_views.specs.declared.fragments.FragmentDef.{FragmentDef}
 use Rattle.esto_views.specs.declared.plan.Plan.{Plan}
-use Rattle.esto_world_laws.specs.Contained.{IsSafelyContained}
+use Rattle.esto_prov.specs.Contained.{IsSafelyContained}
 use Rattle.esto_world_laws.specs.Matches.{match_map}
 use Rattle.esto_world_laws.specs.Worlds.{Linked}
 use Rattle.esto_world_laws.specs.declared.entry.Claim.{Claim}

@@ -18,10 +18,9 @@ use crate::reading::read_line;
 use esto_bits::RowBits;
 use esto_constraint::{Constraint, Egd, Tgd, frontier_of};
 use esto_prov::{made_fact, taken_term, taken_terms};
-use esto_query::Query;
+use esto_query::{ExpandedFact, Query};
 use esto_semantics::Atom;
 use esto_term::{OutOfMemory, Replicate, Term};
-use esto_views::ExpandedFact;
 use esto_world_laws::Claim;
 use std::alloc::Global;
 

@@ -2,9 +2,10 @@
 ghost use Rattle.esto_cert.specs.Showing.{AcceptedCertificatesDerive, AcceptedCertificatesShow, VerdictsAreMoved, VerdictsAreOne};
 
 use esto_constraint::rules_are_sound;
+use esto_prov::matched_sets_are_contained;
 use esto_query::queries_are_sound;
 use esto_views::plans_are_sound;
-use esto_world_laws::{derived_entries_are_sound, matched_sets_are_contained};
+use esto_world_laws::derived_entries_are_sound;
 
 /// A law: where a certificate for a set of a plan's atoms is accepted, the set is safe, and its candidate is contained in
 /// the query under the rules.

@@ -11,7 +11,7 @@ use Rattle.esto_semantics.specs.Sets.{Has, Within, Covers, united}
 use Rattle.esto_semantics.proofs.SetLemmas.{has_united, length-united}
 use Rattle.esto_term.proofs.ListLemmas.{Contains-nil, Contains-head, Contains-rest, Contains-cases, Contains-at, place-from_Contains}
 use Rattle.esto_term.proofs.PlaceLemmas.{take-item, Contains-take, item_at}
-use Rattle.esto_views.specs.declared.expansion.ExpandedFact.{ExpandedFact}
+use Rattle.esto_query.specs.declared.expanded.ExpandedFact.{ExpandedFact}
 use Rattle.esto_bits.specs.Kept.{Kept, CoversAlso}
 use Rattle.esto_world_laws.specs.Claims.{AreSameClaim}
 use Rattle.esto_world_laws.specs.Worlds.{InWorld, AreOfCount, SaysOne}

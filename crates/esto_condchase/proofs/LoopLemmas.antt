@@ -12,7 +12,7 @@ use Rattle.esto_semantics.specs.Sets.{Has}
 use Rattle.esto_semantics.specs.declared.fact.Fact.{Fact}
 use Rattle.esto_term.specs.declared.term.Term.{Term}
 use Rattle.esto_term.proofs.ListLemmas.{Contains-nil}
-use Rattle.esto_views.specs.declared.expansion.ExpandedFact.{ExpandedFact}
+use Rattle.esto_query.specs.declared.expanded.ExpandedFact.{ExpandedFact}
 use Rattle.esto_world_laws.specs.Worlds.{InWorld}
 use Rattle.esto_world_laws.specs.Steps.{AreAnswered, AreJoined}
 use Rattle.esto_world_laws.specs.Derived.{AreDerived}
@@ -21,7 +21,7 @@ use Rattle.esto_semantics.specs.Rules.{AreRules}
 use Rattle.esto_semantics.proofs.AccessLemmas.{none_has}
 use Rattle.esto_term.specs.Nesting.{greatest_u64}
 use Rattle.esto_chase_laws.specs.Bounds.{RanksRise}
-use Rattle.esto_views.specs.Expanded.{facts_of}
+use Rattle.esto_query.specs.Expanded.{facts_of}
 use Rattle.esto_world_laws.specs.Bounds.{most_entries}
 use Rattle.esto_world_laws.specs.Laws.{AreGiven, DerivedEntriesAreFew}
 use Rattle.esto_world_laws.specs.declared.entry.Claim.TheVariants.{Fact as Stated}

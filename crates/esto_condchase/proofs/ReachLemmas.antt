@@ -17,7 +17,7 @@ use Rattle.esto_semantics.specs.Facts.{terms_of}
 use Rattle.esto_semantics.specs.Sets.{Within, Covers}
 use Rattle.esto_semantics.specs.declared.fact.Fact.{Fact}
 use Rattle.esto_semantics.proofs.TermLemmas.{same_term-Decides}
-use Rattle.esto_views.specs.Spreads.{substituted}
+use Rattle.esto_query.specs.Spreads.{substituted}
 use Rattle.esto_world_laws.specs.Claims.{AreSameClaim}
 use Rattle.esto_world_laws.specs.Laws.{HasMatch}
 use Rattle.esto_world_laws.specs.Matches.{taken, Touching, Fits, AreChosen}

@@ -15,7 +15,7 @@ use Rattle.esto_term.proofs.ListLemmas.{map_at, map_agree, Contains-flat, Contai
 use Rattle.esto_term.proofs.ZipLemmas.{zip_weaker}
 use Rattle.esto_constraint.specs.Constraints.{rule_of, rules_of}
 use Rattle.esto_constraint.specs.declared.rule.Constraint.{Constraint}
-use Rattle.esto_views.specs.declared.expansion.ExpandedFact.{ExpandedFact}
+use Rattle.esto_query.specs.declared.expanded.ExpandedFact.{ExpandedFact}
 use Rattle.esto_world_laws.specs.Worlds.{InWorld, Linked}
 use Rattle.esto_world_laws.specs.Matches.{taken, Touching, AreChosen, match_map}
 use Rattle.esto_chase_laws.specs.Making.{is_variable_level, is_variable_of, frontier, made_for, extended}

@@ -12,7 +12,7 @@ use Rattle.esto_term.specs.declared.term.Term.{Term}
 use Rattle.esto_term.specs.Order.{same_term}
 use Rattle.esto_term.specs.Kinds.{IsConstant}
 use Rattle.esto_semantics.proofs.TermLemmas.{same_term-Decides}
-use Rattle.esto_views.specs.Spreads.{substituted}
+use Rattle.esto_query.specs.Spreads.{substituted}
 use Rattle.esto_semantics.specs.Sets.{Within, united}
 use Rattle.esto_semantics.specs.declared.fact.Fact.{Fact}
 use Rattle.esto_semantics.proofs.SetLemmas.{length-united}

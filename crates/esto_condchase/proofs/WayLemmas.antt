@@ -13,8 +13,8 @@ use Rattle.std.specs.Bool.{Decides}
 use Rattle.std.specs.Set.{is_member}
 use Rattle.std.proofs.lemmas.Map.Made.{is_member-Decides}
 use Rattle.std.proofs.lemmas.Bool.{false≢true}
-use Rattle.esto_views.specs.Spreads.{substituted}
-use Rattle.esto_views.proofs.SubstitutionLemmas.{substituted-outside}
+use Rattle.esto_query.specs.Spreads.{substituted}
+use Rattle.esto_query.proofs.SubstitutionLemmas.{substituted-outside}
 use Rattle.esto_semantics.specs.Sets.{Has, Within, united}
 use Rattle.esto_semantics.specs.declared.fact.Fact.{Fact}
 use Rattle.esto_term.proofs.ListLemmas.{Contains-nil, Contains-head, Contains-rest, Contains-one, map_agree}

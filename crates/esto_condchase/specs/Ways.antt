@@ -7,7 +7,7 @@ use Rattle.esto_semantics.specs.Sets.{Within}
 use Rattle.esto_semantics.specs.declared.fact.Fact.{Fact}
 use Rattle.esto_world_laws.specs.Worlds.{InWorld, SaysOne}
 use Rattle.esto_semantics.specs.Facts.{terms_of}
-use Rattle.esto_views.specs.Spreads.{substituted}
+use Rattle.esto_query.specs.Spreads.{substituted}
 use Rattle.esto_world_laws.specs.Matches.{IsLike, taken, Touching, Fits, IsDirectMatch}
 use Rattle.esto_world_laws.specs.Derived.{Claims, IsNamed, IsUnion, IsEquality}
 use Rattle.esto_world_laws.specs.declared.entry.Claim.{Claim}

@@ -6,8 +6,8 @@ ghost use Rattle.esto_semantics.specs.Sets.{Has};
 ghost use Rattle.esto_constraint.specs.Constraints.{rules_of};
 ghost use Rattle.esto_constraint.specs.Graphs.{IsWithin, AreRanks};
 ghost use Rattle.esto_constraint.specs.Relations.{IsEdge};
-ghost use Rattle.esto_views.specs.Expanded.{facts_of};
-ghost use Rattle.esto_views.specs.declared.expansion.ExpandedFact.{ExpandedFact};
+ghost use Rattle.esto_query.specs.Expanded.{facts_of};
+ghost use Rattle.esto_query.specs.declared.expanded.ExpandedFact.{ExpandedFact};
 ghost use Rattle.esto_world_laws.specs.Derived.{AreDerived};
 ghost use Rattle.esto_world_laws.specs.Laws.{AreGiven, IsSound, IsReceivedNowhere, IsDatabase, AreNestedWithin};
 ghost use Rattle.esto_world_laws.specs.Steps.{AreAnswered, AreJoined};
@@ -21,8 +21,8 @@ use esto_bits::RowBits;
 use esto_constraint::{Constraint, Ranks, Rules, ranks_rise, rules_are_sound};
 use esto_known::Known;
 use esto_prov::Entries;
+use esto_query::{ExpandedFact, ExpandedFacts};
 use esto_term::{List, OutOfMemory, Replicate};
-use esto_views::{ExpandedFact, ExpandedFacts};
 use esto_world_laws::{
     Claim, Entry, Reason, closed_worlds_are_databases, complete_entries_are_closed,
     derived_entries_are_bounded, derived_entries_are_reasoned, derived_entries_are_sound,

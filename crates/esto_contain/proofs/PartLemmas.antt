@@ -13,7 +13,7 @@ use Rattle.esto_semantics.specs.Rules.{Rule, AreRules}
 use Rattle.esto_semantics.specs.Sets.{Covers, IsMinimal}
 use Rattle.esto_bits.specs.Kept.{AreOver, IsAntichain}
 use Rattle.esto_bits.proofs.FamilyLemmas.{antichain_is_minimal}
-use Rattle.esto_views.specs.declared.expansion.ExpandedFact.{ExpandedFact}
+use Rattle.esto_query.specs.declared.expanded.ExpandedFact.{ExpandedFact}
 use Rattle.esto_world_laws.specs.Derived.{AreDerived}
 use Rattle.esto_world_laws.specs.Laws.{AreFactsOf, AreGiven, HasGivenHead, HasMatch, IsReceivedNowhere, IsSound, RestsOn}
 use Rattle.esto_world_laws.specs.Laws.{ContainmentShowsMatches, MatchesRestOnAtoms, MatchesShowContainment}

@@ -28,7 +28,7 @@ use esto_condchase::{chase_with_products, products_of_matches};
 use esto_constraint::rules_are_sound;
 use esto_instance::Instance;
 use esto_plan_laws::{maps_between_plans_compose, renamed_plans_are_alike};
-use esto_query::{Atom, Facts, Names, Query, queries_are_sound};
+use esto_query::{Atom, ExpandedFact, ExpandedFacts, Facts, Names, Query, queries_are_sound};
 use esto_semantics::{
     chosen_atoms_are_named, parts_of_an_instance_contain_the_query,
     universal_instances_satisfy_queries,
@@ -37,7 +37,7 @@ use esto_term::{List, OutOfMemory, Replicate, Terms};
 use esto_universal::{
     plan_facts, plans_tell_satisfiable_queries, renamed_plan, renamed_plans_are_one,
 };
-use esto_views::{ExpandedFact, ExpandedFacts, plans_are_sound};
+use esto_views::plans_are_sound;
 use esto_world_laws::{matches_decide_containment, matches_rest_on_atoms};
 use std::alloc::Global;
 

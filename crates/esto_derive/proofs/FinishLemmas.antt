@@ -20,7 +20,7 @@ use Rattle.esto_derive.specs.Searching.{ClaimsIn, IsFound, AreLinks}
 use Rattle.esto_derive.specs.Writing.{IsBasis, IsMatchAt, IsWritten, WritesMatch, terms_at}
 use Rattle.esto_constraint.specs.Constraints.{rules_of}
 use Rattle.esto_constraint.specs.declared.rule.Constraint.{Constraint}
-use Rattle.esto_views.specs.declared.expansion.ExpandedFact.{ExpandedFact}
+use Rattle.esto_query.specs.declared.expanded.ExpandedFact.{ExpandedFact}
 use Rattle.esto_derive.proofs.LoopLemmas.{terms_stated}
 use Rattle.esto_derive.proofs.MatchLemmas.{match_at, some_go_on}
 

@@ -2,7 +2,7 @@
 ghost use Rattle.std.specs.Prelude.{◌≡◌, ◌<◌, ◌++◌, ℕ, List, Contains, None, length, IfOk};
 ghost use Rattle.esto_constraint.specs.Constraints.{rules_of};
 ghost use Rattle.esto_query.specs.Making.{query_of};
-ghost use Rattle.esto_views.specs.declared.expansion.ExpandedFact.{ExpandedFact};
+ghost use Rattle.esto_query.specs.declared.expanded.ExpandedFact.{ExpandedFact};
 ghost use Rattle.esto_semantics.specs.Facts.{terms_of};
 ghost use Rattle.esto_world_laws.specs.Derived.{AreDerived, IsNamed};
 ghost use Rattle.esto_world_laws.specs.Laws.{AreReasoned, HasMatch};

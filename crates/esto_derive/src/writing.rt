@@ -3,7 +3,7 @@ ghost use Rattle.std.specs.Prelude.{◌≡◌, ◌+◌, ◌++◌, ◌<◌, ◌�
 ghost use Rattle.esto_constraint.specs.Constraints.{rule_of, rules_of};
 ghost use Rattle.esto_semantics.specs.Facts.{terms_of};
 ghost use Rattle.esto_semantics.specs.Rules.{body_of};
-ghost use Rattle.esto_views.specs.declared.expansion.ExpandedFact.{ExpandedFact};
+ghost use Rattle.esto_query.specs.declared.expanded.ExpandedFact.{ExpandedFact};
 ghost use Rattle.esto_world_laws.specs.Derived.{AreDerived};
 ghost use Rattle.esto_world_laws.specs.Matches.{taken};
 ghost use Rattle.esto_world_laws.specs.Steps.{IsAsked};

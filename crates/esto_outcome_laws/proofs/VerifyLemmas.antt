@@ -34,12 +34,12 @@ use Rattle.esto_term.specs.declared.term.Term.TheVariants.{Plain}
 use Rattle.esto_views.proofs.ExpandedLemmas.{plan_expands}
 use Rattle.esto_views.proofs.FlatLemmas.{expanded-flat}
 use Rattle.esto_views.proofs.InnerLemmas.{AreInnerBelow, inner-from_parts, inner_all, inner_none, inner_skips, inner_takes}
-use Rattle.esto_views.proofs.SubstitutionLemmas.{spread_is}
+use Rattle.esto_query.proofs.SubstitutionLemmas.{spread_is}
 use Rattle.esto_views.specs.Expanded.{AreExpanded, placed}
 use Rattle.esto_views.specs.Fragments.{IsFragment}
 use Rattle.esto_views.specs.Plans.{IsAtomOver, IsPlanOver}
-use Rattle.esto_views.specs.Spreads.{IsSpread, substituted}
-use Rattle.esto_views.specs.declared.expansion.ExpandedFact.{ExpandedFact}
+use Rattle.esto_query.specs.Spreads.{IsSpread, substituted}
+use Rattle.esto_query.specs.declared.expanded.ExpandedFact.{ExpandedFact}
 use Rattle.esto_views.specs.declared.fragments.FragmentDef.{FragmentDef}
 use Rattle.esto_views.specs.declared.plan.Plan.{Plan}
 use Rattle.esto_views.specs.declared.plan.PlanAtom.{PlanAtom}

@@ -9,7 +9,7 @@ use Rattle.esto_term.proofs.ZipLemmas.{zip_left, zip_length, zip_right, zip_weak
 use Rattle.esto_semantics.specs.Facts.{terms_of}
 use Rattle.esto_semantics.specs.Rules.{Rule, body_of}
 use Rattle.esto_semantics.specs.declared.fact.Fact.{Fact}
-use Rattle.esto_views.specs.declared.expansion.ExpandedFact.{ExpandedFact}
+use Rattle.esto_query.specs.declared.expanded.ExpandedFact.{ExpandedFact}
 use Rattle.esto_world_laws.specs.Derived.{AreDerived, Claims, Follows, FollowsBy, IsChain, IsNamed}
 use Rattle.esto_world_laws.specs.Matches.{taken}
 use Rattle.esto_world_laws.specs.Worlds.{Linked}

@@ -1,3 +1,4 @@
 pub mod Derivations
 pub mod Products
 pub mod Taking
+pub mod Contained

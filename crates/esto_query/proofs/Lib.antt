@@ -17,3 +17,4 @@ pub mod MisfitLemmas
 pub mod OrderLemmas
 pub mod ActiveLemmas
 pub mod LeastActiveLemmas
+pub mod SubstitutionLemmas

@@ -13,3 +13,5 @@ pub mod Tables
 pub mod Indexes
 pub mod Orders
 pub mod Active
+pub mod Expanded
+pub mod Spreads

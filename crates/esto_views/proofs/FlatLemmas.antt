@@ -11,10 +11,11 @@ use Rattle.esto_semantics.proofs.TermLemmas.{Const-apart-Plain, decided_term}
 use Rattle.esto_query.specs.Making.{query_of}
 use Rattle.esto_query.specs.Soundness.{IsSound}
 use Rattle.esto_query.specs.declared.query.Query.{Query}
-use Rattle.esto_views.specs.Expanded.{Expands, facts_of}
+use Rattle.esto_views.specs.Expanded.{Expands}
+use Rattle.esto_query.specs.Expanded.{facts_of}
 use Rattle.esto_views.specs.Plans.{fact_of, plan_query}
 use Rattle.esto_views.specs.Soundness.{IsNamed, IsSoundPlan}
-use Rattle.esto_views.specs.declared.expansion.ExpandedFact.{ExpandedFact}
+use Rattle.esto_query.specs.declared.expanded.ExpandedFact.{ExpandedFact}
 use Rattle.esto_views.specs.declared.fragments.FragmentDef.{FragmentDef}
 use Rattle.esto_views.specs.declared.plan.Plan.{Plan}
 

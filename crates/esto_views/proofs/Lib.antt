@@ -1,6 +1,5 @@
 pub mod SoundLemmas
 pub mod InnerLemmas
-pub mod SubstitutionLemmas
 pub mod ExpandedLemmas
 pub mod PatternLemmas
 pub mod FlatLemmas

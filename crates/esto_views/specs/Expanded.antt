@@ -7,11 +7,12 @@ use Rattle.esto_semantics.specs.declared.fact.Fact.{Fact}
 use Rattle.esto_query.specs.Making.{query_of}
 use Rattle.esto_views.specs.Fragments.{views_of}
 use Rattle.esto_views.specs.Plans.{plan_query}
-use Rattle.esto_views.specs.Spreads.{IsSpread}
-use Rattle.esto_views.specs.declared.expansion.ExpandedFact.{ExpandedFact}
+use Rattle.esto_query.specs.Spreads.{IsSpread}
+use Rattle.esto_query.specs.declared.expanded.ExpandedFact.{ExpandedFact}
 use Rattle.esto_views.specs.declared.fragments.FragmentDef.{FragmentDef}
 use Rattle.esto_views.specs.declared.plan.PlanAtom.{PlanAtom}
 use Rattle.esto_views.specs.declared.plan.Plan.{Plan}
+use Rattle.esto_query.specs.Expanded.{facts_of}
 
 -- The facts as those of an atom, one a place, from that place on.
 abbrev pub placed : ℕ → ℕ → List (Fact Term) → List ExpandedFact
@@ -27,10 +28,6 @@ AreExpanded fragments number first (atom ∷ atoms) expanded =
     × ((next : ℕ) × ((m : Term → Term) × IsSpread (query_of fragment.view) atom.terms first next m
     × ((rest : List ExpandedFact) × (expanded ≡ placed number 0 (map (image m) fragment.view.body) ++ rest)
     × AreExpanded fragments (number + 1) next atoms rest)))
-
--- The facts alone.
-abbrev pub facts_of : List ExpandedFact → List (Fact Term)
-facts_of expanded = map (λ fact. fact.fact) expanded
 
 -- The expanded facts are an expansion of the plan, and each says of which atom it is, and of which place of the view's body: the fact at a place of an atom
 -- is the image of what stands there in the body.

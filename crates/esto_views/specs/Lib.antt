@@ -1,5 +1,4 @@
 pub mod Fragments
 pub mod Soundness
 pub mod Plans
-pub mod Spreads
 pub mod Expanded

@@ -5,41 +5,20 @@ ghost use Rattle.esto_semantics.specs.Expansions.{FitsViews};
 ghost use Rattle.esto_semantics.specs.Facts.{image};
 ghost use Rattle.esto_semantics.specs.Maps.{AreFlat};
 ghost use Rattle.esto_query.specs.Making.{query_of};
-ghost use Rattle.esto_views.specs.Expanded.{placed, facts_of, AreExpanded, Expands};
+ghost use Rattle.esto_views.specs.Expanded.{placed, AreExpanded, Expands};
+ghost use Rattle.esto_query.specs.Expanded.{facts_of};
 ghost use Rattle.esto_views.specs.Fragments.{views_of};
 ghost use Rattle.esto_views.specs.Plans.{plan_query, IsAtomOver, IsPlanOver};
-ghost use Rattle.esto_views.specs.Spreads.{IsSpread, substituted};
+ghost use Rattle.esto_query.specs.Spreads.{IsSpread, substituted};
 ghost use Rattle.esto_views.specs.declared.fragments.FragmentDef.{FragmentDef};
 ghost use Rattle.esto_views.specs.declared.plan.Plan.{Plan};
 
+use esto_query::{Atom, ExpandedFact, ExpandedFacts, queries_are_sound};
 use crate::fragments::FragmentDefs;
 use crate::plan::{Plan, PlanAtom, plans_are_sound};
 use crate::spread::{Spread, spread_of};
-use esto_query::{Atom, queries_are_sound};
-use esto_term::{List, OutOfMemory, Replicate};
+use esto_term::{List, OutOfMemory};
 use std::alloc::Global;
-
-/// A fact of an expansion, with the number of the plan's atom that it comes from, and its place in the body of
-/// that atom's view.
-#[derive(Drop)]
-pub struct ExpandedFact {
-    pub atom: usize,
-    pub place: usize,
-    pub fact: Atom,
-}
-
-/// The facts of an expansion.
-pub type ExpandedFacts = List<ExpandedFact>;
-
-impl Replicate for ExpandedFact {
-    fn copy(&self, alloc: Global) -> Result<ExpandedFact, OutOfMemory> {
-        Ok(ExpandedFact {
-            atom: self.atom,
-            place: self.place,
-            fact: self.fact.copy(alloc)?,
-        })
-    }
-}
 
 /// Adds the facts of the atom of that number: its view's body, place by place, with what each term stands for.
 fn push_facts(

@@ -9,7 +9,7 @@ mod order;
 mod plan;
 mod spread;
 
-pub use expansion::{ExpandedFact, ExpandedFacts, expand, plans_fit_views};
+pub use expansion::{expand, plans_fit_views};
 pub use fragments::{Access, AccessList, FragmentDef, FragmentDefs, rows_of_view};
 pub use order::Order;
 pub use plan::{Plan, PlanAtom, PlanAtoms, plans_are_sound};

@@ -23,8 +23,8 @@ use Rattle.esto_chase_laws.specs.Making.{frontier, extended}
 use Rattle.esto_chase_laws.proofs.LowLemmas.{Serves, IsLow, above_le}
 use Rattle.esto_chase_laws.proofs.MakingLemmas.{terms_of-Mentions, frontier_body, extended-flat}
 use Rattle.esto_chase_laws.proofs.StockLemmas.{stock-Serves, flat_longer}
-use Rattle.esto_views.specs.Expanded.{facts_of}
-use Rattle.esto_views.specs.declared.expansion.ExpandedFact.{ExpandedFact}
+use Rattle.esto_query.specs.Expanded.{facts_of}
+use Rattle.esto_query.specs.declared.expanded.ExpandedFact.{ExpandedFact}
 use Rattle.esto_world_laws.specs.Bounds.{start_from, relations_of, head_relations, claimed_relations}
 use Rattle.esto_world_laws.specs.Matches.{AreChosen, match_map, IsMatch}
 use Rattle.esto_world_laws.specs.Steps.{IsAsked}

@@ -11,7 +11,7 @@ use Rattle.esto_semantics.specs.Queries.{ConjunctiveQuery}
 use Rattle.esto_semantics.specs.Rules.{Rule, AreRules}
 use Rattle.esto_semantics.specs.declared.fact.Fact.{Fact}
 use Rattle.esto_semantics.proofs.FactLemmas.{image_then}
-use Rattle.esto_views.specs.declared.expansion.ExpandedFact.{ExpandedFact}
+use Rattle.esto_query.specs.declared.expanded.ExpandedFact.{ExpandedFact}
 use Rattle.esto_world_laws.specs.Laws.{AreFactsOf, AreGiven, HasGivenHead, HasMatch, IsSound, MatchesShowContainment, ContainmentShowsMatches}
 use Rattle.esto_world_laws.specs.Worlds.{InWorld, IsBroken, IsClosed, IsDenied, Linked}
 use Rattle.esto_world_laws.specs.declared.entry.Claim.{Claim}

@@ -16,8 +16,8 @@ use Rattle.esto_semantics.specs.declared.fact.Fact.{Fact}
 use Rattle.esto_semantics.proofs.SetLemmas.{within_refl, all_sets_are_listed}
 use Rattle.esto_chase_laws.specs.Bounds.{width_of, run_terms}
 use Rattle.esto_chase_laws.proofs.LowLemmas.{IsLow}
-use Rattle.esto_views.specs.Expanded.{facts_of}
-use Rattle.esto_views.specs.declared.expansion.ExpandedFact.{ExpandedFact}
+use Rattle.esto_query.specs.Expanded.{facts_of}
+use Rattle.esto_query.specs.declared.expanded.ExpandedFact.{ExpandedFact}
 use Rattle.esto_world_laws.specs.Bounds.{start_from, claimed_relations, rows_over, pairs_over, most_claims, claimed_sets}
 use Rattle.esto_world_laws.specs.Worlds.{InWorld}
 use Rattle.esto_world_laws.specs.Steps.{IsCovered}

@@ -3,7 +3,7 @@ use Rattle.std.proofs.Common.{◌≡◌, ◌<◌, zero, suc, ℕ, Bool, List, ta
 use Rattle.esto_term.proofs.ListLemmas.{place-from_Contains}
 use Rattle.esto_term.proofs.PlaceLemmas.{Contains-take_from}
 use Rattle.esto_semantics.specs.Rules.{Rule}
-use Rattle.esto_views.specs.declared.expansion.ExpandedFact.{ExpandedFact}
+use Rattle.esto_query.specs.declared.expanded.ExpandedFact.{ExpandedFact}
 use Rattle.esto_world_laws.specs.Derived.{Follows, AreDerived}
 use Rattle.esto_world_laws.specs.declared.entry.Claim.{Claim}
 use Rattle.esto_world_laws.specs.declared.entry.Reason.{Reason}

@@ -12,5 +12,4 @@ pub mod MatchLemmas
 pub mod ContainLemmas
 pub mod RestLemmas
 pub mod MatchRestLemmas
-mod ContainedLemmas
 pub mod ClaimLemmas

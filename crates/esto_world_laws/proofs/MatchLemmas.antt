@@ -8,7 +8,7 @@ use Rattle.esto_semantics.specs.Rules.{Rule}
 use Rattle.esto_semantics.specs.declared.fact.Fact.{Fact}
 use Rattle.esto_term.proofs.ListLemmas.{Contains-head, Contains-rest}
 use Rattle.esto_term.proofs.ZipLemmas.{zip_weaker}
-use Rattle.esto_views.specs.declared.expansion.ExpandedFact.{ExpandedFact}
+use Rattle.esto_query.specs.declared.expanded.ExpandedFact.{ExpandedFact}
 use Rattle.esto_world_laws.specs.Worlds.{InWorld, Linked}
 use Rattle.esto_world_laws.specs.Matches.{Touching, match_map}
 use Rattle.esto_world_laws.specs.Derived.{Follows}

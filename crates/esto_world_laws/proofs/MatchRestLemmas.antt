@@ -8,7 +8,7 @@ use Rattle.esto_semantics.specs.Maps.{IsFixedBy, Keeps, SendsInto}
 use Rattle.esto_semantics.specs.Rules.{Rule, AreRules}
 use Rattle.esto_semantics.specs.declared.fact.Fact.{Fact}
 use Rattle.esto_semantics.proofs.TermLemmas.{Const-apart-Plain}
-use Rattle.esto_views.specs.declared.expansion.ExpandedFact.{ExpandedFact}
+use Rattle.esto_query.specs.declared.expanded.ExpandedFact.{ExpandedFact}
 use Rattle.esto_world_laws.specs.Derived.{AreDerived}
 use Rattle.esto_world_laws.specs.Laws.{IsAbout, RestsOn, MatchesRestOnAtoms}
 use Rattle.esto_world_laws.specs.Worlds.{InWorld, Linked, here, along, back, Reaches}

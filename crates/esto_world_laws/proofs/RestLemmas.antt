@@ -16,7 +16,7 @@ use Rattle.esto_semantics.proofs.TermLemmas.{Const-apart-Plain, Plain-apart-Made
 use Rattle.esto_semantics.proofs.RuleLemmas.{has_body}
 use Rattle.esto_chase_laws.specs.Making.{extended}
 use Rattle.esto_chase_laws.proofs.MakingLemmas.{extended-flat, terms_of-Mentions}
-use Rattle.esto_views.specs.declared.expansion.ExpandedFact.{ExpandedFact}
+use Rattle.esto_query.specs.declared.expanded.ExpandedFact.{ExpandedFact}
 use Rattle.esto_world_laws.specs.Matches.{AreChosen, match_map, IsMatch}
 use Rattle.esto_world_laws.specs.Steps.{IsAsked}
 use Rattle.esto_world_laws.specs.Derived.{Claims, FollowsBy, Follows, IsChain, IsNamed, IsUnion}

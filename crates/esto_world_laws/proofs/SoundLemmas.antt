@@ -19,8 +19,8 @@ use Rattle.esto_semantics.specs.declared.fact.Value.TheVariants.{Text}
 use Rattle.esto_semantics.proofs.FactLemmas.{image_then, image_agree}
 use Rattle.esto_chase_laws.specs.Making.{frontier, extended}
 use Rattle.esto_chase_laws.proofs.MakingLemmas.{frontier_body, frontier_has, extended-flat}
-use Rattle.esto_views.specs.Expanded.{facts_of}
-use Rattle.esto_views.specs.declared.expansion.ExpandedFact.{ExpandedFact}
+use Rattle.esto_query.specs.Expanded.{facts_of}
+use Rattle.esto_query.specs.declared.expanded.ExpandedFact.{ExpandedFact}
 use Rattle.esto_world_laws.specs.Worlds.{InWorld, Linked, IsBroken, IsDenied}
 use Rattle.esto_world_laws.specs.Matches.{AreChosen, match_map, IsMatch}
 use Rattle.esto_world_laws.specs.Steps.{IsAsked}

@@ -9,7 +9,7 @@ use Rattle.esto_term.proofs.ListLemmas.{Contains-nil, Contains-head, Contains-re
 use Rattle.esto_term.proofs.ZipLemmas.{zip_append, zip_split}
 use Rattle.esto_term.specs.Order.{same_term}
 use Rattle.esto_semantics.proofs.TermLemmas.{term_cases, same_term-Decides}
-use Rattle.esto_views.specs.Spreads.{substituted}
+use Rattle.esto_query.specs.Spreads.{substituted}
 use Rattle.esto_world_laws.specs.Matches.{unless_constant, taken, Fits}
 
 -- a constant meets itself first; of every other term the first place tells

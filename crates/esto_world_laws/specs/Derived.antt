@@ -5,7 +5,7 @@ use Rattle.esto_term.specs.declared.term.Term.{Term}
 use Rattle.esto_semantics.specs.Rules.{Rule, body_of}
 use Rattle.esto_semantics.specs.Sets.{Has}
 use Rattle.esto_semantics.specs.declared.fact.Fact.{Fact}
-use Rattle.esto_views.specs.declared.expansion.ExpandedFact.{ExpandedFact}
+use Rattle.esto_query.specs.declared.expanded.ExpandedFact.{ExpandedFact}
 use Rattle.esto_world_laws.specs.Worlds.{InWorld}
 use Rattle.esto_world_laws.specs.Matches.{match_map, IsMatch}
 use Rattle.esto_world_laws.specs.Steps.{IsAsked, IsCovered}

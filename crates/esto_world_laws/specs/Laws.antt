@@ -15,8 +15,8 @@ use Rattle.esto_semantics.specs.declared.fact.Fact.{Fact}
 use Rattle.esto_semantics.specs.declared.fact.Value.{Value}
 use Rattle.esto_semantics.specs.declared.fact.Value.TheVariants.{Text, Node}
 use Rattle.esto_chase_laws.specs.Bounds.{RanksRise}
-use Rattle.esto_views.specs.Expanded.{facts_of}
-use Rattle.esto_views.specs.declared.expansion.ExpandedFact.{ExpandedFact}
+use Rattle.esto_query.specs.Expanded.{facts_of}
+use Rattle.esto_query.specs.declared.expanded.ExpandedFact.{ExpandedFact}
 use Rattle.esto_world_laws.specs.Bounds.{most_entries}
 use Rattle.esto_world_laws.specs.Worlds.{InWorld, AreOfCount, Linked, Reaches, IsClosed, IsBroken, IsDenied}
 use Rattle.esto_world_laws.specs.Matches.{Touching, match_map, IsDirectMatch}

@@ -5,4 +5,3 @@ pub mod Steps
 pub mod Derived
 pub mod Bounds
 pub mod Laws
-pub mod Contained

@@ -1,13 +1,10 @@
 //! Laws of entries and of their worlds.
-ghost use Rattle.esto_world_laws.specs.Contained.{MatchedSetsAreContained};
 ghost use Rattle.esto_world_laws.specs.Laws.{DerivedEntriesAreSound, BrokenWorldsAreReceivedNowhere, CompleteEntriesAreClosed, ClosedWorldsAreDatabases};
 ghost use Rattle.esto_world_laws.specs.Laws.{MatchesAreDirect, DerivedFactsNestWithinRanks, DerivedEntriesAreFew, DerivedEntriesAreReasoned};
 ghost use Rattle.esto_world_laws.specs.Laws.{MatchesShowContainment, ContainmentShowsMatches, DerivedClaimsRestOnAtoms, MatchesRestOnAtoms};
 
 use esto_semantics::{
-    an_expansion_means_the_same, an_expansion_of_a_plan_expands_its_candidates,
-    chosen_atoms_are_named, universal_instances_decide_containment,
-    what_follows_the_facts_follows_the_query,
+    universal_instances_decide_containment, what_follows_the_facts_follows_the_query,
 };
 
 /// A law: derived entries hold in every database that meets the rules. Each valuation that sends the expanded facts of a
@@ -59,18 +56,6 @@ pub fn derived_claims_rest_on_atoms()
 pub fn matches_rest_on_atoms()
     ensures { MatchesRestOnAtoms }
 {}
-
-/// A law: let entries be derived from a plan's expansion. A set of the plan's atoms whose sound world has a match of a query,
-/// with its head one with the plan's, has a candidate, which is safe and contained in the query under the rules.
-pub fn matched_sets_are_contained()
-    ensures { MatchedSetsAreContained }
-{
-    matches_decide_containment();
-    matches_rest_on_atoms();
-    chosen_atoms_are_named();
-    an_expansion_means_the_same();
-    an_expansion_of_a_plan_expands_its_candidates();
-}
 
 /// A law: under ranks that rise, the terms of derived facts nest no deeper than the ranks of their relations, and derived
 /// entries are no more than a bound.

@@ -12,6 +12,5 @@ pub use entry::{Chain, Claim, Entry, Reason};
 pub use laws::{
     closed_worlds_are_databases, complete_entries_are_closed, derived_claims_rest_on_atoms,
     derived_entries_are_bounded, derived_entries_are_reasoned, derived_entries_are_sound,
-    matched_sets_are_contained, matches_are_direct, matches_decide_containment,
-    matches_rest_on_atoms,
+    matches_are_direct, matches_decide_containment, matches_rest_on_atoms,
 };

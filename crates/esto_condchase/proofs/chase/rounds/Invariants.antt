@@ -1,7 +1,7 @@
 use Rattle.std.proofs.Common.{◌-◌, length, take}
 use Rattle.esto_constraint.specs.Constraints.{rules_of}
 use Rattle.esto_constraint.proofs.RankLemmas.{depth_of}
-use Rattle.esto_views.specs.Expanded.{facts_of}
+use Rattle.esto_query.specs.Expanded.{facts_of}
 use Rattle.esto_world_laws.specs.Bounds.{most_entries}
 use Rattle.esto_world_laws.specs.Derived.{AreDerived}
 use Rattle.esto_world_laws.specs.Laws.{AreGiven}

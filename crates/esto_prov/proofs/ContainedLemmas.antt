@@ -17,15 +17,16 @@ use Rattle.esto_semantics.specs.Sets.{Has}
 use Rattle.esto_semantics.specs.declared.fact.Fact.{Fact}
 use Rattle.esto_semantics.proofs.TermLemmas.{Const-apart-Made, Const-apart-Plain, decided_term, term_cases}
 use Rattle.esto_semantics.proofs.PlaceLemmas.{Has-within}
-use Rattle.esto_views.specs.Expanded.{Expands, facts_of}
+use Rattle.esto_views.specs.Expanded.{Expands}
+use Rattle.esto_query.specs.Expanded.{facts_of}
 use Rattle.esto_views.specs.Fragments.{views_of}
 use Rattle.esto_views.specs.Plans.{fact_of as atom_of, plan_query}
 use Rattle.esto_views.specs.Soundness.{IsSoundPlan}
-use Rattle.esto_views.specs.declared.expansion.ExpandedFact.{ExpandedFact}
+use Rattle.esto_query.specs.declared.expanded.ExpandedFact.{ExpandedFact}
 use Rattle.esto_views.specs.declared.fragments.FragmentDef.{FragmentDef}
 use Rattle.esto_views.specs.declared.plan.Plan.{Plan}
 use Rattle.esto_views.proofs.FlatLemmas.{named-flat}
-use Rattle.esto_world_laws.specs.Contained.{IsSafelyContained, MatchedSetsAreContained}
+use Rattle.esto_prov.specs.Contained.{IsSafelyContained, MatchedSetsAreContained}
 use Rattle.esto_world_laws.specs.Derived.{AreDerived}
 use Rattle.esto_world_laws.specs.Laws.{AreFactsOf, HasGivenHead, HasMatch, IsSound, RestsOn, MatchesRestOnAtoms, MatchesShowContainment}
 use Rattle.esto_world_laws.specs.Worlds.{InWorld}

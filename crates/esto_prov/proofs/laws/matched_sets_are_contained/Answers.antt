@@ -1,5 +1,5 @@
-use Rattle.esto_world_laws.proofs.ContainedLemmas.{matched_contained}
-use Rattle.esto_world_laws.proofs.laws.matched_sets_are_contained.Goals as goal
+use Rattle.esto_prov.proofs.ContainedLemmas.{matched_contained}
+use Rattle.esto_prov.proofs.laws.matched_sets_are_contained.Goals as goal
 
 pub returns : goal.returns
 returns c =

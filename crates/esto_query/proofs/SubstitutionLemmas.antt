@@ -13,7 +13,7 @@ use Rattle.esto_semantics.specs.Queries.{ConjunctiveQuery}
 use Rattle.esto_term.specs.Order.{same_term}
 use Rattle.esto_semantics.proofs.TermLemmas.{same_term-Decides, Const-apart-Plain, Plain-same}
 use Rattle.esto_term.proofs.DistinctLemmas.{distinct_head, distinct_rest}
-use Rattle.esto_views.specs.Spreads.{AreInner, IsSpread, substituted}
+use Rattle.esto_query.specs.Spreads.{AreInner, IsSpread, substituted}
 use Rattle.esto_term.proofs.ChoiceLemmas.{pairs_append}
 use Rattle.esto_term.proofs.ListLemmas.{Contains-at, Contains-map_from, at_left, at_right, map_at, map_by_places, range_at}
 use Rattle.esto_term.proofs.PlaceLemmas.{drop-there}

@@ -9,7 +9,7 @@ use Rattle.esto_views.specs.Expanded.{Expands}
 use Rattle.esto_views.specs.Fragments.{views_of}
 use Rattle.esto_views.specs.Plans.{plan_query}
 use Rattle.esto_views.specs.Soundness.{IsSoundPlan}
-use Rattle.esto_views.specs.declared.expansion.ExpandedFact.{ExpandedFact}
+use Rattle.esto_query.specs.declared.expanded.ExpandedFact.{ExpandedFact}
 use Rattle.esto_views.specs.declared.fragments.FragmentDef.{FragmentDef}
 use Rattle.esto_views.specs.declared.plan.Plan.{Plan}
 use Rattle.esto_world_laws.specs.Derived.{AreDerived}
