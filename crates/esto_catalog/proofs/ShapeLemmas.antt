@@ -39,7 +39,7 @@ use Rattle.esto_catalog.specs.declared.fault.Place.{Place}
 use Rattle.esto_settings.specs.declared.setting.Field.{Field}
 use Rattle.esto_settings.specs.declared.setting.Setting.{Setting}
 use Rattle.esto_settings.specs.declared.setting.Setting.TheVariants.{Text, Integer, Texts, Other}
-use Rattle.esto_catalog.specs.declared.columns.TheConstants.{MARK}
+use Rattle.esto_ports.specs.declared.mark.TheConstants.{MARK}
 
 -- the columns that are called as a head's variables are
 columns_are : (names : List Name) (head : List Term) (texts : List (List ℕ)) → AllZip (IsCalled names) head texts → map (column_of names) head ≡ texts

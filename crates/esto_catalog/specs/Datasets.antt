@@ -20,7 +20,7 @@ use Rattle.esto_catalog.specs.declared.fault.Place.{Place}
 use Rattle.esto_catalog.specs.declared.fault.Section.TheVariants as section
 use Rattle.esto_settings.specs.declared.setting.Field.{Field}
 use Rattle.esto_query.specs.declared.schema.TheConstants.{MAX_COLUMNS}
-use Rattle.esto_catalog.specs.declared.columns.TheConstants.{MARK}
+use Rattle.esto_ports.specs.declared.mark.TheConstants.{MARK}
 use Rattle.esto_catalog.specs.declared.whole.TheConstants.{MAX_ENTRIES}
 use Rattle.esto_catalog.specs.declared.row.Keys.TheVariants as keys
 

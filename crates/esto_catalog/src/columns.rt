@@ -3,13 +3,11 @@ ghost use Rattle.std.specs.Prelude.{◌≡◌, ◌≢◌, ◌↔◌, IsTrue, Con
 ghost use Rattle.std.specs.List.{list_all};
 ghost use Rattle.esto_catalog.specs.Datasets.{is_letter, is_name_byte, is_name, AreColumns, begins_plain};
 
+use esto_ports::MARK;
 use esto_query::MAX_COLUMNS;
 use esto_settings::is_same;
 use esto_term::Text;
 use esto_text::MAX_NAME;
-
-/// The bytes of a byte-order mark, with which a file may begin.
-pub const MARK: [u8; 3] = [0xef, 0xbb, 0xbf];
 
 // Whether the byte is an ASCII letter.
 fn is_letter(byte: u8) -> bool

@@ -19,7 +19,6 @@ mod whole;
 
 pub use access::{MAX_PATTERNS, MAX_WEIGHT};
 pub use catalogue::{Catalogue, Shape, Store, Stores};
-pub use columns::MARK;
 pub use dataset::{Dataset, Datasets, relation_count};
 pub use esto_text::MAX_NAME;
 pub use fault::{CatalogueError, CatalogueFault, CatalogueKind, Section};

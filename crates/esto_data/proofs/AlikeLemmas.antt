@@ -14,8 +14,8 @@ use Rattle.esto_docs.specs.Documents.{document, documents_text}
 use Rattle.esto_fill.specs.Databases.{database_of}
 use Rattle.esto_fill.specs.Differences.{Audits, AreOne, IsFirstApart, IsInOne, IsOfView, at}
 use Rattle.esto_fill.specs.Filled.{CanHold, Fills, text_in, with_mark}
-use Rattle.esto_fill.specs.declared.auditing.Difference.{Difference}
-use Rattle.esto_fill.specs.declared.auditing.Difference.TheVariants.{Rule as Broken, Missing, Extra}
+use Rattle.esto_ports.specs.declared.difference.Difference.{Difference}
+use Rattle.esto_ports.specs.declared.difference.Difference.TheVariants.{Rule as Broken, Missing, Extra}
 use Rattle.esto_fill.specs.declared.filled.FillError.{FillError}
 use Rattle.esto_fill.specs.declared.filled.FillError.TheVariants as filled
 use Rattle.esto_query.specs.Making.{query_of}

@@ -12,7 +12,7 @@ use Rattle.esto_fill.specs.Databases.{database_of}
 use Rattle.esto_fill.specs.Differences.{HoldViewRows}
 use Rattle.esto_fill.specs.Filled.{Fills}
 use Rattle.esto_fill.specs.Texts.{AreTextViews, AreTextsOf, IsFirstNodeColumn, IsFirstNodeView}
-use Rattle.esto_fill.specs.declared.auditing.Difference.{Difference}
+use Rattle.esto_ports.specs.declared.difference.Difference.{Difference}
 use Rattle.esto_fill.specs.declared.filled.FillError.{FillError}
 use Rattle.esto_fill.specs.declared.filled.FillError.TheVariants as filled
 use Rattle.esto_fill.specs.declared.datasets.DatasetBytes.{DatasetBytes}

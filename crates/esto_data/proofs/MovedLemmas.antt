@@ -8,9 +8,10 @@ use Rattle.esto_catalog.specs.declared.dataset.Dataset.{Dataset}
 use Rattle.esto_constraint.specs.Constraints.{rules_of}
 use Rattle.esto_constraint.specs.EncodingRules.{written}
 use Rattle.esto_fill.specs.Databases.{database_of}
-use Rattle.esto_fill.specs.Filled.{Fills, IsOpenedAs, without_mark}
+use Rattle.esto_fill.specs.Filled.{Fills, IsOpenedAs}
+use Rattle.esto_ports.specs.Marks.{without_mark}
 use Rattle.esto_fill.specs.Texts.{AreTextViews, IsFirstNodeView}
-use Rattle.esto_fill.specs.declared.auditing.Difference.{Difference}
+use Rattle.esto_ports.specs.declared.difference.Difference.{Difference}
 use Rattle.esto_fill.specs.declared.filled.FillError.{FillError}
 use Rattle.esto_fill.specs.declared.filled.FillError.TheVariants as filled
 use Rattle.esto_ports.specs.Files.{Files}

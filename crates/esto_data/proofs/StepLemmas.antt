@@ -9,9 +9,10 @@ use Rattle.esto_course.proofs.Asking.{quiet_gives, quiet_judges}
 use Rattle.esto_course.proofs.Steps.{then_stops, then_goes, first_stops, gives_goes}
 use Rattle.esto_catalog.specs.declared.catalogue.Store.{Store}
 use Rattle.esto_fill.specs.Databases.{database_of}
-use Rattle.esto_fill.specs.Filled.{Fills, IsOpenedAs, without_mark}
+use Rattle.esto_fill.specs.Filled.{Fills, IsOpenedAs}
+use Rattle.esto_ports.specs.Marks.{without_mark}
 use Rattle.esto_fill.specs.Texts.{IsFirstNodeColumn, IsFirstNodeView}
-use Rattle.esto_fill.specs.declared.auditing.Difference.{Difference}
+use Rattle.esto_ports.specs.declared.difference.Difference.{Difference}
 use Rattle.esto_fill.specs.declared.filled.FillError.{FillError}
 use Rattle.esto_fill.specs.declared.filled.FillError.TheVariants as filled
 use Rattle.esto_ports.specs.Files.{Files}

@@ -4,7 +4,8 @@ use Rattle.esto_catalog.specs.declared.catalogue.Shape.{Shape}
 use Rattle.esto_course.specs.Course.{Course, and_then, gives, judges}
 use Rattle.esto_course.specs.Course.Stops.{is_free, refused}
 use Rattle.esto_fill.specs.Databases.{database_of}
-use Rattle.esto_fill.specs.Filled.{Fills, IsOpenedAs, without_mark}
+use Rattle.esto_fill.specs.Filled.{Fills, IsOpenedAs}
+use Rattle.esto_ports.specs.Marks.{without_mark}
 use Rattle.esto_fill.specs.Laws.{AnswersRestOnWantedFacts}
 use Rattle.esto_fill.specs.Texts.{AreTextsOf, IsFirstNodeColumn}
 use Rattle.esto_fill.specs.Wanted.{Leaves}

@@ -11,7 +11,7 @@ use Rattle.esto_course.specs.Course.{Course, Names, Stops, judges, gives, and_th
 use Rattle.esto_fill.specs.Databases.{database_of}
 use Rattle.esto_fill.specs.Differences.{Audits}
 use Rattle.esto_fill.specs.Texts.{AreTextViews, IsFirstNodeView}
-use Rattle.esto_fill.specs.declared.auditing.Difference.{Difference}
+use Rattle.esto_ports.specs.declared.difference.Difference.{Difference}
 use Rattle.esto_plan.specs.Rows.{IsRowOf, held_by}
 use Rattle.esto_ports.specs.Files.{Files}
 use Rattle.esto_run.specs.Stores.{IsFileRow, IsRowIn}

@@ -9,7 +9,7 @@ use Rattle.esto_fill.specs.Differences.{Agree, IsFirstDifference}
 use Rattle.esto_fill.specs.Files.{dataset_fault}
 use Rattle.esto_fill.specs.Filled.{Fills}
 use Rattle.esto_fill.specs.Texts.{AreTextViews, AreTextsOf, HaveTextsOnly, IsFirstNodeColumn, IsFirstNodeView}
-use Rattle.esto_fill.specs.declared.auditing.Difference.{Difference}
+use Rattle.esto_ports.specs.declared.difference.Difference.{Difference}
 use Rattle.esto_fill.specs.declared.datasets.DatasetBytes.{DatasetBytes}
 use Rattle.esto_fill.specs.declared.filled.FillError.TheVariants.{KeyText}
 use Rattle.esto_ports.specs.Files.{Files}

@@ -32,8 +32,8 @@ use Rattle.esto_fill.specs.Databases.{database_of}
 use Rattle.esto_fill.specs.Differences.{AreOne, Audits, HoldViewRows, IsFirstApart, IsFirstBroken, IsInOne, IsOfView, at}
 use Rattle.esto_fill.specs.Laws.{AuditsAreOne, AuditsAreOverFiles}
 use Rattle.esto_fill.specs.Records.{IsRecordOf, cell_of, is_named, one_at_least}
-use Rattle.esto_fill.specs.declared.auditing.Difference.{Difference}
-use Rattle.esto_fill.specs.declared.auditing.Difference.TheVariants.{Rule as Broken, Missing, Extra}
+use Rattle.esto_ports.specs.declared.difference.Difference.{Difference}
+use Rattle.esto_ports.specs.declared.difference.Difference.TheVariants.{Rule as Broken, Missing, Extra}
 use Rattle.esto_fill.proofs.DifferenceLemmas.{apart_same, first_rules, meets_met}
 use Rattle.esto_fill.proofs.LawLemmas.{once_one}
 use Rattle.esto_fill.proofs.OrderLemmas.{texts_exact, texts_total}

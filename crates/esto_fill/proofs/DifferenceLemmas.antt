@@ -36,8 +36,8 @@ use Rattle.esto_fill.specs.Placing.{IsApart, IsApartAt, IsImageOf, text_of}
 use Rattle.esto_fill.specs.Records.{IsRecordOf}
 use Rattle.esto_fill.specs.Texts.{AreTextViews, HaveTextsOnly}
 use Rattle.esto_fill.specs.declared.apart.Apart.TheVariants as apart
-use Rattle.esto_fill.specs.declared.auditing.Difference.{Difference}
-use Rattle.esto_fill.specs.declared.auditing.Difference.TheVariants.{Rule as Broken, Missing, Extra}
+use Rattle.esto_ports.specs.declared.difference.Difference.{Difference}
+use Rattle.esto_ports.specs.declared.difference.Difference.TheVariants.{Rule as Broken, Missing, Extra}
 use Rattle.esto_fill.proofs.OrderLemmas.{ordered_as_texts}
 use Rattle.esto_fill.proofs.TextLemmas.{row_of_texts}
 use Rattle.esto_fill.proofs.ValueLemmas.{map_text, map_value}

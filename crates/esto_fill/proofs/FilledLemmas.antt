@@ -7,7 +7,7 @@ use Rattle.std.proofs.lemmas.List.{length-map}
 use Rattle.std.proofs.lemmas.List.Elements.{Contains-get_or}
 use Rattle.esto_catalog.specs.declared.catalogue.Shape.{Shape}
 use Rattle.esto_catalog.specs.declared.catalogue.Shape.TheVariants.{Table, Documents, Keys}
-use Rattle.esto_catalog.specs.declared.columns.TheConstants.{MARK}
+use Rattle.esto_ports.specs.declared.mark.TheConstants.{MARK}
 use Rattle.esto_docmodel.specs.Layouts.{IsLayout}
 use Rattle.esto_docmodel.specs.Shapes.{entries_of}
 use Rattle.esto_docmodel.specs.declared.pattern.Pattern.{Pattern}
@@ -23,7 +23,8 @@ use Rattle.esto_semantics.proofs.ValueLemmas.{same_texts}
 use Rattle.esto_stores.specs.Keys.{key_rows, key_fault}
 use Rattle.esto_stores.specs.Rows.{Row}
 use Rattle.esto_stores.specs.Table.{table_rows, table_fault}
-use Rattle.esto_fill.specs.Filled.{Fills, IsOpenedAs, SaysRows, refusal_of, with_mark, without_mark}
+use Rattle.esto_fill.specs.Filled.{Fills, IsOpenedAs, SaysRows, refusal_of, with_mark}
+use Rattle.esto_ports.specs.Marks.{without_mark}
 use Rattle.esto_fill.specs.Placing.{WritesRows}
 use Rattle.esto_fill.specs.Texts.{AreTextsOf, AreExactly, GivesTexts}
 use Rattle.esto_fill.specs.declared.filled.FillError.{FillError}

@@ -1,9 +1,9 @@
 -- The text of a fragment's file, made of its view's rows.
-use Rattle.std.specs.Prelude.{◌≡◌, ◌↔◌, ℕ, ◌<◌, if◌then◌else◌, List, ◌++◌, All, drop, length, map, nat_eq, slice_get, Contains, Some, None, Result, Ok, Err}
+use Rattle.std.specs.Prelude.{◌≡◌, ◌↔◌, ℕ, ◌<◌, if◌then◌else◌, List, ◌++◌, All, map, nat_eq, slice_get, Contains, Some, None, Result, Ok, Err}
 use Rattle.std.specs.List.{starts_with}
 use Rattle.esto_catalog.specs.declared.catalogue.Shape.{Shape}
 use Rattle.esto_catalog.specs.declared.catalogue.Shape.TheVariants.{Table, Documents, Keys}
-use Rattle.esto_catalog.specs.declared.columns.TheConstants.{MARK}
+use Rattle.esto_ports.specs.declared.mark.TheConstants.{MARK}
 use Rattle.esto_docmodel.specs.Shapes.{entries_of}
 use Rattle.esto_docs.specs.Documents.{document, documents_text}
 use Rattle.esto_run.specs.Stores.{IsRowIn, first_fault_in}
@@ -27,10 +27,6 @@ text_in Keys rows = keys_text rows
 -- The text with a byte-order mark once more before it, where it begins with one: the mark that is dropped when a file is read is never its own.
 abbrev pub with_mark : List ℕ → List ℕ
 with_mark text = if starts_with nat_eq text MARK then MARK ++ text else text
-
--- The bytes after the one byte-order mark with which they may begin.
-abbrev pub without_mark : List ℕ → List ℕ
-without_mark bytes = if starts_with nat_eq bytes MARK then drop (length MARK) bytes else bytes
 
 -- A file in this shape can hold the rows: a key file holds no cell with a tab, a carriage return or a line feed.
 abbrev pub CanHold : Shape → List Row → Type 0

@@ -12,8 +12,8 @@ use Rattle.esto_stores.specs.Rows.{Row}
 use Rattle.esto_term.specs.declared.term.Term.{Term}
 use Rattle.esto_fill.specs.Databases.{database_of}
 use Rattle.esto_fill.specs.Differences.{IsFirstBroken, IsLeastApart, IsFirstApart, AreOne, HoldViewRows, IsOfView, at}
-use Rattle.esto_fill.specs.declared.auditing.Difference.{Difference}
-use Rattle.esto_fill.specs.declared.auditing.Difference.TheVariants.{Rule as Broken, Missing, Extra}
+use Rattle.esto_ports.specs.declared.difference.Difference.{Difference}
+use Rattle.esto_ports.specs.declared.difference.Difference.TheVariants.{Rule as Broken, Missing, Extra}
 
 -- The database meets each of the rules; or it is the first that is not met.
 abbrev pub JudgesRules : List Rule → List (List Name) → List (Fact Term) → Option Difference → Type 0

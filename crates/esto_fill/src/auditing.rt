@@ -13,6 +13,7 @@ ghost use Rattle.esto_fill.specs.Differences.{Audits};
 ghost use Rattle.esto_fill.specs.Judging.{JudgesRules, JudgesFragment, JudgesFragments};
 ghost use Rattle.esto_fill.specs.Texts.{AreTextViews, HaveTextsOnly};
 
+use esto_ports::Difference;
 use crate::apart::{Apart, first_apart, ordered_rows};
 use crate::lawful::laws_of;
 use crate::laws::{facts_stand_as_databases, loaded_documents_are_lawful, loaded_facts_are_flat};
@@ -22,42 +23,15 @@ use crate::rows::{counted, text_row};
 use crate::tried::{add_rules, first_broken};
 use crate::views::add_views;
 use esto_catalog::Catalogue;
-use esto_constraint::{Broken, Constraint, Rules, least_active_matches_are_least, rules_are_sound};
+use esto_constraint::{Constraint, Rules, least_active_matches_are_least, rules_are_sound};
 use esto_query::{Columns, IndexedFacts, queries_are_sound};
 use esto_semantics::databases_stand_for_facts;
-use esto_term::{List, OutOfMemory, Replicate, Text, TextRow, TextRows};
+use esto_term::{List, OutOfMemory, Replicate, TextRows};
 use esto_views::{FragmentDef, FragmentDefs};
 use std::alloc::Global;
 
 /// The rows of fragments, a list for each, in order.
 pub type TextRowsList = List<TextRows>;
-
-/// A difference between the facts of datasets and the rules, or the rows of fragments.
-#[derive(Drop)]
-pub enum Difference {
-    /// The facts do not meet the rule of this number, counted from 1 over all rules of the catalogue. The record has the
-    /// values of its named variables in a match that shows it, in order of first occurrence in its body: a node as `#` and
-    /// its number; and one empty cell where the rule has no such variable.
-    Rule(u64, TextRow),
-    /// The fragment of this name lacks this row of its view.
-    Missing(Text, TextRow),
-    /// The fragment of this name holds this row, which its view has not.
-    Extra(Text, TextRow),
-}
-
-impl Replicate for Difference {
-    fn copy(&self, alloc: Global) -> Result<Difference, OutOfMemory> {
-        match self {
-            Difference::Rule(number, cells) => { Ok(Difference::Rule(*number, cells.copy(alloc)?)) }
-            Difference::Missing(name, row) => {
-                Ok(Difference::Missing(name.copy(alloc)?, row.copy(alloc)?))
-            }
-            Difference::Extra(name, row) => {
-                Ok(Difference::Extra(name.copy(alloc)?, row.copy(alloc)?))
-            }
-        }
-    }
-}
 
 // The first rule that the facts, which meet the laws, do not meet, with the record of its least active match. None comes
 // exactly where they meet each rule.

@@ -5,16 +5,18 @@ ghost use Rattle.esto_catalog.specs.declared.catalogue.Shape.TheVariants as shap
 ghost use Rattle.esto_query.specs.Making.{query_of};
 ghost use Rattle.esto_semantics.specs.Queries.{IsAnswer};
 ghost use Rattle.esto_fill.specs.Databases.{database_of};
-ghost use Rattle.esto_fill.specs.Filled.{Fills, IsOpenedAs, SaysRows, with_mark, without_mark};
+ghost use Rattle.esto_fill.specs.Filled.{Fills, IsOpenedAs, SaysRows, with_mark};
+ghost use Rattle.esto_ports.specs.Marks.{without_mark};
 ghost use Rattle.esto_fill.specs.Placing.{WritesRows};
 ghost use Rattle.esto_fill.specs.declared.filled.FillError.TheVariants as filled;
 
 use crate::answering::answer;
 use crate::loaded::Loaded;
 use crate::rows::AnswerError;
-use esto_catalog::{Catalogue, MARK, Shape, catalogues_are_sound};
+use esto_catalog::{Catalogue, Shape, catalogues_are_sound};
 use esto_docs::write_documents;
 use esto_keymodel::key_row_fault;
+use esto_ports::MARK;
 use esto_query::{Query, queries_are_sound};
 use esto_stores::{write_keys, write_table};
 use esto_term::{Bytes, OutOfMemory, Replicate, Text, TextRows};

@@ -19,7 +19,7 @@ mod views;
 mod wanted;
 
 pub use answering::{answer, answer_union};
-pub use auditing::{Difference, TextRowsList, audit};
+pub use auditing::{TextRowsList, audit};
 pub use datasets::{DatasetBytes, LoadError, LoadList, dataset_facts, load_dataset};
 pub use filled::{FillError, fill};
 pub use laws::{

@@ -22,7 +22,7 @@ use Rattle.esto_catalog.specs.Datasets.{is_name, has_dataset, begins_plain, AreC
 use Rattle.esto_catalog.specs.Datasets.{schema_of, layout_and_file_rows, rows_after_name, dataset_of, reads_dataset, adds_dataset, reads_datasets}
 use Rattle.esto_catalog.specs.Models.{model_word, layout_word, reads_model, needs_model, reads_layout, allows_layout, unfit_row, layout_row}
 use Rattle.esto_catalog.specs.Rows.{fault_at, is_known, IsUnknown, IsLeastUnknown, knows_keys, needs_text, allows_text, needs_texts, IsLesserOf}
-use Rattle.esto_catalog.specs.declared.columns.TheConstants.{MARK}
+use Rattle.esto_ports.specs.declared.mark.TheConstants.{MARK}
 use Rattle.esto_catalog.specs.declared.dataset.Dataset.{Dataset}
 use Rattle.esto_catalog.specs.declared.fault.CatalogueError.{CatalogueError}
 use Rattle.esto_catalog.specs.declared.fault.CatalogueError.TheVariants.{OutOfMemory}

@@ -8,7 +8,7 @@ use Rattle.esto_opening.specs.Calm.{AgreeCalmly}
 use Rattle.esto_course.proofs.Alike.{once_alike, fewer_alike}
 use Rattle.esto_course.specs.Agreement.{IsDetermined}
 use Rattle.esto_course.specs.Course.{Course}
-use Rattle.esto_fill.specs.Filled.{without_mark}
+use Rattle.esto_ports.specs.Marks.{without_mark}
 use Rattle.esto_opening.specs.Fetch.{FetchStops, fetches}
 use Rattle.esto_opening.specs.Fetch.FetchStops.{fails, is_longer}
 use Rattle.esto_opening.specs.declared.status.Status.{Status}

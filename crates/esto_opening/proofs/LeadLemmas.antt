@@ -4,7 +4,7 @@ use Rattle.esto_ports.specs.Files.{Files}
 use Rattle.esto_course.specs.Course.{Course, judges, gives, and_then}
 use Rattle.esto_opening.specs.Answers.{IsCaused}
 use Rattle.esto_opening.specs.Calm.{Leads, AgreeCalmly}
-use Rattle.esto_fill.specs.Filled.{without_mark}
+use Rattle.esto_ports.specs.Marks.{without_mark}
 use Rattle.esto_opening.specs.Fetch.{FetchStops, HasWithin, fetches}
 use Rattle.esto_opening.specs.Fetch.FetchStops.{fails, is_longer}
 use Rattle.esto_opening.specs.declared.status.Status.{Status}

@@ -3,7 +3,7 @@ use Rattle.std.specs.Prelude.{◌≡◌, ℕ, ◌<◌, ◌≤◌, List, length, 
 use Rattle.std.specs.FinMap.{get}
 use Rattle.esto_ports.specs.Files.{Files, Holds}
 use Rattle.esto_course.specs.Course.{Course, asking_once}
-use Rattle.esto_fill.specs.Filled.{without_mark}
+use Rattle.esto_ports.specs.Marks.{without_mark}
 use Rattle.esto_opening.specs.declared.status.Status.{Status}
 use Rattle.esto_opening.specs.declared.status.Status.TheVariants.{ReadFault, TooLong}
 

@@ -9,8 +9,8 @@ use Rattle.esto_catalog.specs.declared.fault.Section.{Section}
 use Rattle.esto_catalog.specs.declared.fault.Section.TheVariants.{Top, Dataset, Fragment, Constraint}
 use Rattle.esto_chase_laws.specs.declared.clash.Clash.{Clash}
 use Rattle.esto_chase_laws.specs.declared.clash.Clash.TheVariants.{Equal, Denied}
-use Rattle.esto_fill.specs.declared.auditing.Difference.{Difference}
-use Rattle.esto_fill.specs.declared.auditing.Difference.TheVariants.{Rule, Missing, Extra}
+use Rattle.esto_ports.specs.declared.difference.Difference.{Difference}
+use Rattle.esto_ports.specs.declared.difference.Difference.TheVariants.{Rule, Missing, Extra}
 use Rattle.esto_list.specs.Text.{constant_text}
 use Rattle.esto_ports.specs.declared.file_fault.FileKind.{FileKind}
 use Rattle.esto_ports.specs.declared.file_fault.FileKind.TheVariants as file

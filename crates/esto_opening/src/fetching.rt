@@ -3,12 +3,11 @@ ghost use Rattle.std.specs.Prelude.{◌≡◌, ◌<◌, ◌≤◌, ◌^◌, IfOk
 ghost use Rattle.esto_ports.specs.Faults.{Rises};
 ghost use Rattle.esto_opening.specs.Answers.{Answers};
 ghost use Rattle.esto_opening.specs.Asked.{AsksIn};
-ghost use Rattle.esto_fill.specs.Filled.{without_mark};
+ghost use Rattle.esto_ports.specs.Marks.{without_mark};
 ghost use Rattle.esto_opening.specs.Fetch.{fetches};
 
 use crate::status::Status;
-use esto_catalog::MARK;
-use esto_ports::{Shelf, ShelfError};
+use esto_ports::{MARK, Shelf, ShelfError};
 use esto_term::{Bytes, OutOfMemory, Replicate, Text};
 use std::alloc::Global;
 

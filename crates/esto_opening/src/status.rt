@@ -6,8 +6,7 @@ ghost use Rattle.esto_opening.specs.declared.status.Status.TheVariants as status
 use esto_catalog::CatalogueFault;
 use esto_chase::Clash;
 use esto_constraint::Cycle;
-use esto_fill::Difference;
-use esto_ports::FileFault;
+use esto_ports::{Difference, FileFault};
 use esto_term::{OutOfMemory, Text};
 use esto_text::TextFault;
 

@@ -25,8 +25,8 @@ use Rattle.esto_fill.specs.Databases.{database_of, value_of}
 use Rattle.esto_fill.specs.Differences.{AreOne, HoldViewRows, IsFirstApart, IsFirstBroken, IsInOne, IsLeastApart, IsOfView, at}
 use Rattle.esto_fill.specs.Records.{cell_of, is_named, one_at_least}
 use Rattle.esto_fill.specs.Texts.{AreTextViews, IsFirstNodeView}
-use Rattle.esto_fill.specs.declared.auditing.Difference.{Difference}
-use Rattle.esto_fill.specs.declared.auditing.Difference.TheVariants.{Rule as Broken, Missing, Extra}
+use Rattle.esto_ports.specs.declared.difference.Difference.{Difference}
+use Rattle.esto_ports.specs.declared.difference.Difference.TheVariants.{Rule as Broken, Missing, Extra}
 use Rattle.esto_fill.proofs.FilledLemmas.{in_rows}
 use Rattle.esto_fill.proofs.OrderLemmas.{texts_exact, texts_total}
 use Rattle.esto_fill.proofs.ValueLemmas.{facts_stand}

@@ -4,7 +4,7 @@ use Rattle.std.proofs.lemmas.Bool.{cases_order}
 use Rattle.std.specs.FinMap.{get}
 use Rattle.esto_course.specs.Course.{Course, Names, judges, gives, refuses, and_then, each}
 use Rattle.esto_course.specs.Course.Point.{went}
-use Rattle.esto_fill.specs.Filled.{without_mark}
+use Rattle.esto_ports.specs.Marks.{without_mark}
 use Rattle.esto_opening.specs.Answers.{IsCaused}
 use Rattle.esto_opening.specs.Fetch.{fetches}
 use Rattle.esto_opening.specs.Fetch.FetchStops.{is_longer}

@@ -7,3 +7,4 @@ pub mod MemoryShelf
 pub mod MemorySink
 pub mod FolderShelf
 pub mod OutSink
+pub mod Marks

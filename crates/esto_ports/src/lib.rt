@@ -4,15 +4,19 @@
 #![tactic(auto)]
 
 mod calls;
+mod difference;
 mod file_fault;
 mod folder_shelf;
+mod mark;
 mod memory_shelf;
 mod memory_sink;
 mod out_sink;
 mod ports;
 
+pub use difference::Difference;
 pub use file_fault::{FileError, FileFault, FileKind};
 pub use folder_shelf::FolderShelf;
+pub use mark::MARK;
 pub use memory_shelf::MemoryShelf;
 pub use memory_sink::MemorySink;
 pub use out_sink::OutSink;

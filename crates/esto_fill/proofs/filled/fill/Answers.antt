@@ -4,7 +4,8 @@ use Rattle.esto_query.specs.Making.{query_of}
 use Rattle.esto_semantics.specs.Queries.{IsAnswer}
 use Rattle.esto_views.specs.declared.fragments.FragmentDef.{FragmentDef}
 use Rattle.esto_fill.specs.Databases.{database_of}
-use Rattle.esto_fill.specs.Filled.{IsOpenedAs, without_mark}
+use Rattle.esto_fill.specs.Filled.{IsOpenedAs}
+use Rattle.esto_ports.specs.Marks.{without_mark}
 use Rattle.esto_fill.proofs.FilledLemmas.{both_there, opened_as, rows_wide}
 use Rattle.esto_fill.proofs.filled.fill.Goals as goal
 

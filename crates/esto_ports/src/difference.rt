@@ -1,0 +1,31 @@
+//! Where datasets' facts differ from the rules, or from the rows of fragments.
+
+use esto_term::{OutOfMemory, Replicate, Text, TextRow};
+use std::alloc::Global;
+
+/// A difference between the facts of datasets and the rules, or the rows of fragments.
+#[derive(Drop)]
+pub enum Difference {
+    /// The facts do not meet the rule of this number, counted from 1 over all rules of the catalogue. The record has the
+    /// values of its named variables in a match that shows it, in order of first occurrence in its body: a node as `#` and
+    /// its number; and one empty cell where the rule has no such variable.
+    Rule(u64, TextRow),
+    /// The fragment of this name lacks this row of its view.
+    Missing(Text, TextRow),
+    /// The fragment of this name holds this row, which its view has not.
+    Extra(Text, TextRow),
+}
+
+impl Replicate for Difference {
+    fn copy(&self, alloc: Global) -> Result<Difference, OutOfMemory> {
+        match self {
+            Difference::Rule(number, cells) => { Ok(Difference::Rule(*number, cells.copy(alloc)?)) }
+            Difference::Missing(name, row) => {
+                Ok(Difference::Missing(name.copy(alloc)?, row.copy(alloc)?))
+            }
+            Difference::Extra(name, row) => {
+                Ok(Difference::Extra(name.copy(alloc)?, row.copy(alloc)?))
+            }
+        }
+    }
+}
