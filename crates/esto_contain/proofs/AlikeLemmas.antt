@@ -16,7 +16,7 @@ use Rattle.esto_semantics.specs.declared.fact.Fact.{Fact}
 use Rattle.esto_semantics.specs.declared.fact.Value.TheVariants.{Text}
 use Rattle.esto_semantics.proofs.AnswerLemmas.{IsAnswerInto-mapped}
 use Rattle.esto_semantics.proofs.FactLemmas.{Mentions-sent, image_agree, image_itself, image_then}
-use Rattle.esto_universal.specs.RenamedLaws.{RenamingIsUndone}
+use Rattle.esto_views.specs.RenamedLaws.{RenamingIsUndone}
 use Rattle.esto_contain.specs.MinimisedLaws.{RenamedPartsAreAlike}
 
 module _ (named : ChosenAreNamed) (old new : ConjunctiveQuery) (m : Term → Term) (keeps : Keeps Const m) (body : new.body ≡ map (image m) old.body)

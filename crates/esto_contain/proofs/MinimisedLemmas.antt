@@ -20,8 +20,8 @@ use Rattle.esto_chase_laws.specs.Runs.{start_of}
 use Rattle.esto_plan_laws.specs.CoreLaws.{MapsCompose, RenamedIsReached, RenamedMapsBack}
 use Rattle.esto_plan_laws.specs.Cores.{with_head}
 use Rattle.esto_query.specs.declared.query.Name.{Name}
-use Rattle.esto_universal.specs.RenamedLaws.{RenamedIsOne, RenamedPlanIsRenamed}
-use Rattle.esto_universal.specs.Stated.{IsRenamed, IsRenamedPlan}
+use Rattle.esto_views.specs.RenamedLaws.{RenamedIsOne, RenamedPlanIsRenamed}
+use Rattle.esto_views.specs.Renamed.{IsRenamed, IsRenamedPlan}
 use Rattle.esto_views.specs.Plans.{fact_of, plan_query}
 use Rattle.esto_views.specs.Soundness.{IsNamed, IsSoundPlan}
 use Rattle.esto_views.specs.declared.plan.Plan.{Plan}

@@ -10,7 +10,7 @@ use Rattle.esto_semantics.specs.Queries.{ConjunctiveQuery}
 use Rattle.esto_semantics.specs.Rules.{Rule}
 use Rattle.esto_semantics.specs.Sets.{IsMinimal}
 use Rattle.esto_term.specs.declared.term.Term.{Term}
-use Rattle.esto_universal.specs.Stated.{IsRenamed}
+use Rattle.esto_views.specs.Renamed.{IsRenamed}
 use Rattle.esto_views.specs.Soundness.{IsNamed}
 
 -- The facts with the head, as a query over the datasets.

@@ -6,7 +6,7 @@ use Rattle.esto_query.specs.declared.query.Name.{Name}
 use Rattle.esto_semantics.specs.Listed.{IsEquivalentPart}
 use Rattle.esto_semantics.specs.Queries.{ConjunctiveQuery}
 use Rattle.esto_semantics.specs.Rules.{Rule, AreRules}
-use Rattle.esto_universal.specs.Stated.{IsRenamed}
+use Rattle.esto_views.specs.Renamed.{IsRenamed}
 
 -- The facts, the head and the names are one, and the sets are the same.
 abbrev pub MinimisedIsOne : Type 0

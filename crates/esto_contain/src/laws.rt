@@ -7,7 +7,7 @@ use esto_semantics::{
     chosen_atoms_are_named, universal_instances_decide_containment,
     universal_instances_show_what_is_not_contained,
 };
-use esto_universal::renamed_plans_are_one;
+use esto_views::renamed_plans_are_one;
 
 /// A law: one thing is told of two queries, a yes or one no; and the facts and the row of a no show that the one query is
 /// not contained in the other.

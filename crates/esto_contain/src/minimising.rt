@@ -34,10 +34,8 @@ use esto_semantics::{
     universal_instances_satisfy_queries,
 };
 use esto_term::{List, OutOfMemory, Replicate, Terms};
-use esto_universal::{
-    plan_facts, plans_tell_satisfiable_queries, renamed_plan, renamed_plans_are_one,
-};
-use esto_views::plans_are_sound;
+use esto_universal::plans_tell_satisfiable_queries;
+use esto_views::{plan_facts, plans_are_sound, renamed_plan, renamed_plans_are_one};
 use esto_world_laws::{matches_decide_containment, matches_rest_on_atoms};
 use std::alloc::Global;
 

@@ -17,8 +17,8 @@ use Rattle.esto_views.specs.Soundness.{IsSoundPlan}
 use Rattle.esto_views.specs.declared.fragments.FragmentDef.{FragmentDef}
 use Rattle.esto_views.specs.declared.plan.Plan.{Plan}
 use Rattle.esto_views.proofs.FlatLemmas.{named-flat, plan_atoms-flat}
-use Rattle.esto_universal.specs.RenamedLaws.{RenamedPlanIsOne, RenamedPlanIsRenamed}
-use Rattle.esto_universal.specs.Stated.{IsRenamedPlan}
+use Rattle.esto_views.specs.RenamedLaws.{RenamedPlanIsOne, RenamedPlanIsRenamed}
+use Rattle.esto_views.specs.Renamed.{IsRenamedPlan}
 use Rattle.esto_core.specs.Cored.{IsCoredPlan, IsPart}
 use Rattle.esto_core.specs.CoredLaws.{CoredIsOne}
 

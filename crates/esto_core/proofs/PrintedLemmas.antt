@@ -13,7 +13,7 @@ use Rattle.esto_plan_laws.specs.Cores.{AreLeft, HasNoRetract}
 use Rattle.esto_views.specs.Plans.{plan_query}
 use Rattle.esto_views.specs.declared.plan.Plan.{Plan}
 use Rattle.esto_universal.specs.PlannedLaws.{PlanOfRunIsOne}
-use Rattle.esto_universal.specs.Stated.{IsRenamedPlan}
+use Rattle.esto_views.specs.Renamed.{IsRenamedPlan}
 use Rattle.esto_core.specs.Cored.{IsCoredPlan}
 use Rattle.esto_core.specs.CoredLaws.{CoredIsCore, CoredHasNoRetract, CoredIsOne}
 use Rattle.esto_core.specs.Printed.{IsPrintedOf}

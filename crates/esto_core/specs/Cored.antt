@@ -11,7 +11,7 @@ use Rattle.esto_plan_laws.specs.Cores.{AreLeft, HasNoRetract, IsRenamedTo}
 use Rattle.esto_query.specs.Soundness.{IsSafe}
 use Rattle.esto_views.specs.Plans.{plan_query}
 use Rattle.esto_views.specs.declared.plan.Plan.{Plan}
-use Rattle.esto_universal.specs.Stated.{IsRenamedPlan}
+use Rattle.esto_views.specs.Renamed.{IsRenamedPlan}
 
 -- The other plan is the cored plan: what is left of the plan's atoms, when they are gone through from the last to the first, with the plan's head, under new
 -- names.

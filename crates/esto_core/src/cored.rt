@@ -21,8 +21,7 @@ use esto_plan_laws::{
     what_is_left_is_a_core,
 };
 use esto_term::OutOfMemory;
-use esto_universal::{plan_facts, renamed_plan, renamed_plans_are_one};
-use esto_views::{Plan, plans_are_sound};
+use esto_views::{Plan, plan_facts, plans_are_sound, renamed_plan, renamed_plans_are_one};
 use std::alloc::Global;
 
 /// What is left of the plan's atoms, with the plan's head, under new names.

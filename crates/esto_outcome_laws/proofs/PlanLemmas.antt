@@ -22,12 +22,13 @@ use Rattle.esto_views.specs.Soundness.{IsSoundPlan}
 use Rattle.esto_views.specs.declared.plan.Plan.{Plan}
 use Rattle.esto_views.proofs.FlatLemmas.{named-flat, plan_atoms-flat}
 use Rattle.esto_core.specs.Cored.{IsCoredPlan}
-use Rattle.esto_universal.specs.Reading.{terms_read, AreFirstOccurrences}
-use Rattle.esto_universal.specs.Renamings.{numbered, renamed_atom, name_of}
+use Rattle.esto_views.specs.Reading.{terms_read, AreFirstOccurrences}
+use Rattle.esto_views.specs.Renamings.{numbered, renamed_atom, name_of}
 use Rattle.esto_universal.specs.Rows.{over, AreRows, AreRowsOf}
-use Rattle.esto_universal.specs.Stated.{IsRenamedPlan, IsStatedPlan}
-use Rattle.esto_universal.proofs.PlanLemmas.{keeps, renamed_is}
-use Rattle.esto_universal.proofs.ReadingLemmas.{seen_none, place_known, place_new}
+use Rattle.esto_universal.specs.Stated.{IsStatedPlan}
+use Rattle.esto_views.specs.Renamed.{IsRenamedPlan}
+use Rattle.esto_views.proofs.RenamedLemmas.{keeps, renamed_is}
+use Rattle.esto_views.proofs.ReadingLemmas.{seen_none, place_known, place_new}
 use Rattle.esto_universal.proofs.RowLemmas.{AreRowsBelow, rows_none, rows_joined, rows_all}
 use Rattle.esto_reading_laws.proofs.RuleLemmas.{is_constant}
 use Rattle.esto_outcome_laws.proofs.AnswerLemmas.{answers_listed, maps_decided}

@@ -25,7 +25,7 @@ use Rattle.esto_semantics.specs.Queries.{ConjunctiveQuery}
 use Rattle.esto_semantics.specs.Rules.{Rule, IsRule}
 use Rattle.esto_semantics.specs.SetLaws.{AllSetsAreListed, MinimalExist}
 use Rattle.esto_universal.specs.PlannedLaws.{PlanOfRunIsUniversal, PlanOfRunReceivesUnions}
-use Rattle.esto_universal.specs.RenamedLaws.{RenamedPlanIsRenamed}
+use Rattle.esto_views.specs.RenamedLaws.{RenamedPlanIsRenamed}
 use Rattle.esto_views.specs.Fragments.{views_of}
 use Rattle.esto_views.specs.Plans.{IsPlanOver, plan_query}
 use Rattle.esto_views.specs.Soundness.{IsSoundPlan}

@@ -20,8 +20,8 @@ use esto_semantics::{
     queries_over_fragments_have_expansions, rewritings_without_inputs, stated_orders_exist,
     weights_exist,
 };
-use esto_universal::{plans_of_runs_are_universal, renamed_plans_are_one};
-use esto_views::{plans_are_sound, plans_fit_views};
+use esto_universal::plans_of_runs_are_universal;
+use esto_views::{plans_are_sound, plans_fit_views, renamed_plans_are_one};
 
 // The laws of readings, together.
 pub(crate) fn reading_laws_hold()

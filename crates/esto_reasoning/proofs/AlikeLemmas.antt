@@ -33,7 +33,7 @@ use Rattle.esto_semantics.specs.Queries.{ConjunctiveQuery, IsQuery}
 use Rattle.esto_semantics.specs.Rules.{Rule, AreRules}
 use Rattle.esto_semantics.specs.Sets.{AreListedBy}
 use Rattle.esto_universal.specs.PlannedLaws.{ClashOfRunIsOne}
-use Rattle.esto_universal.specs.RenamedLaws.{RenamedPlanIsOne}
+use Rattle.esto_views.specs.RenamedLaws.{RenamedPlanIsOne}
 use Rattle.esto_reasoning.specs.Contains.{SaysTold, compares}
 use Rattle.esto_reasoning.specs.Minimise.{IsMinimalText, minimises}
 use Rattle.esto_reasoning.specs.Texts.{minimal_text, no_text}

@@ -18,7 +18,7 @@ use Rattle.esto_query.specs.declared.query.Name.{Name}
 use Rattle.esto_query.specs.declared.query.Query.{Query}
 use Rattle.esto_semantics.specs.declared.fact.Fact.{Fact}
 use Rattle.esto_term.specs.declared.term.Term.{Term}
-use Rattle.esto_universal.specs.Stated.{IsRenamedPlan}
+use Rattle.esto_views.specs.Renamed.{IsRenamedPlan}
 use Rattle.esto_views.specs.Plans.{plan_query}
 use Rattle.esto_views.specs.declared.plan.Plan.{Plan}
 use Rattle.esto_reasoning.specs.Texts.{no_text}

@@ -15,7 +15,7 @@ use esto_opening::{Reply, Status, open_catalogue, open_query};
 use esto_ports::Shelf;
 use esto_query::{Facts, Query, queries_are_sound};
 use esto_term::{Bytes, OutOfMemory, Terms, Text};
-use esto_universal::{plan_facts, renamed_plan};
+use esto_views::{plan_facts, renamed_plan};
 use std::alloc::Global;
 
 // Whether the heads have one length; else the status that tells the two lengths.

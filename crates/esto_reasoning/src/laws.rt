@@ -7,9 +7,8 @@ use esto_contain::{minimal_parts_are_determined, what_is_told_is_determined};
 use esto_opening::openings_are_one;
 use esto_query::queries_are_sound;
 use esto_semantics::equivalent_parts_have_minimal_sets;
-use esto_universal::{
-    plans_tell_satisfiable_queries, renamed_plans_are_one, runs_have_one_outcome,
-};
+use esto_universal::{plans_tell_satisfiable_queries, runs_have_one_outcome};
+use esto_views::renamed_plans_are_one;
 
 /// A law: over catalogues that say the same, what is told of the same two queries has one text, or one refusal; and so has
 /// what the same query is minimised to.

@@ -12,15 +12,12 @@ ghost use Rattle.esto_chase_laws.specs.Runs.{start_of};
 ghost use Rattle.esto_chase.specs.Chased.{RunClashes};
 ghost use Rattle.esto_instance.specs.Instances.{state_of};
 ghost use Rattle.esto_universal.specs.Planned.{IsPlanOfRun};
-ghost use Rattle.esto_universal.specs.Reading.{terms_read, AreFirstOccurrences};
-ghost use Rattle.esto_universal.specs.Stated.{IsStatedPlan, IsRenamedPlan};
+ghost use Rattle.esto_universal.specs.Stated.{IsStatedPlan};
 
-use crate::indexed::IndexedTerms;
+use esto_views::{FragmentDefs, Plan, renamed_plan};
 use crate::planned::{
     plans_of_runs_are_over_fragments, plans_of_runs_are_universal, plans_tell_satisfiable_queries,
 };
-use crate::reading::first_occurrences;
-use crate::renaming::{names_of, rename_row, rename_rows};
 use crate::rows::view_rows;
 use either::{Either, Left, Right};
 use esto_catalog::{Catalogue, catalogues_are_sound};
@@ -30,47 +27,7 @@ use esto_constraint::rules_are_sound;
 use esto_instance::Instance;
 use esto_query::{Facts, Names, Query, queries_are_sound};
 use esto_term::{OutOfMemory, Terms};
-use esto_views::{FragmentDefs, Plan};
 use std::alloc::Global;
-
-/// The plan of the rows and the head, where the terms seen are renamed, with their names.
-fn plan_of_seen(
-    alloc: Global,
-    seen: &IndexedTerms,
-    rows: &Facts,
-    head: &Terms,
-    names: &Names,
-) -> Result<Plan, OutOfMemory>
-    requires head { head.now ≢ [] }
-    requires seen { AreFirstOccurrences (terms_read rows.now head.now) seen.now }
-    ensures { IfOk result (λ plan. IsRenamedPlan names.now rows.now head.now plan) }
-{
-    let atoms = rename_rows(alloc, seen, rows)?;
-    let new_head = rename_row(alloc, seen, head.items())?;
-    let new_names = names_of(alloc, names, seen.items())?;
-    Ok(Plan {
-        atoms,
-        head: new_head,
-        names: new_names,
-    })
-}
-
-/// The plan whose atoms are the rows over fragments, and whose head is the given one, renamed: each term that is no
-/// constant becomes a variable, whose number is the place of its first occurrence among those of the others, reading the
-/// rows in order and then the head, with the name that the term's variable has.
-pub fn renamed_plan(
-    alloc: Global,
-    rows: &Facts,
-    head: &Terms,
-    names: &Names,
-) -> Result<Plan, OutOfMemory>
-    requires { head.now ≢ [] }
-    ensures { IfOk result (λ plan. IsRenamedPlan names.now rows.now head.now plan) }
-{
-    let seen = first_occurrences(alloc, rows, head)?;
-    let indexed = IndexedTerms::of(alloc, &seen)?;
-    plan_of_seen(alloc, &indexed, rows, head, names)
-}
 
 /// The plan whose atoms are the rows of all views over the facts, and whose head is the given one, renamed.
 fn stated_plan(

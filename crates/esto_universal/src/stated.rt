@@ -1,20 +1,9 @@
-//! Laws of plans under new names, and of stated plans.
-ghost use Rattle.esto_universal.specs.RenamedLaws.{RenamedIsOne, RenamingIsUndone};
-ghost use Rattle.esto_universal.specs.RenamedLaws.{RenamedPlanIsOne, RenamedPlanIsRenamed};
+//! Laws of stated plans.
 ghost use Rattle.esto_universal.specs.StatedLaws.{StatedPlanIsOne, StatedAtomsAreDistinct};
 ghost use Rattle.esto_universal.specs.StatedLaws.{StatedPlanIsOfRows, StatedPlanReceivesUnions};
 ghost use Rattle.esto_universal.specs.StatedLaws.{StatedPlanIsUniversal};
 
 use esto_plan_laws::plans_receive_unions;
-
-/// A law: there is one query that is another under new names, and so one plan of some rows and a head. The renaming of
-/// the terms can be undone.
-pub fn renamed_plans_are_one()
-    ensures query { RenamedIsOne }
-    ensures undone { RenamingIsUndone }
-    ensures one { RenamedPlanIsOne }
-    ensures renamed { RenamedPlanIsRenamed }
-{}
 
 /// A law: there is one stated plan.
 pub fn stated_plans_are_one()

@@ -4,3 +4,8 @@ pub mod ExpandedLemmas
 pub mod PatternLemmas
 pub mod FlatLemmas
 pub mod FormLemmas
+pub mod IndexLemmas
+pub mod ReadingLemmas
+pub mod RenamingLemmas
+pub mod RenamedLemmas
+pub mod RenamedOnceLemmas

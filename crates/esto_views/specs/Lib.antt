@@ -2,3 +2,8 @@ pub mod Fragments
 pub mod Soundness
 pub mod Plans
 pub mod Expanded
+pub mod Indexes
+pub mod Reading
+pub mod Renamings
+pub mod RenamedLaws
+pub mod Renamed

@@ -2,14 +2,22 @@
 //! `Plan` and `expand`.
 #![tactic(auto)]
 
+mod atoms;
 mod expansion;
 mod fragments;
+mod index;
+mod indexed;
 mod inner;
 mod order;
 mod plan;
+mod reading;
+mod renamed;
+mod renaming;
 mod spread;
 
+pub use atoms::plan_facts;
 pub use expansion::{expand, plans_fit_views};
 pub use fragments::{Access, AccessList, FragmentDef, FragmentDefs, rows_of_view};
 pub use order::Order;
 pub use plan::{Plan, PlanAtom, PlanAtoms, plans_are_sound};
+pub use renamed::{renamed_plan, renamed_plans_are_one};

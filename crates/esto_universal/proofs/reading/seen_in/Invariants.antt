@@ -1,6 +1,0 @@
-use Rattle.std.proofs.Common.{take}
-use Rattle.esto_universal.specs.Reading.{AreFirstOccurrences}
-use Rattle.esto_universal.proofs.reading.seen_in.Given as goal
-
-abbrev pub invariant-terms : goal.invariant-terms
-invariant-terms l = AreFirstOccurrences (take l.place l.terms) l.seen

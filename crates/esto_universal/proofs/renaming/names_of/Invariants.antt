@@ -1,6 +1,0 @@
-use Rattle.std.proofs.Common.{◌≡◌, map, take}
-use Rattle.esto_universal.specs.Renamings.{name_of}
-use Rattle.esto_universal.proofs.renaming.names_of.Given as goal
-
-abbrev pub invariant-terms : goal.invariant-terms
-invariant-terms l = l.found ≡ map (name_of l.names) (take l.term-index l.terms)
