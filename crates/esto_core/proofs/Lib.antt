@@ -1,4 +1,3 @@
 pub mod FixingLemmas
 pub mod LeftLemmas
 pub mod CoredLemmas
-pub mod PrintedLemmas

@@ -1,5 +1,3 @@
 pub mod Left
 pub mod Cored
 pub mod CoredLaws
-pub mod Printed
-pub mod PrintedLaws

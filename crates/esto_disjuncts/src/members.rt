@@ -7,9 +7,11 @@ ghost use Rattle.esto_disjuncts.specs.Members.{AreMembersOf, ClashAt, HavePlan, 
 use either::{Left, Right};
 use esto_catalog::Catalogue;
 use esto_chase::Clash;
-use esto_core::{printed_plan, printed_plans_are_over_fragments};
 use esto_list::Listing;
-use esto_planning::{planned_plans_are_universal, planned_plans_have_their_form};
+use esto_planning::{
+    planned_plans_are_universal, planned_plans_have_their_form, printed_plan,
+    printed_plans_are_over_fragments,
+};
 use esto_query::Query;
 use esto_term::{List, OutOfMemory, Replicate};
 use esto_union::union_sets;

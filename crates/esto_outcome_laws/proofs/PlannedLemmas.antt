@@ -9,7 +9,7 @@ use Rattle.esto_constraint.proofs.RankLemmas.{depth_of, depth-small, ranks-Ranks
 use Rattle.esto_chase_laws.specs.Runs.{Step, IsEnd, IsRun, IsStart, start_of}
 use Rattle.esto_chase_laws.specs.declared.clash.Clash.{Clash}
 use Rattle.esto_constraint.specs.Constraints.{rules_of}
-use Rattle.esto_core.specs.Printed.{IsPrintedOf}
+use Rattle.esto_planning.specs.Printed.{IsPrintedOf}
 use Rattle.esto_list.specs.declared.listing.Listed.{Listed}
 use Rattle.esto_planning.specs.Listing.{IsClash, IsListOf, IsPlanned}
 use Rattle.esto_query.specs.Making.{query_of}

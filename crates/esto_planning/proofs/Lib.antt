@@ -2,3 +2,4 @@ pub mod OneListLemmas
 pub mod MovedLemmas
 pub mod ChoiceLemmas
 pub mod AlikeLemmas
+pub mod PrintedLemmas

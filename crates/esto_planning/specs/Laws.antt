@@ -5,7 +5,7 @@ use Rattle.esto_chase_laws.specs.declared.clash.Clash.{Clash}
 use Rattle.esto_constraint.specs.Constraints.{rule_of, rules_of}
 use Rattle.esto_constraint.specs.declared.rule.Constraint.{Constraint}
 use Rattle.esto_core.specs.Cored.{IsOnlyCore}
-use Rattle.esto_core.specs.PrintedLaws.{PrintedPlanExcludesClash, PrintedPlanIsOne}
+use Rattle.esto_planning.specs.PrintedLaws.{PrintedPlanExcludesClash, PrintedPlanIsOne}
 use Rattle.esto_list.specs.declared.listing.Listed.{Listed}
 use Rattle.esto_plan_laws.specs.Cores.{HasNoRetract}
 use Rattle.esto_query.specs.Making.{query_of}

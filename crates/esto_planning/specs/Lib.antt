@@ -3,3 +3,5 @@ pub mod Choice
 pub mod Planning
 pub mod Laws
 pub mod Alike
+pub mod Printed
+pub mod PrintedLaws

@@ -5,7 +5,7 @@ use Rattle.esto_chase.specs.Chased.{RunClashes}
 use Rattle.esto_chase_laws.specs.Runs.{start_of}
 use Rattle.esto_chase_laws.specs.declared.clash.Clash.{Clash}
 use Rattle.esto_constraint.specs.Constraints.{rules_of}
-use Rattle.esto_core.specs.Printed.{IsPrintedPlan}
+use Rattle.esto_planning.specs.Printed.{IsPrintedPlan}
 use Rattle.esto_list.specs.Items.{HaveOrders, HaveWeights, sets_of}
 use Rattle.esto_list.specs.Text.{IsListText}
 use Rattle.esto_list.specs.declared.listing.Listed.{Listed}

@@ -7,10 +7,10 @@ ghost use Rattle.esto_planning.specs.Listing.{IsListOf, IsPlanned};
 ghost use Rattle.esto_planning.specs.Planning.{plans_query};
 
 use crate::laws::{planned_plans_are_universal, planned_plans_have_their_form};
+use crate::printed::{printed_plan, printed_plans_are_over_fragments};
 use either::{Left, Right};
 use esto_backchase::minimal_sets;
 use esto_catalog::Catalogue;
-use esto_core::{printed_plan, printed_plans_are_over_fragments};
 use esto_list::Listing;
 use esto_opening::Status;
 use esto_prov::Entries;

@@ -12,11 +12,12 @@ ghost use Rattle.esto_planning.specs.Listing.{IsPlanned};
 use either::{Left, Right};
 use esto_catalog::Catalogue;
 use esto_chase::Clash;
-use esto_core::printed_plan;
 use esto_disjuncts::run_union;
 use esto_list::Listed;
 use esto_opening::{Reply, Status, open_catalogue, open_fragments, open_union};
-use esto_planning::{choose, chosen_items_are_listed, listing_of, planned_plans_have_their_form};
+use esto_planning::{
+    choose, chosen_items_are_listed, listing_of, planned_plans_have_their_form, printed_plan,
+};
 use esto_ports::Shelf;
 use esto_query::Query;
 use esto_run::{answers_are_over_files, answers_text, fragments_of_set, run_text};

@@ -1,8 +1,8 @@
 use Rattle.esto_semantics.specs.Plans.{IsUniversalPlan}
 use Rattle.esto_semantics.specs.Unions.{ReceivesUnions}
 use Rattle.esto_views.specs.Plans.{plan_query}
-use Rattle.esto_core.proofs.PrintedLemmas.{printed-keeps, printed-no_retract}
-use Rattle.esto_core.proofs.printed.printed_plans_are_universal.Goals as goal
+use Rattle.esto_planning.proofs.PrintedLemmas.{printed-keeps, printed-no_retract}
+use Rattle.esto_planning.proofs.printed.printed_plans_are_universal.Goals as goal
 
 pub returns-clause-unions : goal.returns-clause-unions
 returns-clause-unions c core rules views names query plan are_rules is_query printed =

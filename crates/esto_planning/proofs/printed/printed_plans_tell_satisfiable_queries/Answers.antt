@@ -1,4 +1,4 @@
-use Rattle.esto_core.proofs.printed.printed_plans_tell_satisfiable_queries.Goals as goal
+use Rattle.esto_planning.proofs.printed.printed_plans_tell_satisfiable_queries.Goals as goal
 
 pub returns : goal.returns
 returns c core rules views names query plan are_rules is_query printed =

@@ -1,7 +1,7 @@
 use Rattle.esto_views.specs.Plans.{plan_query}
 use Rattle.esto_core.proofs.CoredLemmas.{plan-IsPlanFor}
-use Rattle.esto_core.proofs.PrintedLemmas.{same_length-received}
-use Rattle.esto_core.proofs.printed.printed_cores_are_one_for_a_query.Goals as goal
+use Rattle.esto_planning.proofs.PrintedLemmas.{same_length-received}
+use Rattle.esto_planning.proofs.printed.printed_cores_are_one_for_a_query.Goals as goal
 
 pub returns : goal.returns
 returns c core rules views names query plan are_rules is_query asked printed safe has_atoms other flat other_universal no_retract =

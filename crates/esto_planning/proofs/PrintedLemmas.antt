@@ -16,8 +16,8 @@ use Rattle.esto_universal.specs.PlannedLaws.{PlanOfRunIsOne}
 use Rattle.esto_views.specs.Renamed.{IsRenamedPlan}
 use Rattle.esto_core.specs.Cored.{IsCoredPlan}
 use Rattle.esto_core.specs.CoredLaws.{CoredIsCore, CoredHasNoRetract, CoredIsOne}
-use Rattle.esto_core.specs.Printed.{IsPrintedOf}
-use Rattle.esto_core.specs.PrintedLaws.{PrintedPlanIsOne}
+use Rattle.esto_planning.specs.Printed.{IsPrintedOf}
+use Rattle.esto_planning.specs.PrintedLaws.{PrintedPlanIsOne}
 
 -- what holds of a plan, and of the cored plan of each plan of which it holds, holds of what is printed of it
 pub printed-keeps : (P : Plan → Type 0) (core : Bool) (plan printed : Plan) → ((cored : Plan) → IsCoredPlan plan cored → P plan → P cored)

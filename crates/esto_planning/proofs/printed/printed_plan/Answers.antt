@@ -3,7 +3,7 @@ use Rattle.esto_constraint.specs.Constraints.{rules_of}
 use Rattle.esto_views.specs.Fragments.{views_of}
 use Rattle.esto_chase.proofs.OutcomeLemmas.{on_either}
 use Rattle.esto_constraint.proofs.RuleLemmas.{are_rules}
-use Rattle.esto_core.proofs.printed.printed_plan.Goals as goal
+use Rattle.esto_planning.proofs.printed.printed_plan.Goals as goal
 
 pub returns-clause-over : goal.returns-clause-over
 returns-clause-over c =

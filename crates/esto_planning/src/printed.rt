@@ -11,20 +11,19 @@ ghost use Rattle.esto_views.specs.Fragments.{views_of};
 ghost use Rattle.esto_views.specs.Plans.{plan_query, IsPlanOver};
 ghost use Rattle.esto_chase_laws.specs.Runs.{start_of};
 ghost use Rattle.esto_chase.specs.Chased.{RunClashes};
-ghost use Rattle.esto_core.specs.Printed.{IsPrintedOf, IsPrintedPlan};
-ghost use Rattle.esto_core.specs.PrintedLaws.{PrintedPlanIsOne, PrintedPlanExcludesClash};
-ghost use Rattle.esto_core.specs.PrintedLaws.{PrintedIsSatisfiable, PrintedPlanReceivesUnions};
-ghost use Rattle.esto_core.specs.PrintedLaws.{PrintedPlanIsUniversal, PrintedCoreHasNoRetract};
-ghost use Rattle.esto_core.specs.PrintedLaws.{PrintedCoreIsOneForAQuery};
-ghost use Rattle.esto_core.specs.PrintedLaws.{PrintedPlanIsOver, PrintedPlanHasDistinctAtoms};
+ghost use Rattle.esto_planning.specs.Printed.{IsPrintedOf, IsPrintedPlan};
+ghost use Rattle.esto_planning.specs.PrintedLaws.{PrintedPlanIsOne, PrintedPlanExcludesClash, PrintedCoreIsOneForAQuery};
+ghost use Rattle.esto_planning.specs.PrintedLaws.{PrintedIsSatisfiable, PrintedPlanReceivesUnions};
+ghost use Rattle.esto_planning.specs.PrintedLaws.{PrintedPlanIsUniversal, PrintedCoreHasNoRetract};
+ghost use Rattle.esto_planning.specs.PrintedLaws.{PrintedPlanIsOver, PrintedPlanHasDistinctAtoms};
 
-use crate::cored::{
-    core_of, cored_plans_are_cores, cored_plans_are_determined, cored_plans_are_universal,
-};
 use either::{Either, Left, Right};
 use esto_catalog::{Catalogue, catalogues_are_sound};
 use esto_chase::Clash;
 use esto_constraint::rules_are_sound;
+use esto_core::{
+    core_of, cored_plans_are_cores, cored_plans_are_determined, cored_plans_are_universal,
+};
 use esto_plan_laws::{cores_are_one, cores_have_no_retract};
 use esto_query::{Query, queries_are_sound};
 use esto_semantics::queries_are_their_own_instances;

@@ -1,8 +1,8 @@
 use Rattle.std.proofs.Common.{◌≢◌}
 use Rattle.std.specs.Prelude.{AllPairs}
 use Rattle.esto_views.specs.Plans.{plan_query, IsPlanOver}
-use Rattle.esto_core.proofs.PrintedLemmas.{printed-keeps, cored-distinct}
-use Rattle.esto_core.proofs.printed.printed_plans_are_over_fragments.Goals as goal
+use Rattle.esto_planning.proofs.PrintedLemmas.{printed-keeps, cored-distinct}
+use Rattle.esto_planning.proofs.printed.printed_plans_are_over_fragments.Goals as goal
 
 pub returns-clause-over : goal.returns-clause-over
 returns-clause-over c core rules fragments names query plan are_fragments printed =

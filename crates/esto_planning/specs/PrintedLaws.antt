@@ -15,7 +15,7 @@ use Rattle.esto_chase_laws.specs.Runs.{start_of}
 use Rattle.esto_chase_laws.specs.declared.clash.Clash.{Clash}
 use Rattle.esto_chase.specs.Chased.{RunClashes}
 use Rattle.esto_core.specs.Cored.{IsOnlyCore}
-use Rattle.esto_core.specs.Printed.{IsPrintedPlan}
+use Rattle.esto_planning.specs.Printed.{IsPrintedPlan}
 
 -- A query has one printed plan.
 abbrev pub PrintedPlanIsOne : Type 0

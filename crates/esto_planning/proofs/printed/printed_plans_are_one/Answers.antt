@@ -1,5 +1,5 @@
-use Rattle.esto_core.proofs.PrintedLemmas.{printed_plan-one}
-use Rattle.esto_core.proofs.printed.printed_plans_are_one.Goals as goal
+use Rattle.esto_planning.proofs.PrintedLemmas.{printed_plan-one}
+use Rattle.esto_planning.proofs.printed.printed_plans_are_one.Goals as goal
 
 pub returns-clause-plan : goal.returns-clause-plan
 returns-clause-plan c = printed_plan-one c.runs_have_one_outcome.ensures.plan c.cored_plans_are_determined.ensures

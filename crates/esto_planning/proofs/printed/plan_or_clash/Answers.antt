@@ -1,4 +1,4 @@
-use Rattle.esto_core.proofs.printed.plan_or_clash.Goals as goal
+use Rattle.esto_planning.proofs.printed.plan_or_clash.Goals as goal
 
 pub returns-in_ok-plan-in-Left : goal.returns-in_ok-plan-in-Left
 returns-in_ok-plan-in-Left c = record {
