@@ -18,7 +18,8 @@ use Rattle.esto_stores.specs.Rows.{Row}
 use Rattle.esto_term.proofs.ListLemmas.{Contains-head, Contains-map_from, Contains-one}
 use Rattle.esto_term.specs.declared.term.Term.{Term}
 use Rattle.esto_opening.specs.Alike.{AreSameQueries}
-use Rattle.esto_opening.specs.Unions.{FitHeads, FormUnion, union_rows_text}
+use Rattle.esto_opening.specs.Unions.{FormUnion}
+use Rattle.esto_fragments.specs.Texts.{FitHeads, union_rows_text}
 use Rattle.esto_opening.specs.declared.status.Status.{Status}
 use Rattle.esto_opening.proofs.AlikeLemmas.{same_query, same_rows_text}
 use Rattle.esto_data.specs.Answer.{IsAnswerOfFacts, IsUnionAnswerOfFacts, lists_texts}

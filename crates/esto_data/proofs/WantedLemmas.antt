@@ -16,8 +16,8 @@ use Rattle.esto_fill.specs.declared.loaded.Loaded.{Loaded}
 use Rattle.esto_fill.specs.declared.wanted.Wanted.TheVariants.{Every, Asked}
 use Rattle.esto_opening.specs.Answers.{Answers}
 use Rattle.esto_opening.specs.Asked.{AsksIn}
-use Rattle.esto_opening.specs.Fragments.{Stored}
-use Rattle.esto_opening.specs.Unions.{union_rows_text}
+use Rattle.esto_fragments.specs.Fragments.{Stored}
+use Rattle.esto_fragments.specs.Texts.{union_rows_text}
 use Rattle.esto_opening.specs.declared.reply.Reply.{Reply}
 use Rattle.esto_opening.specs.declared.reply.Reply.TheVariants.{Done}
 use Rattle.esto_opening.specs.declared.status.Status.{Status}

@@ -4,7 +4,7 @@ use Rattle.std.specs.Fmt.{decimal}
 use Rattle.std.specs.List.{range_with_len}
 use Rattle.esto_catalog.specs.declared.catalogue.Catalogue.{Catalogue}
 use Rattle.esto_catalog.specs.declared.catalogue.Store.{Store}
-use Rattle.esto_opening.specs.Fragments.{Stored}
+use Rattle.esto_fragments.specs.Fragments.{Stored, opens_fragment, opens_fragments, reads_content}
 use Rattle.esto_constraint.specs.Constraints.{rules_of}
 use Rattle.esto_constraint.specs.EncodingRules.{written}
 use Rattle.esto_course.specs.Course.{Course, Names, Stops, judges, gives, and_then}
@@ -23,7 +23,6 @@ use Rattle.esto_opening.specs.Answers.{IsWant, IsCaused}
 use Rattle.esto_opening.specs.Asked.{AsksIn}
 use Rattle.esto_data.specs.Datasets.{IsAny, loads}
 use Rattle.esto_data.specs.Fill.{names_of}
-use Rattle.esto_opening.specs.Fragments.{opens_fragment, opens_fragments, reads_content}
 use Rattle.esto_opening.specs.Opening.{opens_catalogue}
 use Rattle.esto_opening.specs.declared.reply.Reply.{Reply}
 use Rattle.esto_opening.specs.declared.reply.Reply.TheVariants.{Done}

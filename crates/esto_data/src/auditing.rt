@@ -1,6 +1,6 @@
 //! The command `audit`.
 ghost use Rattle.std.specs.Prelude.{◌≡◌, ◌↔◌, ◌<◌, ◌≤◌, ℕ, List, length, IfOk};
-ghost use Rattle.esto_opening.specs.Fragments.{Stored};
+ghost use Rattle.esto_fragments.specs.Fragments.{Stored, IsStoredAt};
 ghost use Rattle.esto_fill.specs.Databases.{database_of};
 ghost use Rattle.esto_fill.specs.Texts.{AreTextViews};
 ghost use Rattle.esto_plan.specs.Rows.{IsRowOf, held_by};
@@ -11,12 +11,12 @@ ghost use Rattle.esto_views.specs.Fragments.{views_of};
 ghost use Rattle.esto_opening.specs.Answers.{Answers};
 ghost use Rattle.esto_opening.specs.Asked.{AsksIn};
 ghost use Rattle.esto_data.specs.Audit.{OpensNextRows, OpensRows, ReadsRows, audit_course, audit_text, audits_catalogue, audits_facts, compares, judges_views};
-ghost use Rattle.esto_opening.specs.Fragments.{IsStoredAt};
 
 use crate::datasets::load_all;
 use esto_catalog::{Catalogue, catalogues_are_sound};
 use esto_fill::{AnswerError, Loaded, TextRowsList, audit_views, audits_are_over_files};
-use esto_opening::{FRAGMENT_LIMIT, Reply, Status, fetch, open_catalogue};
+use esto_fragments::FRAGMENT_LIMIT;
+use esto_opening::{Reply, Status, fetch, open_catalogue};
 use esto_ports::{FileError, Shelf};
 use esto_run::open_store;
 use esto_term::{Bytes, List, OutOfMemory, Replicate, Text, TextRows};

@@ -1,11 +1,10 @@
 //! The command `fill`.
 ghost use Rattle.std.specs.Prelude.{◌≡◌, ◌<◌, ◌≤◌, length, IsTrue, ◌↔◌};
-ghost use Rattle.esto_opening.specs.Fragments.{Stored};
+ghost use Rattle.esto_fragments.specs.Fragments.{Stored, IsStoredAt};
 ghost use Rattle.esto_ports.specs.Faults.{Rises};
 ghost use Rattle.esto_opening.specs.Answers.{Answers};
 ghost use Rattle.esto_opening.specs.Asked.{AsksIn};
 ghost use Rattle.esto_data.specs.Fill.{fill_course, fill_status, fills_file, fills_fragment, fills_named, finds_fragment, make_course};
-ghost use Rattle.esto_opening.specs.Fragments.{IsStoredAt};
 
 use crate::datasets::load_named;
 use esto_catalog::{Catalogue, catalogues_are_sound};

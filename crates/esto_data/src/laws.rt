@@ -6,6 +6,7 @@ ghost use Rattle.esto_data.specs.Laws.{MakesAreOne, RepliesAreAudited, UnionAnsw
 use esto_catalog::catalogues_are_sound;
 use esto_constraint::rules_are_sound;
 use esto_fill::{answers_rest_on_their_datasets, outcomes_are_one};
+use esto_fragments::fragment_files_are_one;
 use esto_opening::{opened_unions_are_queries, openings_are_one};
 
 // The laws by which the commands on data are determined, together.
@@ -13,6 +14,7 @@ fn data_laws_hold()
     ensures { DataLaws }
 {
     openings_are_one();
+    fragment_files_are_one();
     outcomes_are_one();
     rules_are_sound();
 }

@@ -9,10 +9,10 @@ use Rattle.esto_constraint.specs.Constraints.{rules_of}
 use Rattle.esto_opening.specs.Alike.{AreSameQueries}
 use Rattle.esto_opening.specs.Answers.{IsCaused}
 use Rattle.esto_opening.specs.Calm.{Leads}
-use Rattle.esto_opening.specs.Fragments.{opens_fragments, IsReadableFragment}
+use Rattle.esto_fragments.specs.Fragments.{opens_fragments, IsReadableFragment}
 use Rattle.esto_opening.specs.Line.{line_of}
-use Rattle.esto_opening.specs.Readable.{OpenedAreReadable, ReadableAreOpened, TellsOfFile}
-use Rattle.esto_opening.specs.Readable.TellsOfFile.{fails, is_longer, has_fault}
+use Rattle.esto_fragments.specs.Readable.{OpenedAreReadable, ReadableAreOpened, TellsOfFile}
+use Rattle.esto_fragments.specs.Readable.TellsOfFile.{fails, is_longer, has_fault}
 use Rattle.esto_opening.specs.Replies.{reply_status, reply_text}
 use Rattle.esto_opening.specs.declared.reply.Reply.{Reply}
 use Rattle.esto_opening.specs.declared.reply.Reply.TheVariants.{Done}

@@ -5,14 +5,15 @@ use Rattle.esto_catalog.specs.Determined.{AreSame}
 use Rattle.esto_catalog.specs.declared.catalogue.Catalogue.{Catalogue}
 use Rattle.esto_chase_laws.specs.declared.clash.Clash.{Clash}
 use Rattle.esto_course.specs.Course.{Course, and_then, each, gives, judges}
-use Rattle.esto_opening.proofs.StoreLemmas.{same_fault, same_file, same_named}
-use Rattle.esto_opening.proofs.ReadableLemmas.{stored_here}
+use Rattle.esto_fragments.proofs.StoreLemmas.{same_fault, same_file, same_named}
+use Rattle.esto_fragments.proofs.ReadableLemmas.{stored_here}
 use Rattle.esto_opening.proofs.AlikeLemmas.{same_rows_text}
-use Rattle.esto_opening.specs.Alike.{AreSameQueries, IsSameQuery, StoresHaveOneContent}
+use Rattle.esto_opening.specs.Alike.{AreSameQueries, IsSameQuery}
+use Rattle.esto_fragments.specs.Alike.{StoresHaveOneContent}
 use Rattle.esto_opening.specs.Calm.{Leads}
 use Rattle.esto_opening.specs.Fetch.{fetches}
-use Rattle.esto_opening.specs.Fragments.{IsStoredAt, Stored, no_contents, opens_fragment, opens_fragments, opens_next, opens_stored, with_content}
-use Rattle.esto_opening.specs.declared.fragments.TheConstants.{FRAGMENT_LIMIT}
+use Rattle.esto_fragments.specs.Fragments.{IsStoredAt, Stored, no_contents, opens_fragment, opens_fragments, opens_next, opens_stored, with_content}
+use Rattle.esto_fragments.specs.declared.fragments.TheConstants.{FRAGMENT_LIMIT}
 use Rattle.esto_opening.specs.declared.reply.Reply.{Reply}
 use Rattle.esto_opening.specs.declared.reply.Reply.TheVariants.{Unsatisfiable}
 use Rattle.esto_opening.specs.declared.status.Status.{Status}

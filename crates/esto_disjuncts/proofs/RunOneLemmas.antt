@@ -9,9 +9,10 @@ use Rattle.esto_chase_laws.specs.declared.clash.Clash.{Clash}
 use Rattle.esto_course.specs.Course.{judges}
 use Rattle.esto_course.proofs.Determined.{gives_agree, judges_agree, then_agree}
 use Rattle.esto_list.specs.declared.listing.Listed.{Listed}
-use Rattle.esto_opening.specs.Alike.{AreSameQueries, FragmentsOpenAlike, StoresHaveOneContent}
+use Rattle.esto_opening.specs.Alike.{AreSameQueries}
+use Rattle.esto_fragments.specs.Alike.{FragmentsOpenAlike, StoresHaveOneContent}
 use Rattle.esto_opening.specs.Calm.{AgreeCalmly}
-use Rattle.esto_opening.specs.Fragments.{opens_fragments}
+use Rattle.esto_fragments.specs.Fragments.{opens_fragments}
 use Rattle.esto_opening.specs.declared.reply.Reply.{Reply}
 use Rattle.esto_opening.specs.declared.reply.Reply.TheVariants.{Done, Unsatisfiable}
 use Rattle.esto_opening.specs.declared.status.Status.{Status}

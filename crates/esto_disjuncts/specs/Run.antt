@@ -5,7 +5,7 @@ use Rattle.esto_catalog.specs.declared.catalogue.Catalogue.{Catalogue}
 use Rattle.esto_chase_laws.specs.declared.clash.Clash.{Clash}
 use Rattle.esto_course.specs.Course.{Course, judges, gives, and_then}
 use Rattle.esto_list.specs.declared.listing.Listed.{Listed}
-use Rattle.esto_opening.specs.Fragments.{opens_fragments}
+use Rattle.esto_fragments.specs.Fragments.{opens_fragments}
 use Rattle.esto_opening.specs.declared.reply.Reply.{Reply}
 use Rattle.esto_opening.specs.declared.reply.Reply.TheVariants.{Done, Unsatisfiable}
 use Rattle.esto_opening.specs.declared.status.Status.{Status}

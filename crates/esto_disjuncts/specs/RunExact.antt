@@ -4,7 +4,7 @@ use Rattle.esto_catalog.specs.declared.catalogue.Catalogue.{Catalogue}
 use Rattle.esto_chase_laws.specs.declared.clash.Clash.{Clash}
 use Rattle.esto_constraint.specs.Constraints.{rules_of}
 use Rattle.esto_opening.specs.Calm.{Leads}
-use Rattle.esto_opening.specs.Fragments.{IsReadableFragment}
+use Rattle.esto_fragments.specs.Fragments.{IsReadableFragment}
 use Rattle.esto_opening.specs.Line.{line_of}
 use Rattle.esto_opening.specs.Replies.{reply_status, reply_text}
 use Rattle.esto_opening.specs.declared.status.Status.{Status}

@@ -7,7 +7,7 @@ ghost use Rattle.esto_disjuncts.specs.RunLaws.{ChosenAreRewriting, RunsAnswerUni
 ghost use Rattle.esto_disjuncts.specs.RunLaws.{UnionRunsAreMoved, UnionRunsAreOne};
 ghost use Rattle.esto_disjuncts.specs.RunExact.{UnionRunsAreExact};
 
-use esto_opening::{openings_are_one, readable_fragments_are_opened};
+use esto_fragments::{fragment_files_are_one, readable_fragments_are_opened};
 use esto_plan_laws::{
     choices_are_executable_unions, executable_unions_exist, executable_unions_map_onto_sets,
     plans_receive_unions,
@@ -91,7 +91,7 @@ pub fn union_runs_are_moved()
     ensures { UnionRunsAreMoved }
 {
     plans_and_lists_are_moved();
-    openings_are_one();
+    fragment_files_are_one();
 }
 
 /// A law: over catalogues that say the same, `run` answers to unions of the same queries with one reply, or one refusal.
@@ -101,7 +101,7 @@ pub fn union_runs_are_one()
     members_are_one();
     plans_and_lists_are_one();
     used_by_all_are_one();
-    openings_are_one();
+    fragment_files_are_one();
     rising_rows_are_one();
 }
 

@@ -4,13 +4,10 @@ pub mod TextSteps
 pub mod FileSteps
 pub mod LoopSteps
 pub mod OpeningLemmas
-pub mod FragmentLemmas
 pub mod LeadLemmas
 pub mod StatusLemmas
 pub mod AgreeLemmas
-pub mod StoreLemmas
 pub mod AlikeLemmas
-pub mod ReadableLemmas
 pub mod RefusalLemmas
 pub mod UnionLemmas
 mod LineLemmas

@@ -8,9 +8,7 @@ use Rattle.esto_ports.specs.Files.{Files}
 use Rattle.esto_opening.specs.Calm.{Leads}
 use Rattle.esto_opening.specs.Fetch.{FetchStops, fetches}
 use Rattle.esto_opening.specs.Fetch.FetchStops.{fails, is_longer}
-use Rattle.esto_opening.specs.Fragments.{opens_fragment, opens_fragments, opens_next, no_contents, with_content}
 use Rattle.esto_opening.specs.Opening.{opens_catalogue, opens_query, opens_union, status_of}
-use Rattle.esto_opening.specs.declared.fragments.TheConstants.{FRAGMENT_LIMIT}
 use Rattle.esto_opening.specs.declared.opening.TheConstants.{CATALOGUE_LIMIT, QUERY_LIMIT}
 use Rattle.esto_opening.specs.declared.status.Status.{Status}
 use Rattle.esto_opening.specs.declared.status.Status.TheVariants as status
@@ -64,15 +62,3 @@ module _ (files : Files) where
   pub union_refuses : (name : List ℕ) (catalogue : Catalogue) → Refuses (opens_union (Some files) name catalogue)
   union_refuses name catalogue = then_refuses _ _ (fetch_refuses files name QUERY_LIMIT)
       (λ bytes. judges_refuses _ _ (λ said (fault, first, is). λ done. let h : status.BadQuery fault ≡ status.Done = sym is ∙ done in cc))
-
-  pub fragment_refuses : (catalogue : Catalogue) (number : ℕ) → Refuses (opens_fragment (Some files) catalogue number)
-  fragment_refuses catalogue number = then_refuses _ _ (judges_refuses _ _ (λ said never. absurd never))
-      (λ stored. then_refuses _ _ (fetch_refuses files stored.store.file FRAGMENT_LIMIT)
-      (λ bytes. then_refuses _ _ (judges_refuses _ _ (λ said (fault, found, is).
-      λ done. let h : status.BadFragment stored.definition.name fault ≡ status.Done = sym is ∙ done in cc))
-      (λ value. gives_refuses bytes)))
-
-  pub fragments_refuse : (catalogue : Catalogue) (numbers : List ℕ) → Refuses (opens_fragments (Some files) catalogue numbers)
-  fragments_refuse catalogue numbers = each_refuses (opens_next (Some files) catalogue)
-      (λ place contents number. then_refuses _ _ (fragment_refuses catalogue number) (λ bytes. gives_refuses (with_content contents number bytes)))
-      0 no_contents numbers

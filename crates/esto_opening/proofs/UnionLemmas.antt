@@ -1,6 +1,5 @@
 -- Unions of queries that are opened.
-use Rattle.std.proofs.Common.{◌≡◌, ◌↔◌, ◌<◌, ℕ, List, [], ◌∷◌, length, slice_get, Option, Some, refl, sym, ap, subst, ◌∙◌, arith}
-use Rattle.std.proofs.lemmas.Option.{same_Some}
+use Rattle.std.proofs.Common.{◌≡◌, ◌↔◌, ◌<◌, ℕ, List, [], ◌∷◌, length, Option, Some, refl, sym, ap, subst, ◌∙◌, arith}
 use Rattle.esto_catalog.specs.Determined.{AreSame, CataloguesAreSound}
 use Rattle.esto_catalog.specs.declared.catalogue.Catalogue.{Catalogue}
 use Rattle.esto_course.specs.Course.{and_then, judges}
@@ -15,8 +14,6 @@ use Rattle.esto_read.specs.Unions.{head_length}
 use Rattle.esto_read.specs.declared.read.NamedQuery.{NamedQuery}
 use Rattle.esto_read.specs.declared.words.Word.{Word}
 use Rattle.esto_read.proofs.UnionLemmas.{one_length}
-use Rattle.esto_run.specs.Answers.{rows_text}
-use Rattle.esto_stores.specs.Rows.{Row}
 use Rattle.esto_term.proofs.ListLemmas.{Contains-map_from}
 use Rattle.esto_text.specs.Faults.{IsUnionText}
 use Rattle.esto_text.specs.Trees.{QueryTree}
@@ -25,7 +22,7 @@ use Rattle.esto_opening.specs.Alike.{AreSameQueries, IsSameQuery}
 use Rattle.esto_opening.specs.Calm.{AgreeCalmly, Leads}
 use Rattle.esto_opening.specs.Fetch.{fetches}
 use Rattle.esto_opening.specs.Opening.{FilesSayUnion, opens_query, opens_union, reads_query, reads_union, unnamed}
-use Rattle.esto_opening.specs.Unions.{FormUnion, HaveOneHeadLength, union_rows_text}
+use Rattle.esto_opening.specs.Unions.{FormUnion, HaveOneHeadLength}
 use Rattle.esto_opening.specs.declared.opening.TheConstants.{QUERY_LIMIT}
 use Rattle.esto_opening.specs.declared.status.Status.TheVariants as status
 use Rattle.esto_opening.proofs.AgreeLemmas.{fetches-agree}
@@ -175,12 +172,3 @@ opens_alone files name catalogue query agree goes = record {
   goes = λ queries there. agree.one (query ∷ []) queries goes there;
   stops = λ said caused stop. agree.apart (query ∷ []) said caused goes stop;
 }
-
--- ---- the text of rows
-
-pub first_text : (queries : List Query) (rows : List Row) (query : Query) (text : List ℕ) → slice_get queries 0 ≡ Some query → text ≡ rows_text query rows
-    → text ≡ union_rows_text queries rows
-first_text [] rows query text at is = absurd (cc)
-first_text (first ∷ rest) rows query text at is =
-    let same : first ≡ query = same_Some first query at in
-    is ∙ ap (λ (it : Query). rows_text it rows) (sym same)

@@ -5,7 +5,5 @@ pub mod Fetch
 pub mod Calm
 pub mod Asked
 pub mod Opening
-pub mod Fragments
 pub mod Alike
-pub mod Readable
 pub mod Unions

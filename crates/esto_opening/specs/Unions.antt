@@ -1,10 +1,8 @@
 -- Unions of queries that are opened, and the text of their rows.
-use Rattle.std.specs.Prelude.{◌≡◌, ◌↔◌, ℕ, ◌<◌, List, [], ◌∷◌, length, All, Contains, Option, Some}
+use Rattle.std.specs.Prelude.{◌≡◌, ◌↔◌, ℕ, ◌<◌, List, [], ◌∷◌, length, Contains, Option, Some}
 use Rattle.esto_catalog.specs.declared.catalogue.Catalogue.{Catalogue}
 use Rattle.esto_ports.specs.Files.{Files}
 use Rattle.esto_query.specs.declared.query.Query.{Query}
-use Rattle.esto_run.specs.Answers.{rows_text}
-use Rattle.esto_stores.specs.Rows.{Row}
 use Rattle.esto_opening.specs.Alike.{AreSameQueries}
 use Rattle.esto_opening.specs.Calm.{Leads}
 use Rattle.esto_opening.specs.Opening.{FilesSayUnion, opens_query, opens_union}
@@ -17,15 +15,6 @@ HaveOneHeadLength queries = (query other : Query) → Contains queries query →
 pub record FormUnion (queries : List Query) : Type 0 where
   pub some : 0 < length queries
   pub lengths : HaveOneHeadLength queries
-
--- The text of rows under the names of the first query's head.
-abbrev pub union_rows_text : List Query → List Row → List ℕ
-union_rows_text [] rows = []
-union_rows_text (query ∷ queries) rows = rows_text query rows
-
--- Each row has as many cells as each query's head has terms.
-abbrev pub FitHeads : List Query → List Row → Type 0
-FitHeads queries rows = (query : Query) → Contains queries query → All (λ row. length row ≡ length query.head) rows
 
 -- ---- laws
 

@@ -1,7 +1,5 @@
 //! Laws of what is opened.
-ghost use Rattle.esto_opening.specs.Alike.{CataloguesOpenAlike, FragmentOpensAlike, FragmentsOpenAlike, QueriesOpenAlike, UnionsOpenAlike};
-ghost use Rattle.esto_opening.specs.Alike.{StoresHaveOneContent, StoresHaveOneFault, StoresHaveOneFile};
-ghost use Rattle.esto_opening.specs.Readable.{OpenedAreReadable, ReadableAreOpened};
+ghost use Rattle.esto_opening.specs.Alike.{CataloguesOpenAlike, QueriesOpenAlike, UnionsOpenAlike};
 ghost use Rattle.esto_opening.specs.Unions.{OpenedFormUnions, QueriesOpenAlone, SaidUnionsOpen, UnionsOfOneAreQueries};
 
 use esto_catalog::{catalogues_are_determined, catalogues_are_sound};
@@ -10,17 +8,11 @@ use esto_read::{
 };
 
 /// A law: where no fetch is at a fault, one file says one catalogue, up to what it means, and one query, or one union of
-/// queries, over such catalogues, and the files of their fragments have one content, which has the same rows or the same
-/// first fault.
+/// queries, over such catalogues.
 pub fn openings_are_one()
     ensures catalogues { CataloguesOpenAlike }
     ensures queries { QueriesOpenAlike }
     ensures unions { UnionsOpenAlike }
-    ensures fragment { FragmentOpensAlike }
-    ensures fragments { FragmentsOpenAlike }
-    ensures file { StoresHaveOneFile }
-    ensures fault { StoresHaveOneFault }
-    ensures rows { StoresHaveOneContent }
 {
     catalogues_are_sound();
     catalogues_are_determined();
@@ -41,10 +33,3 @@ pub fn opened_unions_are_queries()
     union_readings_are_determined();
     unions_of_one_are_queries();
 }
-
-/// A law: over catalogues that say the same, files of fragments that are opened are readable, and readable ones are opened, with
-/// the same contents; if a file is not opened, the refusal tells of it.
-pub fn readable_fragments_are_opened()
-    ensures opened { OpenedAreReadable }
-    ensures readable { ReadableAreOpened }
-{}

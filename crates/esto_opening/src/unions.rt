@@ -1,10 +1,10 @@
 //! The union of queries of a command: its file is fetched, and then read.
-ghost use Rattle.std.specs.Prelude.{◌≡◌, ◌<◌, ◌≤◌, IfOk};
+ghost use Rattle.std.specs.Prelude.{◌≡◌, ◌≤◌, IfOk};
 ghost use Rattle.esto_ports.specs.Faults.{Rises};
 ghost use Rattle.esto_opening.specs.Answers.{Answers};
 ghost use Rattle.esto_opening.specs.Asked.{AsksIn};
 ghost use Rattle.esto_opening.specs.Opening.{reads_union, opens_union, unnamed};
-ghost use Rattle.esto_opening.specs.Unions.{FitHeads, FormUnion, union_rows_text};
+ghost use Rattle.esto_opening.specs.Unions.{FormUnion};
 
 use crate::fetching::fetch;
 use crate::opening::QUERY_LIMIT;
@@ -13,8 +13,7 @@ use esto_catalog::{Catalogue, catalogues_are_sound};
 use esto_ports::Shelf;
 use esto_query::Query;
 use esto_read::{NamedQuery, read_union};
-use esto_run::answers_text;
-use esto_term::{Bytes, List, OutOfMemory, Replicate, Text, TextRows};
+use esto_term::{Bytes, List, OutOfMemory, Replicate, Text};
 use esto_text::ReadError;
 use std::alloc::Global;
 
@@ -67,19 +66,4 @@ pub fn open_union<S: Shelf>(
 {
     let bytes = fetch(alloc, shelf, name, QUERY_LIMIT)?;
     union_of(alloc, &bytes, catalogue)
-}
-
-/// The text of rows of answers of a union: a CSV record of the names of its first query's head, and a record of each row,
-/// in order.
-pub fn union_rows_text(
-    alloc: Global,
-    queries: &Queries,
-    rows: &TextRows,
-) -> Result<Bytes, OutOfMemory>
-    requires union { FormUnion queries.now }
-    requires fit { FitHeads queries.now rows.now }
-    ensures { IfOk result (λ text. text ≡ union_rows_text queries.now rows.now) }
-{
-    let text = answers_text(alloc, queries.item(0), rows)?;
-    Ok(text)
 }

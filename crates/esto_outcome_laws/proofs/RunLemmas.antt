@@ -11,9 +11,9 @@ use Rattle.esto_course.specs.Course.{judges, gives, and_then}
 use Rattle.esto_list.specs.Items.{totals_of}
 use Rattle.esto_list.specs.declared.listing.Listed.{Listed}
 use Rattle.esto_opening.specs.Fetch.{fetches}
-use Rattle.esto_opening.specs.Fragments.{Stored, IsStoredAt, content_fault, reads_content, opens_stored, opens_fragment, opens_fragments, opens_next, no_contents}
-use Rattle.esto_opening.specs.Fragments.{with_content}
-use Rattle.esto_opening.specs.declared.fragments.TheConstants.{FRAGMENT_LIMIT}
+use Rattle.esto_fragments.specs.Fragments.{Stored, IsStoredAt, content_fault, reads_content, opens_stored, opens_fragment, opens_fragments, opens_next, no_contents}
+use Rattle.esto_fragments.specs.Fragments.{with_content}
+use Rattle.esto_fragments.specs.declared.fragments.TheConstants.{FRAGMENT_LIMIT}
 use Rattle.esto_opening.specs.declared.status.Status.{Status}
 use Rattle.esto_opening.specs.declared.status.Status.TheVariants.{BadFragment, NoRewriting, NoSuchNumber, Unsatisfiable}
 use Rattle.esto_opening.proofs.UnionLemmas.{itself}

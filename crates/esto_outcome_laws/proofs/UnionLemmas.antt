@@ -20,9 +20,9 @@ use Rattle.esto_disjuncts.specs.declared.members.Member.TheVariants.{Planned, Cl
 use Rattle.esto_list.specs.Items.{totals_of}
 use Rattle.esto_list.specs.Text.{each_from}
 use Rattle.esto_list.specs.declared.listing.Listed.{Listed}
-use Rattle.esto_opening.specs.Fragments.{opens_fragments}
+use Rattle.esto_fragments.specs.Fragments.{opens_fragments}
 use Rattle.esto_opening.specs.Line.{line_of}
-use Rattle.esto_opening.specs.Readable.{AreReadable}
+use Rattle.esto_fragments.specs.Readable.{AreReadable}
 use Rattle.esto_opening.specs.declared.reply.Reply.{Reply}
 use Rattle.esto_opening.specs.declared.reply.Reply.TheVariants.{Done, Unsatisfiable as UnsatisfiableReply}
 use Rattle.esto_opening.specs.declared.status.Status.{Status}

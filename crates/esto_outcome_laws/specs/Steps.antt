@@ -11,7 +11,7 @@ use Rattle.esto_data.specs.Fill.{make_course}
 use Rattle.esto_disjuncts.specs.List.{lists_union}
 use Rattle.esto_disjuncts.specs.Run.{runs_union}
 use Rattle.esto_list.specs.declared.listing.Listed.{Listed}
-use Rattle.esto_opening.specs.Fragments.{opens_fragments}
+use Rattle.esto_fragments.specs.Fragments.{opens_fragments}
 use Rattle.esto_opening.specs.Opening.{opens_catalogue, opens_query, opens_union}
 use Rattle.esto_planning.specs.Choice.{IsItemOf, IsPlace}
 use Rattle.esto_planning.specs.Listing.{IsListOf, IsListing, IsPlanned}

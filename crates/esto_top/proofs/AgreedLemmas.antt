@@ -10,10 +10,10 @@ use Rattle.esto_disjuncts.specs.RunExact.{PrintsUnionAnswers}
 use Rattle.esto_fill.specs.Databases.{database_of}
 use Rattle.esto_fill.specs.Texts.{AreTextsOf}
 use Rattle.esto_opening.specs.Calm.{Leads}
-use Rattle.esto_opening.specs.Fragments.{IsReadableFragment}
+use Rattle.esto_fragments.specs.Fragments.{IsReadableFragment}
 use Rattle.esto_opening.specs.Opening.{FilesSayCatalogue}
 use Rattle.esto_opening.specs.Replies.{reply_status, reply_text}
-use Rattle.esto_opening.specs.Unions.{union_rows_text}
+use Rattle.esto_fragments.specs.Texts.{union_rows_text}
 use Rattle.esto_opening.specs.declared.reply.Reply.TheVariants.{Done}
 use Rattle.esto_opening.specs.declared.status.Status.{Status}
 use Rattle.esto_opening.specs.declared.status.Status.TheVariants as status

@@ -13,7 +13,8 @@ use Rattle.esto_semantics.specs.Queries.{ConjunctiveQuery}
 use Rattle.esto_stores.specs.Rows.{Row}
 use Rattle.esto_views.specs.declared.plan.Plan.{Plan}
 use Rattle.esto_top.specs.Run.{IsRunText}
-use Rattle.esto_opening.specs.Alike.{IsSameQuery, StoresHaveOneContent}
+use Rattle.esto_opening.specs.Alike.{IsSameQuery}
+use Rattle.esto_fragments.specs.Alike.{StoresHaveOneContent}
 use Rattle.esto_opening.proofs.AlikeLemmas.{same_rows_text}
 use Rattle.esto_planning.specs.Alike.{IsSamePlan}
 

@@ -19,7 +19,7 @@ use Rattle.esto_semantics.specs.Listed.{candidate}
 use Rattle.esto_semantics.specs.Queries.{ConjunctiveQuery}
 use Rattle.esto_views.specs.Plans.{plan_query}
 use Rattle.esto_views.specs.declared.plan.Plan.{Plan}
-use Rattle.esto_opening.specs.Fragments.{opens_fragments}
+use Rattle.esto_fragments.specs.Fragments.{opens_fragments}
 use Rattle.esto_top.specs.Run.{IsRunText, runs_item, runs_plan, runs_end, runs_query}
 use Rattle.esto_opening.specs.declared.reply.Reply.TheVariants.{Done, Unsatisfiable}
 use Rattle.esto_opening.specs.Calm.{AgreeCalmly}

@@ -15,7 +15,7 @@ use Rattle.esto_views.specs.declared.plan.Plan.{Plan}
 use Rattle.esto_disjuncts.specs.Run.{runs_union}
 use Rattle.esto_opening.specs.Answers.{Answers, IsCaused, IsWant}
 use Rattle.esto_opening.specs.Asked.{AsksIn}
-use Rattle.esto_opening.specs.Fragments.{opens_fragments}
+use Rattle.esto_fragments.specs.Fragments.{opens_fragments}
 use Rattle.esto_opening.specs.declared.reply.Reply.{Reply}
 use Rattle.esto_opening.specs.declared.reply.Reply.TheVariants.{Done}
 use Rattle.esto_opening.specs.declared.status.Status.{Status}

@@ -32,9 +32,9 @@ use Rattle.esto_views.specs.Fragments.{views_of, patterns_of}
 use Rattle.esto_views.specs.Plans.{plan_query}
 use Rattle.esto_views.specs.declared.plan.Plan.{Plan}
 use Rattle.esto_opening.specs.Answers.{IsCaused}
-use Rattle.esto_opening.specs.Fragments.{IsReadableFragment, opens_fragments}
-use Rattle.esto_opening.specs.Readable.{AreReadable, OpenedAreReadable, ReadableAreOpened, TellsOfFile}
-use Rattle.esto_opening.specs.Readable.TellsOfFile.{fails, is_longer, has_fault}
+use Rattle.esto_fragments.specs.Fragments.{IsReadableFragment, opens_fragments}
+use Rattle.esto_fragments.specs.Readable.{AreReadable, OpenedAreReadable, ReadableAreOpened, TellsOfFile}
+use Rattle.esto_fragments.specs.Readable.TellsOfFile.{fails, is_longer, has_fault}
 use Rattle.esto_opening.proofs.StatusLemmas.{same_clash, same_asked, same_least}
 use Rattle.esto_top.specs.Grammar.{course_of, is_list_number}
 use Rattle.esto_top.specs.Headline.{FilesSay, HasAnswers, Rewrites}

@@ -18,7 +18,7 @@ use Rattle.esto_opening.specs.Asked.{Fetches}
 use Rattle.esto_opening.specs.Asked.Fetches.{to_lack, to_refusal, to_value}
 use Rattle.esto_opening.specs.Fetch.{FetchStops, fetches}
 use Rattle.esto_opening.specs.Fetch.FetchStops.{fails, is_longer}
-use Rattle.esto_opening.specs.Fragments.{opens_fragments}
+use Rattle.esto_fragments.specs.Fragments.{opens_fragments}
 use Rattle.esto_opening.specs.Opening.{opens_catalogue, opens_query, opens_union}
 use Rattle.esto_opening.specs.declared.status.Status.{Status}
 use Rattle.esto_opening.specs.declared.status.Status.TheVariants.{ReadFault}

@@ -1,7 +1,8 @@
 -- The laws of what is opened, of plans and lists, and of steps, on which outcomes rest.
 use Rattle.esto_backchase.specs.Listing.{ListedCoverRewritings}
 use Rattle.esto_semantics.specs.ListedLaws.{NoRewritingExists, PickWeighsLeastOfAll}
-use Rattle.esto_opening.specs.Alike.{CataloguesOpenAlike, FragmentOpensAlike, FragmentsOpenAlike, StoresHaveOneContent, UnionsOpenAlike}
+use Rattle.esto_opening.specs.Alike.{CataloguesOpenAlike, UnionsOpenAlike}
+use Rattle.esto_fragments.specs.Alike.{FragmentOpensAlike, FragmentsOpenAlike, StoresHaveOneContent}
 use Rattle.esto_opening.specs.Unions.{OpenedFormUnions, UnionsOfOneAreQueries}
 use Rattle.esto_outcome_laws.specs.Steps.{AnswersEnd, AuditsEnd, CasesHaveSummaries, CataloguesOpen, ContainmentsEnd, ItemsAreChosen, MinimisationsEnd}
 use Rattle.esto_outcome_laws.specs.Steps.{PlansHaveLists, PlansHaveTexts, QueriesArePlanned, QueriesHaveEnds, SetsHaveRows, SetsOpen, SetsUseFragments}

@@ -22,7 +22,7 @@ use Rattle.esto_views.specs.Fragments.{views_of}
 use Rattle.esto_views.specs.Plans.{plan_query}
 use Rattle.esto_views.specs.declared.plan.Plan.{Plan}
 use Rattle.esto_opening.specs.Line.{line_of}
-use Rattle.esto_opening.specs.Fragments.{IsReadableFragment}
+use Rattle.esto_fragments.specs.Fragments.{IsReadableFragment}
 use Rattle.esto_top.specs.Grammar.{is_list_number, value_of}
 use Rattle.esto_top.specs.Headline.{FilesSay, HasAnswers, HoldsOfPut, Rewrites}
 use Rattle.esto_top.specs.Outcome.{Outcome}

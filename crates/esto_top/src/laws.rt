@@ -27,7 +27,8 @@ use esto_disjuncts::{
     union_lists_are_exact, union_lists_are_moved, union_lists_are_one, union_runs_are_exact,
     union_runs_are_moved, union_runs_are_one,
 };
-use esto_opening::{opened_unions_are_queries, openings_are_one, readable_fragments_are_opened};
+use esto_fragments::{fragment_files_are_one, readable_fragments_are_opened};
+use esto_opening::{opened_unions_are_queries, openings_are_one};
 use esto_outcome_laws::{
     cases_have_summaries, commands_come_to_an_end, files_are_opened, plans_have_lists,
     queries_have_plans_or_clashes, sets_are_run, unions_are_listed_and_run,
@@ -45,6 +46,7 @@ fn openings_hold()
     ensures { OpeningLaws }
 {
     openings_are_one();
+    fragment_files_are_one();
     opened_unions_are_queries();
 }
 

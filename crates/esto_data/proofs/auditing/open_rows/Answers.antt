@@ -1,4 +1,4 @@
-use Rattle.esto_opening.proofs.FragmentLemmas.{stored_at}
+use Rattle.esto_fragments.proofs.FragmentLemmas.{stored_at}
 use Rattle.esto_data.proofs.RowLemmas.{rows_by, rows_exit}
 use Rattle.esto_data.proofs.auditing.open_rows.Goals as goal
 

@@ -1,7 +1,7 @@
 use Rattle.std.proofs.Common.{◌<◌, ◌≤◌, ap, arith, get_or, length, refl, ◌∙◌}
 use Rattle.esto_ports.specs.Faults.{Rises}
 use Rattle.esto_opening.proofs.Steps.{end_stops}
-use Rattle.esto_opening.proofs.FragmentLemmas.{number_read}
+use Rattle.esto_fragments.proofs.FragmentLemmas.{number_read}
 use Rattle.esto_data.proofs.DatasetLemmas.{loading_ends, loading_exit, loading_goes, loading_starts, loading_stop_asks, loading_stops}
 use Rattle.esto_data.proofs.datasets.load_files.Goals as goal
 

@@ -7,7 +7,7 @@ returns c =
       members = c.members_are_one.ensures;
       choice = c.plans_and_lists_are_one.ensures.choice;
       used = c.used_by_all_are_one.ensures;
-      fragments = c.openings_are_one.ensures.fragments;
-      content = c.openings_are_one.ensures.rows;
+      fragments = c.fragment_files_are_one.ensures.fragments;
+      content = c.fragment_files_are_one.ensures.rows;
       rising = c.rising_rows_are_one.ensures;
     })

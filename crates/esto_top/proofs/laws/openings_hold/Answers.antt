@@ -5,7 +5,7 @@ returns c = record {
   catalogues = c.openings_are_one.ensures.catalogues;
   unions = c.openings_are_one.ensures.unions;
   alone = c.opened_unions_are_queries.ensures.one;
-  fragment = c.openings_are_one.ensures.fragment;
-  fragments = c.openings_are_one.ensures.fragments;
-  rows = c.openings_are_one.ensures.rows;
+  fragment = c.fragment_files_are_one.ensures.fragment;
+  fragments = c.fragment_files_are_one.ensures.fragments;
+  rows = c.fragment_files_are_one.ensures.rows;
 }

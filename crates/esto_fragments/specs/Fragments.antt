@@ -12,7 +12,7 @@ use Rattle.esto_views.specs.declared.fragments.FragmentDef.{FragmentDef}
 use Rattle.esto_opening.specs.Answers.{IsWant, IsCaused}
 use Rattle.esto_opening.specs.Asked.{AsksIn}
 use Rattle.esto_opening.specs.Fetch.{HasWithin, fetches}
-use Rattle.esto_opening.specs.declared.fragments.TheConstants.{FRAGMENT_LIMIT}
+use Rattle.esto_fragments.specs.declared.fragments.TheConstants.{FRAGMENT_LIMIT}
 use Rattle.esto_opening.specs.declared.status.Status.{Status}
 use Rattle.esto_opening.specs.declared.status.Status.TheVariants.{BadFragment}
 

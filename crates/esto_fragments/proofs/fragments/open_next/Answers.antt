@@ -1,6 +1,6 @@
 use Rattle.esto_run.specs.Opened.{rows_held}
-use Rattle.esto_opening.proofs.FragmentLemmas.{next_exit, opens_next_by, stored_at}
-use Rattle.esto_opening.proofs.fragments.open_next.Goals as goal
+use Rattle.esto_fragments.proofs.FragmentLemmas.{next_exit, opens_next_by, stored_at}
+use Rattle.esto_fragments.proofs.fragments.open_next.Goals as goal
 
 pub returns-in_err-bytes-clause-answer : goal.returns-in_err-bytes-clause-answer
 returns-in_err-bytes-clause-answer g c =

@@ -1,6 +1,6 @@
 use Rattle.std.proofs.Common.{◌∙◌, Err, Ok}
-use Rattle.esto_opening.proofs.FragmentLemmas.{content_goes, content_stops, fault_given, gives_stored, same_name}
-use Rattle.esto_opening.proofs.fragments.read_content.Goals as goal
+use Rattle.esto_fragments.proofs.FragmentLemmas.{content_goes, content_stops, fault_given, gives_stored, same_name}
+use Rattle.esto_fragments.proofs.fragments.read_content.Goals as goal
 
 pub returns-in-Ok-clause-answer : goal.returns-in-Ok-clause-answer
 returns-in-Ok-clause-answer c = λ stored at.

@@ -19,8 +19,8 @@ use Rattle.esto_stores.specs.Rows.{Row}
 use Rattle.esto_stores.specs.Table.{table_rows, table_fault}
 use Rattle.esto_term.proofs.ListLemmas.{map_at, map_at-from}
 use Rattle.esto_views.specs.declared.fragments.FragmentDef.{FragmentDef}
-use Rattle.esto_opening.specs.Alike.{StoresHaveOneContent, StoresHaveOneFault, StoresHaveOneFile}
-use Rattle.esto_opening.specs.Fragments.{Stored, IsStoredAt, content_fault}
+use Rattle.esto_fragments.specs.Alike.{StoresHaveOneContent, StoresHaveOneFault, StoresHaveOneFile}
+use Rattle.esto_fragments.specs.Fragments.{Stored, IsStoredAt, content_fault}
 
 -- ---- stores that are one but for how their patterns are written
 

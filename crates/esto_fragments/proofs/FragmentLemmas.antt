@@ -28,9 +28,9 @@ use Rattle.esto_term.proofs.PlaceLemmas.{drop-item, take-item}
 use Rattle.esto_views.specs.declared.fragments.FragmentDef.{FragmentDef}
 use Rattle.esto_opening.specs.Answers.{IsWant, IsCaused}
 use Rattle.esto_opening.specs.Fetch.{fetches}
-use Rattle.esto_opening.specs.Fragments.{Stored, IsStoredAt, content_fault, reads_content, opens_stored, opens_fragment, no_contents, with_content, opens_next}
-use Rattle.esto_opening.specs.Fragments.{opens_fragments, Takes, Reads, OpensNext, OpensAll}
-use Rattle.esto_opening.specs.declared.fragments.TheConstants.{FRAGMENT_LIMIT}
+use Rattle.esto_fragments.specs.Fragments.{Stored, IsStoredAt, content_fault, reads_content, opens_stored, opens_fragment, no_contents, with_content, opens_next}
+use Rattle.esto_fragments.specs.Fragments.{opens_fragments, Takes, Reads, OpensNext, OpensAll}
+use Rattle.esto_fragments.specs.declared.fragments.TheConstants.{FRAGMENT_LIMIT}
 use Rattle.esto_opening.specs.declared.status.Status.{Status}
 use Rattle.esto_opening.specs.declared.status.Status.TheVariants.{BadFragment}
 use Rattle.esto_course.specs.Course.{Names}

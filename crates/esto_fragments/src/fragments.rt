@@ -2,11 +2,10 @@
 ghost use Rattle.std.specs.Prelude.{◌≡◌, ◌≢◌, ◌<◌, ◌≤◌, ℕ, length, Contains, AllPairs};
 ghost use Rattle.esto_ports.specs.Faults.{Rises};
 ghost use Rattle.esto_run.specs.Opened.{AreRowsFor, rows_held};
-ghost use Rattle.esto_opening.specs.Fragments.{Stored, IsStoredAt, OpensAll, OpensNext, Reads};
+ghost use Rattle.esto_fragments.specs.Fragments.{Stored, IsStoredAt, OpensAll, OpensNext, Reads};
 
-use crate::fetching::fetch;
-use crate::status::Status;
 use esto_catalog::{Catalogue, catalogues_are_sound};
+use esto_opening::{Status, fetch};
 use esto_ports::{FileError, Shelf};
 use esto_run::{FragmentRows, no_rows, open_fragment};
 use esto_term::{Bytes, Places, Replicate};

@@ -1,6 +1,6 @@
 use Rattle.esto_term.proofs.ListLemmas.{Contains-at}
-use Rattle.esto_opening.proofs.UnionLemmas.{first_text}
-use Rattle.esto_opening.proofs.unions.union_rows_text.Goals as goal
+use Rattle.esto_fragments.proofs.TextLemmas.{first_text}
+use Rattle.esto_fragments.proofs.texts.union_rows_text.Goals as goal
 
 pub answers_text-requires : goal.answers_text-requires
 answers_text-requires c = c.requires.fit c.item.result.now (Contains-at c.args.queries.now 0 c.item.result.now c.item.ensures)

@@ -2,13 +2,13 @@ use Rattle.std.proofs.Common.{◌≤◌, ◌<◌, length, get_or, refl, ap, ◌�
 use Rattle.esto_ports.specs.Faults.{Rises}
 use Rattle.esto_run.specs.Opened.{rows_held}
 use Rattle.esto_course.specs.Course.Stops.{is_free}
-use Rattle.esto_opening.specs.Fragments.{no_contents, opens_fragments}
+use Rattle.esto_fragments.specs.Fragments.{no_contents, opens_fragments}
 use Rattle.esto_opening.specs.declared.status.Status.TheVariants.{OutOfMemory}
 use Rattle.esto_opening.proofs.AskedSteps.{early_want}
-use Rattle.esto_opening.proofs.FragmentLemmas.{fragments_way, number_inside, number_read, opening_ends, opening_exit, opening_goes, opening_starts}
-use Rattle.esto_opening.proofs.FragmentLemmas.{opening_stop_asks, opening_stops}
+use Rattle.esto_fragments.proofs.FragmentLemmas.{fragments_way, number_inside, number_read, opening_ends, opening_exit, opening_goes, opening_starts}
+use Rattle.esto_fragments.proofs.FragmentLemmas.{opening_stop_asks, opening_stops}
 use Rattle.esto_opening.proofs.Steps.{end_stops}
-use Rattle.esto_opening.proofs.fragments.open_fragments.Goals as goal
+use Rattle.esto_fragments.proofs.fragments.open_fragments.Goals as goal
 
 pub numbers-init : goal.numbers-init
 numbers-init g c = (

@@ -1,7 +1,7 @@
 use Rattle.std.proofs.Common.{◌≡◌, ◌≤◌}
 use Rattle.esto_run.specs.Opened.{AreRowsFor, rows_held}
-use Rattle.esto_opening.proofs.FragmentLemmas.{SoFar}
-use Rattle.esto_opening.proofs.fragments.open_fragments.Given as goal
+use Rattle.esto_fragments.proofs.FragmentLemmas.{SoFar}
+use Rattle.esto_fragments.proofs.fragments.open_fragments.Given as goal
 
 abbrev pub invariant-numbers : goal.invariant-numbers
 invariant-numbers g l =

@@ -12,15 +12,15 @@ use Rattle.esto_opening.specs.Answers.{IsCaused}
 use Rattle.esto_opening.specs.Calm.{Leads}
 use Rattle.esto_opening.specs.Fetch.{FetchStops, HasWithin, fetches}
 use Rattle.esto_opening.specs.Fetch.FetchStops.{fails, is_longer}
-use Rattle.esto_opening.specs.Fragments.{IsReadableFragment, IsStoredAt, Stored, content_fault, no_contents, opens_fragment, opens_fragments, opens_next}
-use Rattle.esto_opening.specs.Fragments.{with_content}
-use Rattle.esto_opening.specs.Readable.{OpenedAreReadable, ReadableAreOpened, TellsOfFile}
-use Rattle.esto_opening.specs.Readable.TellsOfFile.{fails as file_fails, is_longer as file_longer, has_fault}
-use Rattle.esto_opening.specs.declared.fragments.TheConstants.{FRAGMENT_LIMIT}
+use Rattle.esto_fragments.specs.Fragments.{IsReadableFragment, IsStoredAt, Stored, content_fault, no_contents, opens_fragment, opens_fragments, opens_next}
+use Rattle.esto_fragments.specs.Fragments.{with_content}
+use Rattle.esto_fragments.specs.Readable.{OpenedAreReadable, ReadableAreOpened, TellsOfFile}
+use Rattle.esto_fragments.specs.Readable.TellsOfFile.{fails as file_fails, is_longer as file_longer, has_fault}
+use Rattle.esto_fragments.specs.declared.fragments.TheConstants.{FRAGMENT_LIMIT}
 use Rattle.esto_opening.specs.declared.status.Status.{Status}
-use Rattle.esto_opening.proofs.AlikeLemmas.{fragment_agree}
+use Rattle.esto_fragments.proofs.AlikeLemmas.{fragment_agree}
 use Rattle.esto_opening.proofs.LeadLemmas.{gives-leads, judges-leads, leads-more, then-leads}
-use Rattle.esto_opening.proofs.StoreLemmas.{same_fault, same_file}
+use Rattle.esto_fragments.proofs.StoreLemmas.{same_fault, same_file}
 
 -- with a further content: that of its number, and the others as they were
 content_cases : (contents : ℕ → List ℕ) (number : ℕ) (bytes : List ℕ) (other : ℕ)

@@ -1,0 +1,5 @@
+
+pub mod Fragments
+pub mod Readable
+pub mod Alike
+pub mod Texts
