@@ -7,7 +7,7 @@ use Rattle.esto_chase_laws.specs.declared.clash.Clash.{Clash}
 use Rattle.esto_course.specs.Course.{Course, and_then, each, gives, judges}
 use Rattle.esto_fragments.proofs.StoreLemmas.{same_fault, same_file, same_named}
 use Rattle.esto_fragments.proofs.ReadableLemmas.{stored_here}
-use Rattle.esto_opening.proofs.AlikeLemmas.{same_rows_text}
+use Rattle.esto_fragments.proofs.TextLemmas.{same_rows_text}
 use Rattle.esto_opening.specs.Alike.{AreSameQueries, IsSameQuery}
 use Rattle.esto_fragments.specs.Alike.{StoresHaveOneContent}
 use Rattle.esto_opening.specs.Calm.{Leads}

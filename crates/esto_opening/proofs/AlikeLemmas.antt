@@ -1,5 +1,5 @@
 -- What is opened over catalogues that say the same agrees.
-use Rattle.std.proofs.Common.{◌≡◌, ◌≢◌, ℕ, List, Some, sym, ap, subst, ◌∙◌, map}
+use Rattle.std.proofs.Common.{◌≡◌, ◌≢◌, ℕ, List, Some, sym, ap, subst, ◌∙◌}
 use Rattle.esto_catalog.specs.Determined.{AreSame, CataloguesAreSound, HaveOneCatalogue, HaveNoError, HaveOneError}
 use Rattle.esto_catalog.specs.Reading.{IsCatalogueOf, IsCatalogueError}
 use Rattle.esto_catalog.specs.declared.catalogue.Catalogue.{Catalogue}
@@ -16,10 +16,6 @@ use Rattle.esto_read.specs.declared.read.NamedQuery.{NamedQuery}
 use Rattle.esto_read.specs.declared.words.Word.{Word}
 use Rattle.esto_text.specs.declared.fault.TextFault.{TextFault}
 use Rattle.esto_query.specs.Making.{query_of}
-use Rattle.esto_run.specs.Answers.{level_name, rows_text}
-use Rattle.esto_stores.specs.Rows.{Row}
-use Rattle.esto_stores.specs.TableText.{table_text}
-use Rattle.esto_term.specs.declared.term.Term.{out-Term}
 use Rattle.esto_opening.specs.Alike.{IsSameQuery}
 use Rattle.esto_opening.specs.Answers.{IsCaused}
 use Rattle.esto_opening.specs.Calm.{AgreeCalmly}
@@ -105,7 +101,3 @@ module _ (sound : CataloguesAreSound) (one : HaveOneCatalogue) (apart : HaveNoEr
 -- queries that say the same have one meaning
 pub same_query : (query other : Query) → IsSameQuery query other → query_of query ≡ query_of other
 same_query query other same = λ i. record { head = same.head i; body = same.body i }
-
--- rows have one text under the names of one head
-pub same_rows_text : (query other : Query) → IsSameQuery query other → (rows : List Row) → rows_text query rows ≡ rows_text other rows
-same_rows_text query other same rows = λ i. table_text (map (λ term. level_name (same.names i) (out-Term term)) (same.head i)) rows

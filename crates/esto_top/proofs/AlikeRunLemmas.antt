@@ -15,7 +15,7 @@ use Rattle.esto_views.specs.declared.plan.Plan.{Plan}
 use Rattle.esto_top.specs.Run.{IsRunText}
 use Rattle.esto_opening.specs.Alike.{IsSameQuery}
 use Rattle.esto_fragments.specs.Alike.{StoresHaveOneContent}
-use Rattle.esto_opening.proofs.AlikeLemmas.{same_rows_text}
+use Rattle.esto_fragments.proofs.TextLemmas.{same_rows_text}
 use Rattle.esto_planning.specs.Alike.{IsSamePlan}
 
 -- a set of rows has one text

@@ -26,7 +26,7 @@ use Rattle.esto_opening.specs.Calm.{AgreeCalmly}
 use Rattle.esto_top.proofs.AlikeRunLemmas.{one_text, run_text_moved}
 use Rattle.esto_top.specs.Laws.{OpeningLaws, PlanningLaws}
 use Rattle.esto_opening.specs.Alike.{IsSameQuery}
-use Rattle.esto_opening.proofs.AlikeLemmas.{same_rows_text}
+use Rattle.esto_fragments.proofs.TextLemmas.{same_rows_text}
 use Rattle.esto_planning.specs.Alike.{IsSameEnd, IsSamePlan}
 use Rattle.esto_planning.specs.Planning.{chooses}
 
