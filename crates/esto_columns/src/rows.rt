@@ -39,23 +39,25 @@ fn code_at(row: &[u64], column: usize) -> u64
     }
 }
 
-/// The codes of the row in the columns.
-fn key_of(alloc: Global, columns: &[usize], row: &[u64]) -> Result<Values<u64>, OutOfMemory>
-    ensures { IfOk result (λ it. it ≡ key_at columns.now row.now) }
+/// Makes the key the codes of the row in the columns.
+fn read_key(columns: &[usize], row: &[u64], key: &mut Values<u64>) -> Result<(), OutOfMemory>
+    ensures { OnOk result (key.new ≡ key_at columns.now row.now) }
 {
-    let mut key = Values::new(alloc);
+    key.truncate(0);
     'columns: for column in columns {
         key.push(code_at(row, *column))?;
     }
-    Ok(key)
+    Ok(())
 }
 
-/// Puts the key of the row at the place into the index of the rows before it.
+/// Puts the key of the row at the place into the index of the rows before it. The row and its key are read into the two
+/// lists.
 fn index_row(
-    alloc: Global,
     table: &Table,
     columns: &[usize],
     at: usize,
+    row: &mut Values<u64>,
+    key: &mut Values<u64>,
     index: &mut Index,
 ) -> Result<(), OutOfMemory>
     requires there { at < length table.now.rows }
@@ -63,8 +65,8 @@ fn index_row(
     ensures { OnOk result
         (IsIndexOf index.new (map (key_at columns.now) (take (at + 1) table.now.rows))) }
 {
-    let row = table.row(alloc, at)?;
-    let key = key_of(alloc, columns, row.items())?;
+    table.read_row(at, row)?;
+    read_key(columns, row.items(), key)?;
     index.add(key.items())
 }
 
@@ -73,8 +75,10 @@ fn indexed(alloc: Global, table: &Table, columns: &[usize]) -> Result<Index, Out
     ensures { IfOk result (λ it. IsIndexOf it (map (key_at columns.now) table.now.rows)) }
 {
     let mut index = Index::new(alloc, table.len())?;
+    let mut row = Values::new(alloc);
+    let mut key = Values::new(alloc);
     'rows: for at in 0..table.len() {
-        index_row(alloc, table, columns, at, &mut index)?;
+        index_row(table, columns, at, &mut row, &mut key, &mut index)?;
     }
     Ok(index)
 }
@@ -143,6 +147,14 @@ impl Rows {
             × (slice_get self.now.rows at ≡ Some row) × (into.new ≡ into.old ++ row)) }
     {
         self.table.push_row(at, into)
+    }
+
+    /// Makes these codes those of the row at a place.
+    pub fn read_row(&self, at: usize, codes: &mut Values<u64>) -> Result<(), OutOfMemory>
+        requires { at < length self.now.rows }
+        ensures { OnOk result (slice_get self.now.rows at ≡ Some codes.new) }
+    {
+        self.table.read_row(at, codes)
     }
 
     /// The row at a place.

@@ -39,12 +39,12 @@ fn holds_all(row: &[u64], inputs: &[Input]) -> bool
     true
 }
 
-/// Puts the row at the place at the end of the others, if it holds the inputs.
+/// Puts the row at the place at the end of the others, if it holds the inputs. It is read into the list.
 fn push_held(
-    alloc: Global,
     rows: &Rows,
     at: usize,
     inputs: &[Input],
+    row: &mut Values<u64>,
     into: &mut Rows,
 ) -> Result<(), OutOfMemory>
     requires there { at < length rows.now.rows }
@@ -57,7 +57,7 @@ fn push_held(
     }) }
 {
     let _arity = rows.arity();
-    let row = rows.row(alloc, at)?;
+    rows.read_row(at, row)?;
     if !holds_all(row.items(), inputs) {
         return Ok(());
     }
@@ -79,8 +79,9 @@ fn held_among(
     }) }
 {
     let mut held = Rows::new(alloc, rows.arity())?;
+    let mut row = Values::new(alloc);
     'places: for place in places {
-        push_held(alloc, rows, *place, inputs, &mut held)?;
+        push_held(rows, *place, inputs, &mut row, &mut held)?;
     }
     Ok(held)
 }

@@ -142,6 +142,15 @@ impl Table {
         Ok(())
     }
 
+    /// Makes these codes those of the row at a place.
+    pub(crate) fn read_row(&self, at: usize, codes: &mut Values<u64>) -> Result<(), OutOfMemory>
+        requires { at < length self.now.rows }
+        ensures { OnOk result (slice_get self.now.rows at ≡ Some codes.new) }
+    {
+        codes.truncate(0);
+        self.push_row(at, codes)
+    }
+
     /// The row at a place.
     pub(crate) fn row(&self, alloc: Global, at: usize) -> Result<Values<u64>, OutOfMemory>
         requires { at < length self.now.rows }
