@@ -15,27 +15,28 @@ use Rattle.esto_term.proofs.PlaceLemmas.{earlier_or_last}
 use Rattle.esto_semantics.specs.Facts.{image}
 use Rattle.esto_semantics.specs.Maps.{Keeps}
 use Rattle.esto_semantics.specs.declared.fact.Fact.{Fact}
-use Rattle.esto_query.specs.Buckets.{places_at, with_place, IsRising, AreRising}
-use Rattle.esto_query.specs.Numbers.{IsNumber, key_of}
-use Rattle.esto_query.specs.Tables.{entry_of, IsTable, AreUnder}
+use Rattle.esto_table.specs.Buckets.{places_at, with_place, AreRising}
+use Rattle.esto_table.specs.Marks.{is_among}
+use Rattle.esto_table.specs.Numbers.{IsNumber, key_of}
+use Rattle.esto_table.specs.Tables.{entry_of, IsTable, AreUnder}
 use Rattle.esto_query.specs.Valuations.{Assignment, Extends}
-use Rattle.esto_query.specs.Indexes.{is_among, AddsTerms, AreInBuckets, AreListed, IsIndex, AreCandidates, AreFrom}
-use Rattle.esto_query.specs.declared.columns.Columns.{Columns}
+use Rattle.esto_query.specs.Indexes.{AddsTerms, AreInBuckets, AreListed, IsIndex, AreCandidates}
+use Rattle.esto_table.specs.declared.marks.Marks.{Marks}
 use Rattle.esto_query.specs.declared.index.Index.{Index}
-use Rattle.esto_query.specs.declared.table.Entry.{Entry}
-use Rattle.esto_query.proofs.NumberLemmas.{number_is}
-use Rattle.esto_query.proofs.BucketLemmas.{AreRising-more, put_keeps, put_adds, put_rises}
+use Rattle.esto_table.specs.declared.entry.Entry.{Entry}
+use Rattle.esto_table.proofs.NumberLemmas.{number_is}
+use Rattle.esto_table.proofs.BucketLemmas.{AreRising-more, put_keeps, put_adds, put_rises}
 
 cases_lt : (a b : ℕ) → (a < b) ⊎ (b ≤ a)
 cases_lt a b = grind arith
 
 -- ---- the terms of one fact
 
-pub AddsTerms-none : (fact : Fact Term) (columns : Columns) (names : List Term) (place : ℕ) (old : List Entry)
+pub AddsTerms-none : (fact : Fact Term) (columns : Marks) (names : List Term) (place : ℕ) (old : List Entry)
     → AddsTerms fact columns names place 0 old old
 AddsTerms-none fact columns names place old = record { kept = λ entry inside. inside; added = λ column term l. absurd (omega arith) }
 
-module _ (fact : Fact Term) (columns : Columns) (names : List Term) (place n : ℕ) (old now : List Entry)
+module _ (fact : Fact Term) (columns : Marks) (names : List Term) (place n : ℕ) (old now : List Entry)
     (adds : AddsTerms fact columns names place n old now) where
   -- a column that is not one of the columns
   pub AddsTerms-skip : false ≡ is_among columns fact.relation n → AddsTerms fact columns names place (n + 1) old now
@@ -88,10 +89,10 @@ AreInBuckets-next facts fact n relations new at some grown so_far = record {
   rising = put_rises relations new fact.relation n some grown (AreRising-more relations n so_far.rising);
 }
 
-pub AreListed-none : (facts : List (Fact Term)) (columns : Columns) (names : List Term) (terms : List Entry) → AreListed facts columns names 0 terms
+pub AreListed-none : (facts : List (Fact Term)) (columns : Marks) (names : List Term) (terms : List Entry) → AreListed facts columns names 0 terms
 AreListed-none facts columns names terms place column fact term l = absurd (omega arith)
 
-pub AreListed-next : (facts : List (Fact Term)) (columns : Columns) (names : List Term) (fact : Fact Term) (n : ℕ) (terms new : List Entry)
+pub AreListed-next : (facts : List (Fact Term)) (columns : Marks) (names : List Term) (fact : Fact Term) (n : ℕ) (terms new : List Entry)
     → slice_get facts n ≡ Some fact → AddsTerms fact columns names n (length fact.terms) terms new → AreListed facts columns names n terms
     → AreListed facts columns names (n + 1) new
 AreListed-next facts columns names fact n terms new at adds listed place column other term l stands number is = elim (earlier_or_last place n l) [
@@ -145,39 +146,3 @@ place_read found i within = get_or_default found i 0 (place_at found i) within
 
 pub place_inside : (found : List ℕ) (i : ℕ) → i < length found → Contains found (place_at found i)
 place_inside found i within = (i, within, sym (place_read found i within))
-
--- ---- the places from one on
-
--- the list from a place on
-tail_read : (xs : List ℕ) (low k d : ℕ) → k < length xs - low → get_or (take (length xs - low) (drop low xs)) k d ≡ get_or xs (low + k) d
-tail_read xs low k d l = get_or-take (length xs - low) (drop low xs) k d l ∙ get_or-drop low xs k d
-
-tail_length : (xs : List ℕ) (low : ℕ) → length (take (length xs - low) (drop low xs)) ≡ length xs - low
-tail_length xs low = length-take-le (length xs - low) (drop low xs) (omega (arith, length-drop low xs))
-
-pub from_is : (xs : List ℕ) (least low : ℕ) → IsRising xs
-    → IsPartitionPoint (λ (e : ℕ). ltb e least ≡ true) (λ (e : ℕ). ltb e least ≡ false) xs low
-    → AreFrom least xs (take (length xs - low) (drop low xs))
-from_is xs least low up point = record { complete = complete; within = within; rising = rising }
-  where
-    long : length (take (length xs - low) (drop low xs)) ≡ length xs - low
-    long = tail_length xs low
-
-    complete : (place : ℕ) → Contains xs place → least ≤ place → Contains (take (length xs - low) (drop low xs)) place
-    complete place (k, l, read) most = elim (cases_lt k low) [
-      | inl before ↦
-          let below = ltb-true place least (subst (λ (e : ℕ). ltb e least ≡ true) read (point.0 k place (omega arith) before)) in
-          absurd (omega arith)
-      | inr from ↦
-          let here : low + (k - low) ≡ k = omega arith in
-          (k - low, omega (arith, long), tail_read xs low (k - low) place (omega arith) ∙ ap (λ n. get_or xs n place) here ∙ read)
-    ]
-
-    within : (place : ℕ) → Contains (take (length xs - low) (drop low xs)) place → least ≤ place
-    within place (k, l, read) =
-        let at : get_or xs (low + k) place ≡ place = sym (tail_read xs low k place (omega (arith, long))) ∙ read in
-        ltb-false place least (subst (λ (e : ℕ). ltb e least ≡ false) at (point.1 (low + k) place (omega arith) (omega (arith, long))))
-
-    rising : IsRising (take (length xs - low) (drop low xs))
-    rising = IsNonDecreasingBy-take (λ (place : ℕ). place) (length xs - low) (drop low xs)
-        (IsNonDecreasingBy-drop (λ (place : ℕ). place) low xs up)

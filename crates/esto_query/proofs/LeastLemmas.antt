@@ -20,8 +20,9 @@ use Rattle.esto_query.specs.Trails.{with_trail, Narrows, Excludes, Tries}
 use Rattle.esto_query.specs.Searches.{IsLeastFrom, Searched, Follows, first_from, rest_from}
 use Rattle.esto_query.specs.declared.trail.Binding.{Binding}
 use Rattle.esto_query.specs.declared.matches.Found.{Found}
-use Rattle.esto_query.specs.Buckets.{IsRising}
-use Rattle.esto_query.specs.Indexes.{AreCandidates, AreFrom}
+use Rattle.esto_table.specs.Places.{IsRising}
+use Rattle.esto_query.specs.Indexes.{AreCandidates}
+use Rattle.esto_table.specs.Places.{AreFrom}
 use Rattle.esto_query.proofs.ValuationLemmas.{Keeps-map_of, Extends-map_of}
 use Rattle.esto_query.proofs.TrailLemmas.{Grew-same, Grew-then}
 use Rattle.esto_query.proofs.PlaceLemmas.{IsAtMost-nil, first_is_least, rest_is_at_most, IsAtMost-onto, IsAtMost-least}

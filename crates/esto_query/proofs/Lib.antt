@@ -7,11 +7,6 @@ pub mod PlaceLemmas
 pub mod MatchLemmas
 pub mod LeastLemmas
 pub mod RowLemmas
-pub mod RowOrderLemmas
-pub mod BucketLemmas
-pub mod NumberLemmas
-pub mod TableLemmas
-pub mod HashLemmas
 pub mod IndexLemmas
 pub mod MisfitLemmas
 pub mod OrderLemmas

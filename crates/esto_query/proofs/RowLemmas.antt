@@ -19,7 +19,7 @@ use Rattle.esto_semantics.specs.declared.fact.Fact.{Fact}
 use Rattle.esto_semantics.proofs.FactLemmas.{Sends-match}
 use Rattle.esto_query.specs.Valuations.{Assignment, Extends, map_of}
 use Rattle.esto_query.specs.Trails.{with_trail, Narrows, Excludes}
-use Rattle.esto_query.specs.Rows.{IsRow, IsKnown, AreKnown, IsAscending, Decides, Adds}
+use Rattle.esto_query.specs.Rows.{IsRow, IsKnown, AreKnown, Decides, Adds}
 use Rattle.esto_query.specs.Searches.{Searched}
 use Rattle.esto_query.specs.Indexes.{AreCandidates}
 use Rattle.esto_query.specs.declared.trail.Binding.{Binding}
@@ -118,54 +118,6 @@ Adds-push old new row image grown same other = (
     | inl before ↦ Contains-append_left old (row ∷ []) other before
     | inr is ↦ subst (Contains (old ++ row ∷ [])) (sym (is ∙ sym same)) (Contains-push old row)
   ]),
-)
-
--- rows that are taken from the end of a list, each into another one
-pub record AreMoved (all rest kept : List (List Term)) : Type 0 where
-  pub ascending : IsAscending kept
-  pub same : (row : List Term) → Contains all row ↔ (Contains kept row ⊎ Contains rest row)
-
-pub AreMoved-first : (all sorted : List (List Term)) → IsPermutation all sorted → AreMoved all sorted []
-AreMoved-first all sorted moved = record {
-  ascending = λ i j d less within. absurd (omega arith);
-  same = λ row. (
-    λ there. inr (Contains-permutation all sorted row moved there),
-    λ either. elim either [
-      | inl none ↦ absurd (Contains-nil row none)
-      | inr there ↦ Contains-permutation sorted all row (IsPermutation-sym all sorted moved) there
-    ],
-  );
-}
-
-pub AreMoved-next : (all rest less kept more : List (List Term)) (row : List Term) → rest ≡ less ++ row ∷ [] → AreMoved all rest kept → IsAscending more
-    → Adds kept more (λ other. other ≡ row) → AreMoved all less more
-AreMoved-next all rest less kept more row cut moved ascending adds = record {
-  ascending = ascending;
-  same = λ other. (
-    λ there. elim ((moved.same other).0 there) [
-      | inl before ↦ inl ((adds other).1 (inl before))
-      | inr in_rest ↦ elim (Contains-push_cases less row other (subst (λ rows. Contains rows other) cut in_rest)) [
-        | inl later ↦ inr later
-        | inr is ↦ inl ((adds other).1 (inr (sym is)))
-      ]
-    ],
-    λ either. (moved.same other).1 (elim either [
-      | inl in_more ↦ elim ((adds other).0 in_more) [
-        | inl before ↦ inl before
-        | inr is ↦ inr (subst (λ rows. Contains rows other) (sym cut) (subst (Contains (less ++ row ∷ [])) (sym is) (Contains-push less row)))
-      ]
-      | inr later ↦ inr (subst (λ rows. Contains rows other) (sym cut) (Contains-append_left less (row ∷ []) other later))
-    ]),
-  );
-}
-
-pub AreMoved-end : (all rest kept : List (List Term)) → rest ≡ [] → AreMoved all rest kept → (row : List Term) → Contains kept row ↔ Contains all row
-AreMoved-end all rest kept none moved row = (
-  λ there. (moved.same row).1 (inl there),
-  λ there. elim ((moved.same row).0 there) [
-    | inl kept_row ↦ kept_row
-    | inr rest_row ↦ absurd (Contains-nil row (subst (λ rows. Contains rows row) none rest_row))
-  ],
 )
 
 -- ---- what is known after an atom

@@ -6,10 +6,6 @@ pub mod Matches
 pub mod Trails
 pub mod Searches
 pub mod Rows
-pub mod Hashes
-pub mod Buckets
-pub mod Numbers
-pub mod Tables
 pub mod Indexes
 pub mod Orders
 pub mod Active

@@ -4,20 +4,18 @@ ghost use Rattle.esto_term.specs.declared.term.Term.{Term};
 ghost use Rattle.esto_term.specs.declared.term.Term.TheVariants.{Const};
 ghost use Rattle.esto_semantics.specs.Maps.{Keeps};
 ghost use Rattle.esto_semantics.specs.declared.fact.Fact.{Fact};
-ghost use Rattle.esto_query.specs.Buckets.{AreRising, IsRising};
+ghost use Rattle.esto_table.specs.Buckets.{AreRising};
 ghost use Rattle.esto_query.specs.Valuations.{Assignment, Extends};
 ghost use Rattle.esto_query.specs.Trails.{with_trail};
-ghost use Rattle.esto_query.specs.Numbers.{AreInOrder};
-ghost use Rattle.esto_query.specs.declared.table.Entry.{Entry};
-ghost use Rattle.esto_query.specs.Indexes.{AddsTerms, AreListed, AreInBuckets, IsTableOf, IsIndex, AreCandidates, AreFrom};
+ghost use Rattle.esto_table.specs.Numbers.{AreInOrder};
+ghost use Rattle.esto_table.specs.declared.entry.Entry.{Entry};
+ghost use Rattle.esto_query.specs.Indexes.{AddsTerms, AreListed, AreInBuckets, IsTableOf, IsIndex, AreCandidates};
 
-use crate::buckets::Buckets;
-use crate::columns::{Columns, is_among};
-use crate::number::{clashes, key_of, names_of, number_of};
-use crate::table::{Entry, Table, table_of};
+use crate::clashes::{clashes, names_of};
 use crate::trail::{Binding, value};
 use crate::valuation::Valuation;
 use esto_semantics::Atom;
+use esto_table::{Buckets, Entry, Marks, Table, count_marked, key_of, number_of, table_of};
 use esto_term::{OutOfMemory, Term};
 use std::alloc::Global;
 
@@ -31,7 +29,7 @@ const FEW: usize = 3;
 /// table.
 #[derive(Drop)]
 pub struct Index {
-    pub columns: Columns,
+    pub columns: Marks,
     /// The names among which terms have their ranks, where hashes clash.
     pub names: Vec<Term>,
     pub relations: Buckets,
@@ -51,7 +49,7 @@ fn add_relations(facts: &[Atom], relations: &mut Buckets) -> Result<(), OutOfMem
 
 /// Adds the entry of a fact's place by its term in the column, if that is one of the columns.
 fn add_term(
-    columns: &Columns,
+    columns: &Marks,
     names: &[Term],
     fact: &Atom,
     place: usize,
@@ -64,7 +62,7 @@ fn add_term(
         → AddsTerms fact.now columns.now names.now place column old terms.old.items
         → AddsTerms fact.now columns.now names.now place (column + 1) old terms.new.items) }
 {
-    if !is_among(columns, fact.relation, column) {
+    if !columns.has(fact.relation, column) {
         return Ok(());
     }
     let number = number_of(names, fact.terms.item(column));
@@ -77,7 +75,7 @@ fn add_term(
 
 /// Adds the entries of a fact's place by its terms in the columns.
 fn add_terms(
-    columns: &Columns,
+    columns: &Marks,
     names: &[Term],
     fact: &Atom,
     place: usize,
@@ -95,7 +93,7 @@ fn add_terms(
 
 /// Adds the entries of the facts' places to none.
 fn add_facts(
-    columns: &Columns,
+    columns: &Marks,
     names: &[Term],
     facts: &[Atom],
     terms: &mut Vec<Entry>,
@@ -110,22 +108,11 @@ fn add_facts(
     Ok(())
 }
 
-/// How many terms of the fact stand in one of the columns.
-fn count_in(columns: &Columns, fact: &Atom) -> usize {
-    let mut count: usize = 0;
-    'columns: for column in 0..fact.terms.len() {
-        if is_among(columns, fact.relation, column) {
-            count = count.saturating_add(1);
-        }
-    }
-    count
-}
-
 /// How many terms of the facts stand in one of the columns.
-fn count_terms(columns: &Columns, facts: &[Atom]) -> usize {
+fn count_terms(columns: &Marks, facts: &[Atom]) -> usize {
     let mut count: usize = 0;
     'facts: for fact in facts {
-        count = count.saturating_add(count_in(columns, fact));
+        count = count.saturating_add(count_marked(columns, fact.relation, fact.terms.items()));
     }
     count
 }
@@ -133,7 +120,7 @@ fn count_terms(columns: &Columns, facts: &[Atom]) -> usize {
 /// The table of the facts' places by their terms in the columns.
 fn table_by(
     alloc: Global,
-    columns: &Columns,
+    columns: &Marks,
     names: &[Term],
     facts: &[Atom],
 ) -> Result<Table, OutOfMemory>
@@ -142,7 +129,7 @@ fn table_by(
 {
     let mut terms = Vec::with_capacity(alloc, count_terms(columns, facts))?;
     add_facts(columns, names, facts, &mut terms)?;
-    table_of(alloc, &mut terms)
+    table_of(alloc, terms)
 }
 
 /// The buckets of the facts' places by their relations.
@@ -157,7 +144,7 @@ fn buckets_of(alloc: Global, facts: &[Atom]) -> Result<Buckets, OutOfMemory>
 /// The index of the facts by the columns, where terms have their ranks for numbers.
 fn named_index(
     alloc: Global,
-    columns: Columns,
+    columns: Marks,
     relations: Buckets,
     facts: &[Atom],
 ) -> Result<Index, OutOfMemory>
@@ -176,7 +163,7 @@ fn named_index(
 
 /// The index of the facts by the columns. Terms have their hashes for numbers, but where these clash, as texts can be made
 /// to do, their ranks.
-pub fn index_of(alloc: Global, columns: Columns, facts: &[Atom]) -> Result<Index, OutOfMemory>
+pub fn index_of(alloc: Global, columns: Marks, facts: &[Atom]) -> Result<Index, OutOfMemory>
     ensures { IfOk result (IsIndex facts.now) }
 {
     let relations = buckets_of(alloc, facts)?;
@@ -223,7 +210,7 @@ fn fewer_by<'b, 'c, 'a: 'c>(
     requires best { AreCandidates facts.now atom.now (with_trail start.now trail.now) best.now }
     ensures { AreCandidates facts.now atom.now (with_trail start.now trail.now) result.now }
 {
-    if best.len() <= FEW || !is_among(&index.columns, atom.relation, column) {
+    if best.len() <= FEW || !index.columns.has(atom.relation, column) {
         return best;
     }
     let Some(bound) = bound_to(start, trail, atom.terms.item(column)) else {
@@ -300,18 +287,9 @@ pub fn least_after(index: &Index, first: &Atom, fact: &Atom, other: &Atom, ways:
 {
     let mut least = ways;
     'columns: for (column, term) in other.terms.items().iter().enumerate() {
-        if is_among(&index.columns, other.relation, column) {
+        if index.columns.has(other.relation, column) {
             least = least.min(ways_by(index, first, fact, other.relation, column, term));
         }
     }
     least
-}
-
-/// The places at or after the given one.
-pub fn places_from(places: &[usize], least: usize) -> &[usize]
-    requires { IsRising places.now }
-    ensures { AreFrom least places.now result.now }
-{
-    let low = places.partition_point(|place| *place < least);
-    &places[low..]
 }

@@ -12,6 +12,7 @@ use crate::index::{Index, index_of, least_after, places_for, places_of};
 use crate::trail::{Binding, bind_atom};
 use crate::valuation::Valuation;
 use esto_semantics::{Atom, Facts};
+use esto_table::Marks;
 use esto_term::OutOfMemory;
 use std::alloc::Global;
 use std::marker::Model;
@@ -46,7 +47,10 @@ impl<'a> IndexedFacts<'a> {
     pub fn of(alloc: Global, facts: &'a Facts) -> Result<IndexedFacts<'a>, OutOfMemory>
         ensures { IfOk result (λ indexed. indexed ≡ facts.now) }
     {
-        IndexedFacts::by(alloc, Columns::every(alloc), facts)
+        let columns = Columns {
+            marks: Marks::every(alloc),
+        };
+        IndexedFacts::by(alloc, columns, facts)
     }
 
     /// The facts with their index by these columns.
@@ -58,7 +62,7 @@ impl<'a> IndexedFacts<'a> {
         ensures { IfOk result (λ indexed. indexed ≡ facts.now) }
     {
         let facts = facts.items();
-        let index = index_of(alloc, columns, facts)?;
+        let index = index_of(alloc, columns.marks, facts)?;
         Ok(IndexedFacts { facts, index })
     }
 

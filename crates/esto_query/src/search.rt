@@ -3,11 +3,11 @@ ghost use Rattle.std.specs.Prelude.{◌≡◌, IfOk};
 ghost use Rattle.esto_semantics.specs.Maps.{AreFlat};
 ghost use Rattle.esto_query.specs.Searches.{Searched, first_from, rest_from};
 
-use crate::index::places_from;
 use crate::indexed::{IndexedFacts, bind_place, candidates};
 use crate::trail::Binding;
 use crate::valuation::Valuation;
 use esto_semantics::Atom;
+use esto_table::places_from;
 use esto_term::{OutOfMemory, Places};
 
 /// The least place of the first atom in a list of places that is at or after the given one.

@@ -1,7 +1,7 @@
 use Rattle.std.proofs.Common.{sym, subst}
 use Rattle.esto_query.specs.Indexes.{IsTableOf}
-use Rattle.esto_query.specs.Numbers.{AreInOrder}
-use Rattle.esto_query.proofs.NumberLemmas.{names_none}
+use Rattle.esto_table.specs.Numbers.{AreInOrder}
+use Rattle.esto_table.proofs.NumberLemmas.{names_none}
 use Rattle.esto_query.proofs.index.index_of.Goals as goal
 
 pub returns : goal.returns
