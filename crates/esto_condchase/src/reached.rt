@@ -8,9 +8,9 @@ ghost use Rattle.esto_condchase.specs.declared.reached.Reached.{Reached};
 use crate::touching::{both, touch_all};
 use esto_bits::Products;
 use esto_known::{Group, Groups};
-use esto_prov::taken_terms;
+use esto_prov::{followed, taken_terms};
 use esto_semantics::Atom;
-use esto_term::{List, OutOfMemory, Replicate, Term, Terms, equal_terms};
+use esto_term::{List, OutOfMemory, Term, Terms, equal_terms};
 use esto_world_laws::Claim;
 use std::alloc::Global;
 
@@ -19,15 +19,6 @@ use std::alloc::Global;
 pub struct Reached {
     pub to: Terms,
     pub by: Products,
-}
-
-/// The terms, and then the others.
-fn followed(alloc: Global, terms: &Terms, others: &Terms) -> Result<Terms, OutOfMemory>
-    ensures { IfOk result (λ it. it ≡ terms.now ++ others.now) }
-{
-    let mut all = terms.copy(alloc)?;
-    all.append(others.copy(alloc)?)?;
-    Ok(all)
 }
 
 /// The place of one that has reached the terms, if there is one.

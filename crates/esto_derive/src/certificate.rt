@@ -21,13 +21,13 @@ ghost use Rattle.esto_views.specs.Fragments.{views_of, patterns_of};
 ghost use Rattle.esto_views.specs.Plans.{plan_query};
 
 use crate::marking::close;
-use crate::searching::{World, joined};
+use crate::searching::World;
 use crate::writing::{Writer, terms_at};
 use esto_backchase::entries_decide_answers;
 use esto_bits::RowBits;
 use esto_catalog::Catalogue;
 use esto_constraint::Constraint;
-use esto_prov::{Entries, Entry, terms_of};
+use esto_prov::{Entries, Entry, followed, terms_of};
 use esto_query::{Query, queries_are_sound};
 use esto_semantics::Atom;
 use esto_term::{Bytes, List, OutOfMemory, Terms};
@@ -76,8 +76,8 @@ fn links_for(
         (head.now ++ terms_of body.now)
         (targets.now ++ terms_at world.now.entries.now facts.now)) }
 {
-    let from = joined(alloc, head, &terms_of(alloc, body)?)?;
-    let to = joined(alloc, targets, &terms_at(alloc, world.entries, facts)?)?;
+    let from = followed(alloc, head, &terms_of(alloc, body)?)?;
+    let to = followed(alloc, targets, &terms_at(alloc, world.entries, facts)?)?;
     let links = world.links_of(alloc, from.items(), to.items())?;
     Ok(links)
 }

@@ -1,5 +1,5 @@
 //! A match of a body in the world of a set, with the entries that it uses.
-ghost use Rattle.std.specs.Prelude.{◌≡◌, ◌++◌, ◌↔◌, ◌∷◌, List, Some, option_map, length, slice_get, IsTrue, IfOk, OnOk};
+ghost use Rattle.std.specs.Prelude.{◌≡◌, ◌↔◌, ◌∷◌, List, Some, option_map, length, slice_get, IsTrue, IfOk, OnOk};
 ghost use Rattle.std.specs.List.{AllZip};
 ghost use Rattle.esto_semantics.specs.declared.fact.Fact.{Fact};
 ghost use Rattle.esto_term.specs.declared.term.Term.{Term};
@@ -10,9 +10,9 @@ ghost use Rattle.esto_world_laws.specs.Worlds.{AreOfCount, InWorld, Linked};
 ghost use Rattle.esto_derive.specs.Searching.{IsLink, IsFound, IsFoundAfter, IsFoundBy, AreLinks, AddsLink};
 
 use esto_bits::RowBits;
-use esto_prov::{Claim, Entry, taken_terms};
+use esto_prov::{Claim, Entry, followed, taken_terms};
 use esto_semantics::Atom;
-use esto_term::{List, OutOfMemory, Replicate, Term, Terms};
+use esto_term::{List, OutOfMemory, Term, Terms};
 use std::alloc::Global;
 
 /// The world of a set: what the entries claim whose products are within it.
@@ -167,8 +167,8 @@ impl World<'_> {
         if fact.relation != atom.relation || fact.terms.len() != atom.terms.len() {
             return Ok(None);
         }
-        let longer = joined(alloc, from, &atom.terms)?;
-        let met = joined(alloc, to, &fact.terms)?;
+        let longer = followed(alloc, from, &atom.terms)?;
+        let met = followed(alloc, to, &fact.terms)?;
         let wanted = taken_terms(alloc, longer.items(), met.items(), atom.terms.items())?;
         if !self.are_one(fact.terms.items(), wanted.items()) {
             return Ok(None);
@@ -238,13 +238,4 @@ impl World<'_> {
         }
         Ok(links)
     }
-}
-
-/// The terms and then the others.
-pub fn joined(alloc: Global, terms: &Terms, others: &Terms) -> Result<Terms, OutOfMemory>
-    ensures { IfOk result (λ it. it ≡ terms.now ++ others.now) }
-{
-    let mut all = terms.copy(alloc)?;
-    all.append(others.copy(alloc)?)?;
-    Ok(all)
 }

@@ -1,5 +1,5 @@
 //! What terms meet first, and what a rule makes.
-ghost use Rattle.std.specs.Prelude.{◌≡◌, map, IfOk};
+ghost use Rattle.std.specs.Prelude.{◌≡◌, ◌++◌, map, IfOk};
 ghost use Rattle.esto_semantics.specs.Facts.{image, terms_of};
 ghost use Rattle.esto_query.specs.Spreads.{substituted};
 ghost use Rattle.esto_chase_laws.specs.Making.{made_for};
@@ -19,6 +19,15 @@ pub fn terms_of(alloc: Global, atoms: &[Atom]) -> Result<Terms, OutOfMemory>
         terms.append(atom.terms.copy(alloc)?)?;
     }
     Ok(terms)
+}
+
+/// The terms, and then the others, copied.
+pub fn followed(alloc: Global, terms: &Terms, others: &Terms) -> Result<Terms, OutOfMemory>
+    ensures { IfOk result (λ it. it ≡ terms.now ++ others.now) }
+{
+    let mut all = terms.copy(alloc)?;
+    all.append(others.copy(alloc)?)?;
+    Ok(all)
 }
 
 /// The term that a term meets first.
