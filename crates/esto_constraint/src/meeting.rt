@@ -22,7 +22,7 @@ pub struct Broken {
 }
 
 /// The rule's body.
-fn body_of(rule: &Constraint) -> &Atoms
+pub fn body_of(rule: &Constraint) -> &Atoms
     ensures { result.now ≡ body_of (rule_of rule.now) }
 {
     match rule {

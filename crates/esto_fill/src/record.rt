@@ -8,21 +8,10 @@ ghost use Rattle.esto_semantics.specs.Rules.{body_of};
 ghost use Rattle.esto_fill.specs.Placing.{AddsNamed};
 ghost use Rattle.esto_fill.specs.Records.{AreNamedVariables, IsRecordOf, cell_of, is_named, one_at_least};
 
-use esto_constraint::{Constraint, value_of};
+use esto_constraint::{Constraint, body_of, value_of};
 use esto_query::{Atoms, Name, Names, Valuation};
 use esto_term::{List, OutOfMemory, Replicate, Term, Terms, Text, TextRow, has_term};
 use std::alloc::Global;
-
-// The rule's body.
-fn body_of(rule: &Constraint) -> &Atoms
-    ensures { result.now ≡ body_of (rule_of rule.now) }
-{
-    match rule {
-        Constraint::Tuple(rule) => &rule.body,
-        Constraint::Equal(rule) => &rule.body,
-        Constraint::Never(rule) => &rule.body,
-    }
-}
 
 // The names of the rule's variables.
 fn names_of(rule: &Constraint) -> &Names
