@@ -13,6 +13,12 @@ paths done = []
 paths (holds path term rest) = path ∷ paths rest
 paths (group path inner rest) = path ∷ paths rest
 
+-- The path of the first entry.
+abbrev pub first_path : Entries → List Step
+first_path done = []
+first_path (holds path term rest) = path
+first_path (group path inner rest) = path
+
 -- The path begins with that step.
 abbrev pub Begins : Step → List Step → Type 0
 Begins step [] = ⊥

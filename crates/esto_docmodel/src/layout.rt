@@ -1,7 +1,7 @@
 //! Layouts of fragment files.
-ghost use Rattle.std.specs.Prelude.{◌≡◌, ◌↔◌, ◌∷◌, ◌<◌, ◌≤◌, ℕ, List, length, Contains, IsTrue, MatchOption};
+ghost use Rattle.std.specs.Prelude.{◌≡◌, ◌↔◌, [], ◌∷◌, ◌<◌, ◌≤◌, ℕ, List, length, Contains, IsTrue, MatchOption};
 ghost use Rattle.esto_term.specs.declared.term.Term.TheVariants.{Plain};
-ghost use Rattle.esto_docmodel.specs.Layouts.{paths, Begins, SomeBegins, AreFields, IsOneItem, FitTogether, IsColumn, AreLaidOut, StandsOnce, height, IsLayout};
+ghost use Rattle.esto_docmodel.specs.Layouts.{paths, first_path, Begins, SomeBegins, AreFields, IsOneItem, FitTogether, IsColumn, AreLaidOut, StandsOnce, height, IsLayout};
 ghost use Rattle.esto_docmodel.specs.Patterns.{Entries, done, Mentions};
 ghost use Rattle.esto_docmodel.specs.Shapes.{entry_shape, entries_of};
 ghost use Rattle.esto_docmodel.specs.declared.pattern.Step.TheVariants as steps;
@@ -14,8 +14,9 @@ use esto_term::{Term, Text};
 pub const MAX_LAYOUT_DEPTH: usize = 126;
 
 /// The path of an entry.
-fn path_of(entry: &Entry) -> &[Step]
-    ensures { (rest : Entries) → paths (entry_shape entry.now rest) ≡ result.now ∷ paths rest }
+pub fn path_of(entry: &Entry) -> &[Step]
+    ensures paths { (rest : Entries) → paths (entry_shape entry.now rest) ≡ result.now ∷ paths rest }
+    ensures first { result.now ≡ first_path (entries_of (entry.now ∷ [])) }
 {
     match entry {
         Entry::Value(path, _) => path.items(),

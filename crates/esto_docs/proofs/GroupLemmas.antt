@@ -6,8 +6,9 @@ use Rattle.esto_docmodel.specs.Patterns.{Entries, done}
 use Rattle.esto_docmodel.specs.Shapes.{More, entry_shape, entry_step, entries_of}
 use Rattle.esto_docmodel.specs.declared.pattern.Entry.{Entry, fold_out-Entry}
 use Rattle.esto_docmodel.specs.declared.pattern.Entry.TheOpen.{Entry-F}
+use Rattle.esto_docmodel.specs.Layouts.{first_path}
 use Rattle.esto_docs.specs.Rows.{Row}
-use Rattle.esto_docs.specs.Documents.{first_name, begun, document, members, first_path, first_data}
+use Rattle.esto_docs.specs.Documents.{first_name, begun, document, members, first_data}
 
 module _ (rest : Entries) (row : Row) where
   -- The first entry, and the members and the document that it makes with the others.

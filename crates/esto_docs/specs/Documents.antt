@@ -67,12 +67,6 @@ documents_text Lines ds = flat_map document_line ds
 
 -- ---- for private clauses
 
--- The path of the first entry.
-abbrev pub first_path : Entries → List Step
-first_path done = []
-first_path (holds path term rest) = path
-first_path (group path inner rest) = path
-
 -- What the first entry writes after its first step.
 abbrev pub first_data : Entries → Row → Data
 first_data done row = object no_members

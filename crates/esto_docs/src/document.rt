@@ -5,9 +5,9 @@ ghost use Rattle.serde_json.specs.View.{view, members_view};
 ghost use Rattle.esto_docmodel.specs.Shapes.{entries_of};
 ghost use Rattle.esto_docmodel.specs.declared.pattern.Step.TheVariants as step;
 ghost use Rattle.esto_docs.specs.Rows.{text_in};
-ghost use Rattle.esto_docs.specs.Documents.{path_data, begins_with_field, first_name, later_steps, document, members, first_path, first_data, step_data};
+ghost use Rattle.esto_docs.specs.Documents.{path_data, begins_with_field, first_name, later_steps, document, members, first_data, step_data};
 
-use esto_docmodel::{Entry, Step};
+use esto_docmodel::{Entry, Step, path_of};
 use esto_term::{OutOfMemory, Term, Text};
 use serde_json::{Map, Value};
 use std::alloc::Global;
@@ -87,16 +87,6 @@ fn wrap_all(alloc: Global, steps: &[Step], value: Value) -> Result<Value, OutOfM
         value = wrap(alloc, &steps[left], value)?;
     }
     Ok(value)
-}
-
-// The path of an entry.
-fn path_of(entry: &Entry) -> &[Step]
-    ensures { result.now ≡ first_path (entries_of (entry.now ∷ [])) }
-{
-    match entry {
-        Entry::Value(path, _) => path.items(),
-        Entry::Group(path, _) => path.items(),
-    }
 }
 
 // Whether a path begins with a field.
