@@ -5,11 +5,11 @@ ghost use Rattle.esto_views.specs.Fragments.{patterns_of};
 ghost use Rattle.esto_views.specs.Plans.{plan_query};
 ghost use Rattle.esto_access.specs.Runs.{CanFollow};
 
-use esto_views::{FragmentDefs, Order, Plan};
 use crate::atoms::{can_follow, names_all};
 use crate::run::greedy_order;
 use esto_bits::RowBits;
 use esto_term::OutOfMemory;
+use esto_views::{FragmentDefs, Order, Plan};
 use std::alloc::Global;
 
 /// The stated order of a set of the plan's atoms: the one that takes the accessible atom of least number each time.

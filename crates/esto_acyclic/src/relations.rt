@@ -7,9 +7,9 @@ ghost use Rattle.esto_constraint.specs.Graphs.{IsWithin, IsAcyclic, IsLeastCycle
 ghost use Rattle.esto_acyclic.specs.Relations.{AreNamesOf, edges_from, edges_between, edges_of_rule, edges_of};
 ghost use Rattle.esto_constraint.specs.Relations.{IsEdge};
 
-use esto_constraint::{Constraint, Cycle, Ranks, Rules};
 use crate::graph::{Edge, judge_edges};
 use either::{Either, Left, Right};
+use esto_constraint::{Constraint, Cycle, Ranks, Rules};
 use esto_query::Schema;
 use esto_semantics::Atom;
 use esto_term::{List, OutOfMemory, Replicate, TextRow, Values};

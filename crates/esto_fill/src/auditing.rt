@@ -13,7 +13,6 @@ ghost use Rattle.esto_fill.specs.Differences.{Audits};
 ghost use Rattle.esto_fill.specs.Judging.{JudgesRules, JudgesFragment, JudgesFragments};
 ghost use Rattle.esto_fill.specs.Texts.{AreTextViews, HaveTextsOnly};
 
-use esto_ports::Difference;
 use crate::apart::{Apart, first_apart, ordered_rows};
 use crate::lawful::laws_of;
 use crate::laws::{facts_stand_as_databases, loaded_documents_are_lawful, loaded_facts_are_flat};
@@ -24,6 +23,7 @@ use crate::tried::{add_rules, first_broken};
 use crate::views::add_views;
 use esto_catalog::Catalogue;
 use esto_constraint::{Constraint, Rules, least_active_matches_are_least, rules_are_sound};
+use esto_ports::Difference;
 use esto_query::{Columns, IndexedFacts, queries_are_sound};
 use esto_semantics::databases_stand_for_facts;
 use esto_term::{List, OutOfMemory, Replicate, TextRows};

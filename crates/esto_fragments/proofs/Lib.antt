@@ -1,4 +1,3 @@
-
 pub mod FragmentLemmas
 pub mod StoreLemmas
 pub mod ReadableLemmas

@@ -1,4 +1,3 @@
-
 pub mod Fragments
 pub mod Readable
 pub mod Alike

@@ -14,7 +14,6 @@ ghost use Rattle.esto_instance.specs.Instances.{state_of};
 ghost use Rattle.esto_universal.specs.Planned.{IsPlanOfRun};
 ghost use Rattle.esto_universal.specs.Stated.{IsStatedPlan};
 
-use esto_views::{FragmentDefs, Plan, renamed_plan};
 use crate::planned::{
     plans_of_runs_are_over_fragments, plans_of_runs_are_universal, plans_tell_satisfiable_queries,
 };
@@ -27,6 +26,7 @@ use esto_constraint::rules_are_sound;
 use esto_instance::Instance;
 use esto_query::{Facts, Names, Query, queries_are_sound};
 use esto_term::{OutOfMemory, Terms};
+use esto_views::{FragmentDefs, Plan, renamed_plan};
 use std::alloc::Global;
 
 /// The plan whose atoms are the rows of all views over the facts, and whose head is the given one, renamed.

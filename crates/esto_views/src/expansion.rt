@@ -13,10 +13,10 @@ ghost use Rattle.esto_query.specs.Spreads.{IsSpread, substituted};
 ghost use Rattle.esto_views.specs.declared.fragments.FragmentDef.{FragmentDef};
 ghost use Rattle.esto_views.specs.declared.plan.Plan.{Plan};
 
-use esto_query::{Atom, ExpandedFact, ExpandedFacts, queries_are_sound};
 use crate::fragments::FragmentDefs;
 use crate::plan::{Plan, PlanAtom, plans_are_sound};
 use crate::spread::{Spread, spread_of};
+use esto_query::{Atom, ExpandedFact, ExpandedFacts, queries_are_sound};
 use esto_term::{List, OutOfMemory};
 use std::alloc::Global;
 
