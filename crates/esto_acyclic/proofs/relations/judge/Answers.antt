@@ -1,6 +1,7 @@
 use Rattle.std.proofs.Common.{◌<◌, length, sym, ◌∙◌, subst}
 use Rattle.std.specs.List.{All}
 use Rattle.esto_constraint.specs.Constraints.{rules_of}
+use Rattle.esto_constraint.specs.Graphs.{AreRanks}
 use Rattle.esto_constraint.specs.Relations.{IsEdge}
 use Rattle.esto_constraint.proofs.CycleLemmas.{acyclic}
 use Rattle.esto_acyclic.proofs.EdgeLemmas.{cycle_below, not_acyclic, joined_within, judged_ranks, judged_cycle}
@@ -15,7 +16,9 @@ pub returns-in-Left-clause-ranks : goal.returns-in-Left-clause-ranks
 returns-in-Left-clause-ranks c =
     let edges = c.items-2.ensures ∙ rw c.items.ensures at c.in_ok-edges.ensures in
     let judged = rw c.in-Left.is at c.in_ok-judged.ensures.judged in
-    judged_ranks (rules_of c.args.rules.now) c.items-2.result.now edges (length c.args.schema.now) c.len.result c.len.ensures.value c.in-Left.ranks.items judged
+    subst (AreRanks (IsEdge (rules_of c.args.rules.now)) (length c.args.schema.now)) (sym c.of.ensures)
+    (judged_ranks (rules_of c.args.rules.now) c.items-2.result.now edges
+    (length c.args.schema.now) c.len.result c.len.ensures.value c.in-Left.ranks.items judged)
 
 pub returns-in-Left-clause-acyclic : goal.returns-in-Left-clause-acyclic
 returns-in-Left-clause-acyclic c =
