@@ -15,7 +15,7 @@ use Rattle.esto_catalog.specs.declared.catalogue.Shape.TheVariants.{Table}
 use Rattle.esto_catalog.specs.declared.catalogue.Store.{Store}
 use Rattle.esto_lines.specs.Faults.{Gives}
 use Rattle.esto_list.specs.declared.listing.Listed.{Listed}
-use Rattle.esto_plan.specs.Rows.{IsRowOf, held_by}
+use Rattle.esto_steps.specs.Rows.{IsRowOf, held_by}
 use Rattle.esto_ports.specs.declared.file_fault.FileError.{FileError}
 use Rattle.esto_ports.specs.declared.file_fault.FileError.TheVariants.{Fault}
 use Rattle.esto_ports.specs.declared.file_fault.FileFault.{FileFault}

@@ -11,7 +11,7 @@ use Rattle.esto_course.specs.Course.{Names, Stops, judges, gives}
 use Rattle.esto_course.specs.Course.Stops.{refused}
 use Rattle.esto_course.proofs.Asking.{quiet_judges}
 use Rattle.esto_course.proofs.Steps.{first_stops, then_goes, gives_goes}
-use Rattle.esto_plan.specs.Rows.{IsRowOf, held_by}
+use Rattle.esto_steps.specs.Rows.{IsRowOf, held_by}
 use Rattle.esto_ports.specs.Files.{Files}
 use Rattle.esto_ports.specs.declared.file_fault.FileError.{FileError}
 use Rattle.esto_ports.specs.declared.file_fault.FileError.TheVariants.{Fault}

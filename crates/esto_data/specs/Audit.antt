@@ -12,7 +12,7 @@ use Rattle.esto_fill.specs.Databases.{database_of}
 use Rattle.esto_fill.specs.Differences.{Audits}
 use Rattle.esto_fill.specs.Texts.{AreTextViews, IsFirstNodeView}
 use Rattle.esto_ports.specs.declared.difference.Difference.{Difference}
-use Rattle.esto_plan.specs.Rows.{IsRowOf, held_by}
+use Rattle.esto_steps.specs.Rows.{IsRowOf, held_by}
 use Rattle.esto_ports.specs.Files.{Files}
 use Rattle.esto_run.specs.Stores.{IsFileRow, IsRowIn}
 use Rattle.esto_semantics.specs.declared.fact.Fact.{Fact}

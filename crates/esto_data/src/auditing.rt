@@ -3,7 +3,7 @@ ghost use Rattle.std.specs.Prelude.{◌≡◌, ◌↔◌, ◌<◌, ◌≤◌, �
 ghost use Rattle.esto_fragments.specs.Fragments.{Stored, IsStoredAt};
 ghost use Rattle.esto_fill.specs.Databases.{database_of};
 ghost use Rattle.esto_fill.specs.Texts.{AreTextViews};
-ghost use Rattle.esto_plan.specs.Rows.{IsRowOf, held_by};
+ghost use Rattle.esto_steps.specs.Rows.{IsRowOf, held_by};
 ghost use Rattle.esto_ports.specs.Faults.{Rises};
 ghost use Rattle.esto_run.specs.Stores.{IsFileRow};
 ghost use Rattle.esto_semantics.specs.declared.fact.Fact.{Fact};

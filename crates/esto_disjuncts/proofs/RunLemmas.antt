@@ -13,7 +13,7 @@ use Rattle.esto_opening.specs.declared.reply.Reply.{Reply}
 use Rattle.esto_opening.specs.declared.reply.Reply.TheVariants.{Done}
 use Rattle.esto_opening.specs.declared.status.Status.{Status}
 use Rattle.esto_opening.proofs.Steps.{still_stops}
-use Rattle.esto_plan.specs.Rows.{IsRowOf, held_by}
+use Rattle.esto_steps.specs.Rows.{IsRowOf, held_by}
 use Rattle.esto_planning.specs.Laws.{PlanHasForm, PlanIsOver}
 use Rattle.esto_ports.specs.Files.{Files}
 use Rattle.esto_query.specs.declared.query.Query.{Query}

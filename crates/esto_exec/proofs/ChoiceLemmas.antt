@@ -5,13 +5,12 @@ use Rattle.std.proofs.lemmas.List.{map-append}
 use Rattle.std.proofs.lemmas.List.Elements.{Contains-append_left, Contains-push, Contains-push_cases}
 use Rattle.std.proofs.lemmas.Option.{same_Some}
 use Rattle.esto_semantics.specs.declared.fact.Fact.{Fact}
-use Rattle.esto_term.proofs.ListLemmas.{Contains-nil, Contains-one, Contains-head, Contains-map, Contains-map_from, map_agree, Contains-flat}
+use Rattle.esto_term.proofs.ListLemmas.{Contains-nil, Contains-one, Contains-head, Contains-map, Contains-map_from, map_agree, Contains-flat, map_one}
 use Rattle.esto_term.proofs.ListLemmas.{Contains-flat_from}
-use Rattle.esto_plan.specs.declared.steps.Get.{Get}
-use Rattle.esto_plan.specs.declared.steps.Link.{Link}
-use Rattle.esto_plan.specs.Meaning.{code_at, IsMet, Follows}
-use Rattle.esto_plan.proofs.MeaningLemmas.{same_some}
-use Rattle.esto_exec.specs.Joined.{IsJoin}
+use Rattle.esto_steps.specs.declared.steps.Get.{Get}
+use Rattle.esto_steps.specs.declared.steps.Link.{Link}
+use Rattle.esto_steps.specs.Meaning.{code_at, IsMet, Follows}
+use Rattle.esto_steps.specs.Joined.{IsJoin}
 use Rattle.esto_exec.specs.Slots.{side_of, slot_at, side_at, AreEqual, IsKnown, IsChoice}
 use Rattle.esto_exec.specs.Turns.{AreNeeded, is_in, is_known, source_in, link_in, link_back, links_of, slots_from, IsReady, AreSlots, AreParts}
 use Rattle.esto_exec.specs.declared.slots.Slot.{Slot}
@@ -319,7 +318,7 @@ module _ (Holds : Fact ℕ → Type 0) (arities : List ℕ) (gets : List Get) (e
         split : (cells : List ℕ) × (map (slot_at choice) places ≡ map Some cells) × (both ≡ cells ++ choice number)
         split =
             let parted = parts_split (slot_at choice) places (slots_from number 0 arity) both both_are in
-            let row_is = same_some parted.1 (choice number) (sym parted.4 ∙ row_read) in
+            let row_is = map_one Some same_Some parted.1 (choice number) (sym parted.4 ∙ row_read) in
             (parted.0, parted.3, parted.2 ∙ ap (λ row. parted.0 ++ row) row_is)
 
         read : (side : Side) → IsKnown all side → ((slot : Slot) → side ≡ Held slot → Contains needed slot)

@@ -7,11 +7,11 @@ use Rattle.std.proofs.lemmas.Option.{none-some, same_Some, slice_get_within}
 use Rattle.esto_semantics.specs.declared.fact.Fact.{Fact}
 use Rattle.esto_term.proofs.ListLemmas.{Contains-nil, Contains-head, Contains-rest, Contains-map, Contains-map_from, map_agree, map_then, thing_at}
 use Rattle.esto_term.proofs.PlaceLemmas.{taken_at}
-use Rattle.esto_plan.specs.declared.steps.Get.{Get}
-use Rattle.esto_plan.specs.declared.steps.Link.{Link}
-use Rattle.esto_plan.specs.declared.steps.Source.{Source}
-use Rattle.esto_plan.specs.Meaning.{code_at, IsMet, Follows, Leads}
-use Rattle.esto_exec.specs.Named.{NamesCodes}
+use Rattle.esto_steps.specs.declared.steps.Get.{Get}
+use Rattle.esto_steps.specs.declared.steps.Link.{Link}
+use Rattle.esto_steps.specs.declared.steps.Source.{Source}
+use Rattle.esto_steps.specs.Meaning.{code_at, IsMet, Follows, Leads}
+use Rattle.esto_steps.specs.Named.{NamesCodes}
 use Rattle.esto_exec.specs.Slots.{side_of, slot_at, side_at, AreEqual, IsKnown, IsChoice, equations_by, equations_from}
 use Rattle.esto_exec.specs.Turns.{source_in, AreSlots, AreParts}
 use Rattle.esto_exec.specs.declared.slots.Slot.{Slot}

@@ -1,10 +1,10 @@
 -- Choices of a row for each get, and what sources name in them.
-use Rattle.std.proofs.Common.{◌≡◌, ℕ, zero, suc, ◌+◌, ◌-◌, ◌<◌, ◌≤◌, nat_lt, Bool, true, false, cond, List, [], ◌∷◌, ◌++◌, length}
+use Rattle.std.proofs.Common.{◌≡◌, ℕ, zero, suc, ◌+◌, ◌-◌, ◌<◌, nat_lt, Bool, true, false, cond, List, [], ◌∷◌, ◌++◌, length}
 use Rattle.std.proofs.Common.{Some, slice_get, Contains, refl, ap, ◌∙◌, arith, eqb, eq-eqb, ne_eqb}
-use Rattle.std.proofs.lemmas.Bool.Decides.{nat_tests}
-use Rattle.esto_plan.specs.declared.steps.Source.{Source}
-use Rattle.esto_plan.specs.declared.steps.Source.TheVariants.{Code, Cell}
-use Rattle.esto_plan.specs.Meaning.{code_at}
+use Rattle.esto_steps.specs.declared.steps.Source.{Source}
+use Rattle.esto_steps.specs.declared.steps.Source.TheVariants.{Code, Cell}
+use Rattle.esto_steps.specs.Meaning.{code_at}
+use Rattle.esto_steps.proofs.NamedLemmas.{front, back, lt_is, lt_not}
 use Rattle.esto_exec.specs.Slots.{side_from, side_of, side_at, IsKnown}
 use Rattle.esto_exec.specs.declared.slots.Slot.{Slot}
 use Rattle.esto_exec.specs.declared.slots.Side.{Side}
@@ -21,27 +21,11 @@ put-same choice number row = ap (λ it. cond it row (choice number)) (eq-eqb num
 pub put-other : (choice : ℕ → List ℕ) (number : ℕ) (row : List ℕ) (other : ℕ) → (other ≡ number → ⊥) → put choice number row other ≡ choice other
 put-other choice number row other differs = ap (λ it. cond it row (choice other)) (ne_eqb other number differs)
 
-pub lt_is : (place arity : ℕ) → nat_lt place arity ≡ true → place < arity
-lt_is place arity is = grind (arith, nat_tests)
-
-pub lt_not : (place arity : ℕ) → nat_lt place arity ≡ false → arity ≤ place
-lt_not place arity is = grind (arith, nat_tests)
-
 -- ---- the rows of gets one after another
 
 abbrev pub cells_from : (ℕ → List ℕ) → ℕ → ℕ → List ℕ
 cells_from choice number zero = []
 cells_from choice number (suc count) = choice number ++ cells_from choice (number + 1) count
-
-pub front : {X : Type 0} (xs ys : List X) (place : ℕ) → place < length xs → slice_get (xs ++ ys) place ≡ slice_get xs place
-front [] ys place below = absurd (omega (arith, below))
-front (x ∷ xs) ys zero below = refl
-front (x ∷ xs) ys (suc place) below = front xs ys place (omega (arith, below))
-
-pub back : {X : Type 0} (xs ys : List X) (place : ℕ) → length xs ≤ place → slice_get (xs ++ ys) place ≡ slice_get ys (place - length xs)
-back [] ys place past = ap (slice_get ys) (omega (arith))
-back (x ∷ xs) ys zero past = absurd (omega (arith, past))
-back (x ∷ xs) ys (suc place) past = back xs ys place (omega (arith, past)) ∙ ap (slice_get ys) (omega (arith))
 
 -- the rows of the choice are as long as the arities say
 abbrev pub AreLong : (ℕ → List ℕ) → ℕ → List ℕ → Type 0

@@ -8,10 +8,10 @@ use Rattle.std.proofs.lemmas.List.{append_assoc, length-append, length-map}
 use Rattle.std.proofs.lemmas.List.Elements.{Contains-append_left, Contains-append_right, Contains-append_cases, Contains-push, Contains-push_cases}
 use Rattle.std.proofs.lemmas.Option.{same_Some, none-some, slice_get_past}
 use Rattle.esto_term.proofs.ListLemmas.{Contains-nil, Contains-one, Contains-head, Contains-rest, Contains-cases, Contains-flat, Contains-flat_from}
-use Rattle.esto_plan.specs.declared.steps.Get.{Get}
-use Rattle.esto_plan.specs.declared.steps.Link.{Link}
-use Rattle.esto_plan.specs.declared.steps.Source.{Source}
-use Rattle.esto_plan.specs.Meaning.{code_at}
+use Rattle.esto_steps.specs.declared.steps.Get.{Get}
+use Rattle.esto_steps.specs.declared.steps.Link.{Link}
+use Rattle.esto_steps.specs.declared.steps.Source.{Source}
+use Rattle.esto_steps.specs.Meaning.{code_at}
 use Rattle.esto_exec.specs.Slots.{slot_at, side_at, side_of, IsKnown}
 use Rattle.esto_exec.specs.Turns.{same_slot, is_among, kept_slots, side_slots, input_slots, is_decided, equation_slots, head_slots, needed_slots}
 use Rattle.esto_exec.specs.Turns.{AreNeeded, place_in, is_in, is_known, source_in, slots_from, AreSlots}

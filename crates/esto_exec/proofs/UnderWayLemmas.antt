@@ -6,17 +6,16 @@ use Rattle.std.proofs.lemmas.List.{length-append, length-take-le}
 use Rattle.std.proofs.lemmas.List.Elements.{Contains-append_left, Contains-push, Contains-push_cases}
 use Rattle.std.proofs.lemmas.Option.{none-some, same_Some, slice_get_within}
 use Rattle.esto_semantics.specs.declared.fact.Fact.{Fact}
-use Rattle.esto_term.proofs.ListLemmas.{Contains-nil, Contains-head, Contains-one, at_left, at_end, at_pushed, thing_at, map_then, map_agree}
+use Rattle.esto_term.proofs.ListLemmas.{Contains-nil, Contains-head, Contains-one, at_left, at_end, at_pushed, thing_at, map_then, map_agree, map_one}
 use Rattle.esto_term.proofs.PlaceLemmas.{take-there}
 use Rattle.esto_columns.specs.CodedRows.{CodedRows}
-use Rattle.esto_plan.specs.declared.steps.Get.{Get}
-use Rattle.esto_plan.specs.declared.steps.Link.{Link}
-use Rattle.esto_plan.specs.declared.steps.Source.{Source}
-use Rattle.esto_plan.specs.declared.steps.Steps.{Steps}
-use Rattle.esto_plan.specs.Meaning.{code_at, IsResult}
-use Rattle.esto_plan.proofs.MeaningLemmas.{same_some}
-use Rattle.esto_exec.specs.Joined.{IsJoin, IsKept}
-use Rattle.esto_exec.specs.Named.{NamesCodes}
+use Rattle.esto_steps.specs.declared.steps.Get.{Get}
+use Rattle.esto_steps.specs.declared.steps.Link.{Link}
+use Rattle.esto_steps.specs.declared.steps.Source.{Source}
+use Rattle.esto_steps.specs.declared.steps.Steps.{Steps}
+use Rattle.esto_steps.specs.Meaning.{code_at, IsResult}
+use Rattle.esto_steps.specs.Joined.{IsJoin, IsKept}
+use Rattle.esto_steps.specs.Named.{NamesCodes}
 use Rattle.esto_exec.specs.Slots.{IsChoice, side_of, IsKnown, equations_from, slot_at}
 use Rattle.esto_exec.specs.Turns.{AreSlots, needed_slots, kept_slots, source_in, link_in, links_of, slots_from, IsReady, AreArities, AreTables, IsUnderWay}
 use Rattle.esto_exec.specs.Turns.{AreParts}
@@ -103,7 +102,7 @@ module _ (Holds : Fact ℕ → Type 0) (arities : List ℕ) (gets : List Get) (e
         },
         ap (map Some) (Contains-one [] row inside),
       )),
-      (λ found. subst (Contains ([] ∷ [])) (same_some [] row found.2) (Contains-head [] [])),
+      (λ found. subst (Contains ([] ∷ [])) (map_one Some same_Some [] row found.2) (Contains-head [] [])),
     );
   }
 

@@ -1,18 +1,9 @@
 -- Which steps can be run over fragments.
-use Rattle.std.specs.Prelude.{◌≡◌, Bool, List, [], Some, length, map, slice_get, slice_index_or, Contains}
-use Rattle.esto_term.specs.declared.term.Term.{Term}
-use Rattle.esto_semantics.specs.declared.fact.Fact.{Fact}
+use Rattle.std.specs.Prelude.{◌≡◌, List, Some, map, slice_get, Contains}
 use Rattle.esto_columns.specs.Asked.{Shape, IsAllowed}
-use Rattle.esto_plan.specs.declared.steps.Get.{Get}
-use Rattle.esto_plan.specs.Planned.{inputs_of}
+use Rattle.esto_steps.specs.declared.steps.Get.{Get}
 
 -- Each get names a fragment that is there, and its inputs may be asked of it.
 abbrev pub AreRunnable : List Shape → List Get → Type 0
 AreRunnable shapes gets = (get : Get) → Contains gets get
     → (shape : Shape) × (slice_get shapes get.fragment ≡ Some shape) × IsAllowed shape (map (λ link. link.column) get.inputs)
-
--- Each fragment that an atom names is there, has as many columns as the atom has terms, and can be asked in the ways of its patterns.
-abbrev pub HaveShapes : List (List (List Bool)) → List (Fact Term) → List Shape → Type 0
-HaveShapes patterns atoms shapes = (atom : Fact Term) → Contains atoms atom
-    → (shape : Shape) × (slice_get shapes atom.relation ≡ Some shape) × (shape.arity ≡ length atom.terms)
-    × (shape.ways ≡ map inputs_of (slice_index_or patterns atom.relation []))

@@ -3,10 +3,10 @@ use Rattle.std.specs.Prelude.{◌≡◌, ◌==◌, ◌&&◌, ◌||◌, ◌↔◌
 use Rattle.std.specs.Prelude.{take, slice_get, Contains}
 use Rattle.esto_semantics.specs.declared.fact.Fact.{Fact}
 use Rattle.esto_columns.specs.CodedRows.{CodedRows}
-use Rattle.esto_plan.specs.declared.steps.Get.{Get}
-use Rattle.esto_plan.specs.declared.steps.Link.{Link}
-use Rattle.esto_plan.specs.declared.steps.Source.{Source}
-use Rattle.esto_plan.specs.declared.steps.Source.TheVariants.{Code, Cell}
+use Rattle.esto_steps.specs.declared.steps.Get.{Get}
+use Rattle.esto_steps.specs.declared.steps.Link.{Link}
+use Rattle.esto_steps.specs.declared.steps.Source.{Source}
+use Rattle.esto_steps.specs.declared.steps.Source.TheVariants.{Code, Cell}
 use Rattle.esto_exec.specs.Slots.{side_of, slot_at, IsKnown, IsChoice}
 use Rattle.esto_exec.specs.declared.slots.Slot.{Slot}
 use Rattle.esto_exec.specs.declared.slots.Side.{Side}

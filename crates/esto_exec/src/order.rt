@@ -1,8 +1,7 @@
 //! Which get is joined next. Nothing rests on it but speed, so nothing here has a contract.
-use crate::guess::rows_after;
 use crate::slots::{Equation, Side, first_of, is_in, is_known, side_of};
-use crate::turns::{Prepared, SoFar};
-use esto_plan::Get;
+use crate::turns::{Prepared, SoFar, links_at};
+use esto_steps::{Get, guessed_count};
 use esto_term::{OutOfMemory, Places, Replicate, Values};
 use std::alloc::Global;
 
@@ -152,6 +151,27 @@ fn candidates(alloc: Global, steps: &Prepared, done: &Places) -> Result<Places, 
         return unlinked_gets(alloc, steps, done);
     }
     Ok(linked)
+}
+
+/// How many rows there are about once the get of the number is joined. A get with inputs is taken to give one row for each
+/// so far.
+fn rows_after(
+    alloc: Global,
+    steps: &Prepared,
+    number: usize,
+    so_far: &SoFar,
+) -> Result<usize, OutOfMemory> {
+    let (Some(get), Some(table)) = (
+        steps.gets.items().get(number),
+        steps.tables.items().get(number),
+    ) else {
+        return Ok(usize::MAX);
+    };
+    if !get.inputs.is_empty() {
+        return Ok(so_far.rows.len());
+    }
+    let links = links_at(alloc, number, &so_far.done, &so_far.places, steps.equations)?;
+    guessed_count(alloc, &links, table, &so_far.rows)
 }
 
 /// The one of the gets after which there are the fewest rows, as far as that is known.

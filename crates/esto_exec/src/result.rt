@@ -1,18 +1,17 @@
 //! The result of steps, from what joins in any order rest on to the head's codes.
 ghost use Rattle.std.specs.Prelude.{◌≡◌, ◌↔◌, List, ℕ, length, map, Contains, IfOk};
-ghost use Rattle.esto_plan.specs.Meaning.{IsResult};
-ghost use Rattle.esto_plan.specs.Rows.{IsRowOf, held_by};
-ghost use Rattle.esto_exec.specs.Named.{NamesCodes};
+ghost use Rattle.esto_steps.specs.Meaning.{IsResult};
+ghost use Rattle.esto_steps.specs.Rows.{IsRowOf, held_by};
+ghost use Rattle.esto_steps.specs.Named.{NamesCodes};
 ghost use Rattle.esto_exec.specs.Runnable.{AreRunnable};
 ghost use Rattle.esto_exec.specs.Slots.{side_of, equations_from};
 ghost use Rattle.esto_exec.specs.Turns.{source_in, AreArities, IsPrepared};
 
-use crate::project::projected;
 use crate::slots::{Equations, equations_of};
 use crate::tables::tables_of;
 use crate::turns::{Prepared, SoFar, head_in, joined_rows};
 use esto_columns::{Fragment, Rows};
-use esto_plan::{Sources, Steps};
+use esto_steps::{Sources, Steps, projected};
 use esto_term::{List, OutOfMemory, Places};
 use std::alloc::Global;
 

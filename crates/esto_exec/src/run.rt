@@ -1,13 +1,13 @@
 //! The run of steps.
 ghost use Rattle.std.specs.Prelude.{◌≡◌, ◌↔◌, ◌<◌, List, ℕ, length, map, Contains, IfOk};
-ghost use Rattle.esto_plan.specs.Meaning.{IsResult};
-ghost use Rattle.esto_plan.specs.Rows.{IsRowOf, held_by};
+ghost use Rattle.esto_steps.specs.Meaning.{IsResult};
+ghost use Rattle.esto_steps.specs.Rows.{IsRowOf, held_by};
 ghost use Rattle.esto_exec.specs.Runnable.{AreRunnable};
 
 use crate::result::result_over;
 use crate::turns::arities_of;
 use esto_columns::{Fragment, Rows};
-use esto_plan::Steps;
+use esto_steps::Steps;
 use esto_term::OutOfMemory;
 use std::alloc::Global;
 

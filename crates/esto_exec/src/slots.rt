@@ -4,7 +4,7 @@ ghost use Rattle.esto_exec.specs.Slots.{side_from, side_of, equations_by, equati
 ghost use Rattle.esto_exec.specs.Turns.{place_in, is_in, is_known, is_decided, source_in, side_slots, input_slots, equation_slots};
 ghost use Rattle.esto_exec.specs.Turns.{head_slots, needed_slots, is_among, kept_slots};
 
-use esto_plan::{Gets, Links, Source, Sources};
+use esto_steps::{Gets, Links, Source, Sources};
 use esto_term::{List, OutOfMemory, Places};
 use std::alloc::Global;
 

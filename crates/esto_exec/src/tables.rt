@@ -3,10 +3,10 @@ ghost use Rattle.std.specs.Prelude.{◌≡◌, List, length, map, IfOk};
 ghost use Rattle.esto_columns.specs.Asked.{IsAllowed};
 ghost use Rattle.esto_exec.specs.Runnable.{AreRunnable};
 ghost use Rattle.esto_exec.specs.Turns.{AreTables};
-ghost use Rattle.esto_plan.specs.Rows.{IsRowOf, held_by};
+ghost use Rattle.esto_steps.specs.Rows.{IsRowOf, held_by};
 
 use esto_columns::{Fragment, Rows};
-use esto_plan::{Get, Gets};
+use esto_steps::{Get, Gets};
 use esto_term::{List, OutOfMemory};
 use std::alloc::Global;
 

@@ -1,26 +1,23 @@
 //! Turns: one get after another is joined, in an order of our own.
 ghost use Rattle.std.specs.Prelude.{◌≡◌, ◌↔◌, ◌<◌, ◌+◌, ◌++◌, ◌∷◌, [], List, ℕ, length, map, flat_map, take, slice_get, Some, Contains, IfOk, OnOk, IsTrue};
-ghost use Rattle.esto_plan.specs.declared.steps.Get.{Get};
-ghost use Rattle.esto_plan.specs.declared.steps.Link.{Link};
-ghost use Rattle.esto_plan.specs.Rows.{IsRowOf, held_by};
+ghost use Rattle.esto_steps.specs.declared.steps.Get.{Get};
+ghost use Rattle.esto_steps.specs.declared.steps.Link.{Link};
+ghost use Rattle.esto_steps.specs.Rows.{IsRowOf, held_by};
 ghost use Rattle.esto_columns.specs.Asked.{IsAllowed};
-ghost use Rattle.esto_exec.specs.Joined.{IsJoin, IsKept};
+ghost use Rattle.esto_steps.specs.Joined.{IsJoin, IsKept};
 ghost use Rattle.esto_exec.specs.declared.slots.Side.TheVariants.{Held};
 ghost use Rattle.esto_exec.specs.Runnable.{AreRunnable};
 ghost use Rattle.esto_exec.specs.Slots.{side_of, IsKnown};
 ghost use Rattle.esto_exec.specs.SoFar.{IsSoFar};
 ghost use Rattle.esto_exec.specs.Turns.{source_in, link_in, links_of, slots_from, IsReady, AreArities, IsPrepared, kept_slots, needed_slots};
 
-use crate::asked::asked_rows;
-use crate::join::Join;
 use crate::order::next_get;
-use crate::reads::joined_firsts;
 use crate::slots::{
     Equation, Equations, Side, Slot, Slots, first_of, is_in, is_known, kept_slots, needed_slots,
     side_of, source_in,
 };
 use esto_columns::{Fragment, Rows};
-use esto_plan::{Get, Gets, Link, Links, Source, Sources};
+use esto_steps::{Get, Gets, Join, Link, Links, Source, Sources, asked_rows, joined_firsts};
 use esto_term::{List, OutOfMemory, Places, Values};
 use std::alloc::Global;
 

@@ -9,7 +9,7 @@ use Rattle.esto_constraint.specs.Constraints.{rule_of, rules_of}
 use Rattle.esto_constraint.specs.EncodingRules.{written}
 use Rattle.esto_constraint.specs.Matches.{IsFirstBroken as IsFirstUnmet, LeastActiveIsLeast}
 use Rattle.esto_constraint.specs.declared.rule.Constraint.{Constraint}
-use Rattle.esto_plan.specs.Rows.{IsRowOf, held_by}
+use Rattle.esto_steps.specs.Rows.{IsRowOf, held_by}
 use Rattle.esto_query.specs.Making.{query_of}
 use Rattle.esto_query.specs.Rows.{row_cmp}
 use Rattle.esto_query.specs.Valuations.{Assignment, map_of}

@@ -1,6 +1,6 @@
 -- For private clauses: the parts of an audit.
 use Rattle.std.specs.Prelude.{◌≡◌, ℕ, List, map, Contains, Option, Some, None}
-use Rattle.esto_plan.specs.Rows.{IsRowOf, held_by}
+use Rattle.esto_steps.specs.Rows.{IsRowOf, held_by}
 use Rattle.esto_query.specs.declared.query.Name.{Name}
 use Rattle.esto_semantics.specs.Facts.{Database}
 use Rattle.esto_semantics.specs.Queries.{ConjunctiveQuery}

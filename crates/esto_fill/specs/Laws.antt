@@ -3,7 +3,7 @@ use Rattle.std.specs.Prelude.{◌≡◌, ◌≢◌, ◌↔◌, ℕ, Bool, List, 
 use Rattle.esto_catalog.specs.Determined.{stored_as}
 use Rattle.esto_catalog.specs.declared.catalogue.Store.{Store}
 use Rattle.esto_catalog.specs.declared.dataset.Dataset.{Dataset}
-use Rattle.esto_plan.specs.Rows.{IsRowOf, held_by}
+use Rattle.esto_steps.specs.Rows.{IsRowOf, held_by}
 use Rattle.esto_ports.specs.declared.file_fault.FileFault.{FileFault}
 use Rattle.esto_query.specs.declared.query.Name.{Name}
 use Rattle.esto_run.specs.Answers.{AreRising}

@@ -18,7 +18,7 @@ use Rattle.esto_ports.specs.Files.{Files}
 use Rattle.esto_ports.specs.declared.file_fault.FileError.{FileError}
 use Rattle.esto_ports.specs.declared.file_fault.FileError.TheVariants.{Fault}
 use Rattle.esto_ports.specs.declared.file_fault.FileFault.{FileFault}
-use Rattle.esto_plan.specs.Rows.{IsRowOf, held_by}
+use Rattle.esto_steps.specs.Rows.{IsRowOf, held_by}
 use Rattle.esto_run.specs.Opened.{Held, AreOpened, AreRowsFor, rows_held}
 use Rattle.esto_run.specs.Stores.{IsRowIn, first_fault_in}
 use Rattle.esto_stores.specs.Rows.{Row}

@@ -3,7 +3,7 @@ use Rattle.std.proofs.Common.{◌≡◌, ℕ, ◌<◌, ◌+◌, List, [], ◌∷
 use Rattle.std.proofs.lemmas.Option.{slice_get-map}
 use Rattle.esto_columns.specs.Asked.{Shape, IsAllowed}
 use Rattle.esto_exec.specs.Runnable.{AreRunnable}
-use Rattle.esto_plan.specs.declared.steps.Get.{Get}
+use Rattle.esto_steps.specs.declared.steps.Get.{Get}
 use Rattle.esto_term.proofs.ListLemmas.{Contains-nil, Contains-at, place-from_Contains, at_pushed, thing_at}
 use Rattle.esto_part_cases.specs.Refusing.{AreOpen, AskAll}
 use Rattle.esto_part_cases.specs.declared.refusing.Flagged.{Flagged}

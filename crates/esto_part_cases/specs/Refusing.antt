@@ -1,6 +1,6 @@
 -- Fragments that are asked for all their rows.
 use Rattle.std.specs.Prelude.{◌≡◌, ℕ, ◌<◌, List, [], length, Contains}
-use Rattle.esto_plan.specs.declared.steps.Get.{Get}
+use Rattle.esto_steps.specs.declared.steps.Get.{Get}
 use Rattle.esto_part_cases.specs.declared.refusing.Flagged.{Flagged}
 
 -- There are so many fragments, and each may be asked for all its rows.

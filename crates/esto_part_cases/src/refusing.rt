@@ -5,8 +5,8 @@ ghost use Rattle.esto_part_cases.specs.Refusing.{AreOpen, AskAll};
 use crate::reading::place;
 use esto_columns::{Fragment, Inputs, Rows, StoredRows, Ways};
 use esto_exec::run_plan;
-use esto_plan::{Get, Gets, Steps};
 use esto_script::{Refused, put, put_digits};
+use esto_steps::{Get, Gets, Steps};
 use esto_term::{List, OutOfMemory, Places};
 use std::alloc::Global;
 

@@ -17,10 +17,11 @@ use Rattle.esto_term.proofs.ListLemmas.{Contains-at, Contains-head, Contains-res
 use Rattle.esto_semantics.proofs.FactLemmas.{image_agree, image_then}
 use Rattle.esto_term.proofs.ListLemmas.{place-from_Contains, map_at, map_at-from}
 use Rattle.esto_semantics.proofs.TermLemmas.{mended, mended-Keeps, mended-same}
-use Rattle.esto_plan.specs.declared.steps.Steps.{Steps}
-use Rattle.esto_plan.specs.Meaning.{IsResult}
+use Rattle.esto_steps.specs.declared.steps.Steps.{Steps}
+use Rattle.esto_steps.specs.Meaning.{IsResult}
 use Rattle.esto_plan.specs.Planned.{AreStepsOf, Fits}
-use Rattle.esto_plan.specs.Rows.{AreViewRows, IsRowOf, AreCoded, StandsIn, IsNumbering, AreInterned, IsSafeQuery}
+use Rattle.esto_steps.specs.Rows.{IsRowOf}
+use Rattle.esto_plan.specs.Rows.{AreViewRows, AreCoded, StandsIn, IsNumbering, AreInterned, IsSafeQuery}
 use Rattle.esto_columns.specs.Interned.{AreCodesOf}
 use Rattle.esto_plan.proofs.MeaningLemmas.{results_are_answers, plans_intern}
 

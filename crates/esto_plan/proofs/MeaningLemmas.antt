@@ -11,17 +11,18 @@ use Rattle.esto_semantics.specs.Facts.{Mentions, image}
 use Rattle.esto_semantics.specs.Maps.{Keeps, SendsInto}
 use Rattle.esto_semantics.specs.Queries.{ConjunctiveQuery, IsAnswerInto}
 use Rattle.esto_semantics.specs.declared.fact.Fact.{Fact}
-use Rattle.esto_term.proofs.ListLemmas.{Contains-at, Contains-nil, Contains-head, Contains-rest, Contains-cases, map_agree}
+use Rattle.esto_term.proofs.ListLemmas.{Contains-at, Contains-nil, Contains-head, Contains-rest, Contains-cases, map_agree, map_one}
 use Rattle.esto_term.proofs.ListLemmas.{place-from_Contains, map_at, at_left}
 use Rattle.esto_semantics.proofs.TermLemmas.{Const-same, same_term-Decides, mended, mended-Keeps}
 use Rattle.esto_term.specs.Order.{same_term}
-use Rattle.esto_plan.specs.declared.steps.Get.{Get}
-use Rattle.esto_plan.specs.declared.steps.Link.{Link}
-use Rattle.esto_plan.specs.declared.steps.Source.{Source}
-use Rattle.esto_plan.specs.declared.steps.Source.TheVariants.{Code, Cell}
-use Rattle.esto_plan.specs.declared.steps.Steps.{Steps}
-use Rattle.esto_plan.specs.Meaning.{code_at, IsMet, Follows, Leads, IsResult}
-use Rattle.esto_plan.specs.Rows.{AreInterned, HoldSame, IsNumbering, IsRowOf}
+use Rattle.esto_steps.specs.declared.steps.Get.{Get}
+use Rattle.esto_steps.specs.declared.steps.Link.{Link}
+use Rattle.esto_steps.specs.declared.steps.Source.{Source}
+use Rattle.esto_steps.specs.declared.steps.Source.TheVariants.{Code, Cell}
+use Rattle.esto_steps.specs.declared.steps.Steps.{Steps}
+use Rattle.esto_steps.specs.Meaning.{code_at, IsMet, Follows, Leads, IsResult}
+use Rattle.esto_steps.specs.Rows.{IsRowOf}
+use Rattle.esto_plan.specs.Rows.{AreInterned, HoldSame, IsNumbering}
 use Rattle.esto_plan.specs.Planned.{IsSource, IsLink, IsNew, IsGetOf, AreStepsAfter, AreStepsOf, Fits}
 
 -- ---- lists
@@ -235,12 +236,6 @@ module _ (texts : List (List ℕ)) (code : List ℕ → ℕ) (numbering : IsNumb
           later.4,
         )
 
-pub same_some : (row other : List ℕ) → map Some row ≡ map Some other → row ≡ other
-same_some [] [] e = refl
-same_some [] (x ∷ other) e = absurd (cc)
-same_some (x ∷ row) [] e = absurd (cc)
-same_some (x ∷ row) (y ∷ other) e = let first : x ≡ y = cc in let rest = same_some row other (cc) in λ i. first i ∷ rest i
-
 pub results_are_answers : (texts : List (List ℕ)) (code : List ℕ → ℕ) → IsNumbering texts code
     → (patterns : List (List (List Bool))) (query : ConjunctiveQuery) (steps : Steps) (Holds : Fact ℕ → Type 0) → AreStepsOf texts patterns query steps
     → Fits query.body Holds
@@ -263,7 +258,7 @@ results_are_answers texts code numbering patterns query steps Holds are fits row
         → (other : Term → ℕ) × Keeps code other × ((term : Term) → Contains [] term → other term ≡ start term) × SendsInto other query.body Holds
         × (map (code_at end) steps.head ≡ map Some (map other query.head))
         → IsAnswerInto code query Holds row
-    by end told found = (found.0, found.1, found.3, same_some row (map found.0 query.head) (sym told ∙ found.4))
+    by end told found = (found.0, found.1, found.3, map_one Some same_Some row (map found.0 query.head) (sym told ∙ found.4))
 
 -- ---- the fragments that steps name
 

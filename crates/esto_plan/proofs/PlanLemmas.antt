@@ -13,10 +13,10 @@ use Rattle.esto_semantics.specs.Maps.{IsFixedBy}
 use Rattle.esto_semantics.specs.declared.fact.Fact.{Fact}
 use Rattle.esto_term.proofs.ListLemmas.{Contains-nil, Contains-cases, at_left, at_right}
 use Rattle.esto_term.proofs.PlaceLemmas.{take-item, take-there, earlier_or_last}
-use Rattle.esto_plan.specs.declared.steps.Get.{Get}
-use Rattle.esto_plan.specs.declared.steps.Link.{Link}
-use Rattle.esto_plan.specs.declared.steps.Source.{Source}
-use Rattle.esto_plan.specs.declared.steps.Source.TheVariants.{Cell}
+use Rattle.esto_steps.specs.declared.steps.Get.{Get}
+use Rattle.esto_steps.specs.declared.steps.Link.{Link}
+use Rattle.esto_steps.specs.declared.steps.Source.{Source}
+use Rattle.esto_steps.specs.declared.steps.Source.TheVariants.{Cell}
 use Rattle.esto_plan.specs.Planned.{IsSource, IsLink, IsNew, IsKnown, CanMeet, IsFirstMet, IsGetOf, AreStepsAfter, CanPlan, atoms_of, inputs_from, inputs_of}
 use Rattle.esto_plan.specs.Planning.{IsLinkMade, IsGetBelow}
 use Rattle.esto_columns.specs.Interned.{Grows}

@@ -9,11 +9,11 @@ use Rattle.esto_semantics.specs.Listed.{IsSafe}
 use Rattle.esto_semantics.specs.Maps.{IsConstant}
 use Rattle.esto_semantics.specs.Queries.{ConjunctiveQuery}
 use Rattle.esto_semantics.specs.declared.fact.Fact.{Fact}
-use Rattle.esto_plan.specs.declared.steps.Get.{Get}
-use Rattle.esto_plan.specs.declared.steps.Link.{Link}
-use Rattle.esto_plan.specs.declared.steps.Source.{Source}
-use Rattle.esto_plan.specs.declared.steps.Source.TheVariants.{Code, Cell}
-use Rattle.esto_plan.specs.declared.steps.Steps.{Steps}
+use Rattle.esto_steps.specs.declared.steps.Get.{Get}
+use Rattle.esto_steps.specs.declared.steps.Link.{Link}
+use Rattle.esto_steps.specs.declared.steps.Source.{Source}
+use Rattle.esto_steps.specs.declared.steps.Source.TheVariants.{Code, Cell}
+use Rattle.esto_steps.specs.declared.steps.Steps.{Steps}
 
 -- The source gives the term where the cells of a row stand for the bound terms: for a constant it is the code of its text, the text's place among the texts,
 -- and for another term a place of the term among the bound ones.

@@ -1,8 +1,8 @@
 -- The get of an atom, column by column.
 use Rattle.std.specs.Prelude.{◌≡◌, ◌⊎◌, ℕ, ◌<◌, Bool, List, [], ◌∷◌, ◌++◌, Some, map, take, slice_get, Contains}
 use Rattle.esto_term.specs.declared.term.Term.{Term}
-use Rattle.esto_plan.specs.declared.steps.Get.{Get}
-use Rattle.esto_plan.specs.declared.steps.Link.{Link}
+use Rattle.esto_steps.specs.declared.steps.Get.{Get}
+use Rattle.esto_steps.specs.declared.steps.Link.{Link}
 use Rattle.esto_plan.specs.Planned.{IsSource, IsLink, IsNew, inputs_of}
 
 -- The link of the column has come, with a source of its term among the bound ones, or the term is new after them and no link has come.

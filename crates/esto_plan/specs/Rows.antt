@@ -1,25 +1,17 @@
 -- The rows of fragments, as lists of texts and as lists of codes.
-use Rattle.std.specs.Prelude.{◌≡◌, ◌⊎◌, ◌↔◌, map, ℕ, List, [], Some, slice_get, slice_index_or, Contains}
+use Rattle.std.specs.Prelude.{◌≡◌, ◌⊎◌, ◌↔◌, map, ℕ, List, Some, slice_get, Contains}
 use Rattle.esto_term.specs.declared.term.Term.{Term}
 use Rattle.esto_term.specs.declared.term.Term.TheVariants.{Const}
 use Rattle.esto_semantics.specs.Facts.{Database, Mentions}
 use Rattle.esto_semantics.specs.Views.{IsViewRow}
 use Rattle.esto_semantics.specs.declared.fact.Value.{Value}
 use Rattle.esto_semantics.specs.declared.fact.Value.TheVariants.{Text}
-use Rattle.esto_plan.specs.declared.steps.Get.{Get}
-use Rattle.esto_plan.specs.declared.steps.Steps.{Steps}
+use Rattle.esto_steps.specs.declared.steps.Get.{Get}
+use Rattle.esto_steps.specs.declared.steps.Steps.{Steps}
 use Rattle.esto_semantics.specs.Maps.{IsFixedBy}
 use Rattle.esto_semantics.specs.Queries.{ConjunctiveQuery}
 use Rattle.esto_columns.specs.Interned.{AreCodedRows}
 use Rattle.esto_semantics.specs.declared.fact.Fact.{Fact}
-
--- The fact is among the rows of the fragment of its number.
-abbrev pub IsRowOf : {V : Type 0} → (ℕ → List (List V)) → Fact V → Type 0
-IsRowOf rows fact = Contains (rows fact.relation) fact.terms
-
--- The rows of the fragment of a number, where the list has those of each in order; a number past the list has none.
-abbrev pub held_by : {V : Type 0} → List (List (List V)) → ℕ → List (List V)
-held_by rows number = slice_index_or rows number []
 
 -- The coded rows of each fragment are the codes of its rows, in order.
 abbrev pub AreCoded : List (List ℕ) → (ℕ → List (List ℕ)) → (ℕ → List (List (List ℕ))) → Type 0

@@ -8,10 +8,11 @@ ghost use Rattle.esto_semantics.specs.Queries.{ConjunctiveQuery, IsAnswerInto};
 ghost use Rattle.esto_semantics.specs.Views.{IsFragmentAnswer};
 ghost use Rattle.esto_semantics.specs.declared.fact.Value.{Value};
 ghost use Rattle.esto_semantics.specs.declared.fact.Value.TheVariants.{Text};
-ghost use Rattle.esto_plan.specs.Meaning.{IsResult};
+ghost use Rattle.esto_steps.specs.Meaning.{IsResult};
 ghost use Rattle.esto_plan.specs.Planned.{AreStepsOf, Fits, IsSafeOrder, ordered};
-ghost use Rattle.esto_plan.specs.Rows.{AreViewRows, HoldSame, IsRowOf, AreCoded, IsNumbering, IsSafeQuery};
-ghost use Rattle.esto_plan.specs.declared.steps.Steps.{Steps};
+ghost use Rattle.esto_steps.specs.Rows.{IsRowOf};
+ghost use Rattle.esto_plan.specs.Rows.{AreViewRows, HoldSame, AreCoded, IsNumbering, IsSafeQuery};
+ghost use Rattle.esto_steps.specs.declared.steps.Steps.{Steps};
 
 /// A law: the results of the steps of a query over fragments are exactly its answers over the coded rows.
 pub fn results_are_answers()

@@ -6,13 +6,13 @@ ghost use Rattle.esto_term.specs.declared.term.Term.{Term};
 ghost use Rattle.esto_semantics.specs.Maps.{IsFixedBy};
 ghost use Rattle.esto_views.specs.Fragments.{patterns_of};
 ghost use Rattle.esto_views.specs.Plans.{fact_of, plan_query, IsPlanOver};
-ghost use Rattle.esto_plan.specs.declared.steps.Get.{Get};
+ghost use Rattle.esto_steps.specs.declared.steps.Get.{Get};
 ghost use Rattle.esto_plan.specs.Planned.{IsSource, IsNew, IsKnown, CanMeet, IsFirstMet, IsGetOf, AreStepsOf, CanPlan, atoms_of, ordered, IsSafeOrder};
 ghost use Rattle.esto_plan.specs.Planning.{IsGetBelow, IsLinkMade};
 ghost use Rattle.esto_columns.specs.Interned.{Grows};
 
-use crate::steps::{Get, Gets, Link, Links, Source, Sources, Steps};
 use esto_columns::Codes;
+use esto_steps::{Get, Gets, Link, Links, Source, Sources, Steps};
 use esto_term::{List, OutOfMemory, Replicate, Term, Terms};
 use esto_views::{Access, AccessList, FragmentDefs, Order, Plan, PlanAtom};
 use std::alloc::Global;

@@ -2,7 +2,7 @@
 use Rattle.std.specs.Prelude.{◌↔◌, ◌<◌, ℕ, List, length, map, Contains}
 use Rattle.esto_columns.specs.Interned.{AreCodesOf}
 use Rattle.esto_columns.specs.declared.stored.StoredRows.{StoredRows}
-use Rattle.esto_plan.specs.Rows.{IsRowOf, held_by}
+use Rattle.esto_steps.specs.Rows.{IsRowOf, held_by}
 use Rattle.esto_semantics.specs.declared.fact.Fact.{Fact}
 use Rattle.esto_stores.specs.Rows.{Row}
 use Rattle.esto_run.specs.Opened.{held_of, rows_held}

@@ -6,3 +6,4 @@ pub mod Answers
 pub mod Laws
 pub mod Picks
 pub mod Coded
+pub mod Runnable

@@ -4,7 +4,7 @@ use Rattle.esto_catalog.specs.declared.catalogue.Store.{Store}
 use Rattle.esto_columns.specs.Asked.{Shape}
 use Rattle.esto_columns.specs.declared.stored.StoredRows.{StoredRows}
 use Rattle.esto_plan.specs.Planned.{inputs_of}
-use Rattle.esto_plan.specs.Rows.{IsRowOf, held_by}
+use Rattle.esto_steps.specs.Rows.{IsRowOf, held_by}
 use Rattle.esto_semantics.specs.declared.fact.Fact.{Fact}
 use Rattle.esto_stores.specs.Rows.{Row}
 use Rattle.esto_views.specs.declared.fragments.FragmentDef.{FragmentDef}

@@ -17,7 +17,7 @@ mod used;
 pub use answers::answers_text;
 pub use held::FragmentRows;
 pub use laws::{
-    answers_are_over_files, rewritings_answer_queries, rising_rows_are_one,
+    answers_are_over_files, plans_are_runnable, rewritings_answer_queries, rising_rows_are_one,
     unions_answer_over_files, used_by_all_are_one, used_fragments_are_one,
 };
 pub use opened::{no_rows, open_fragment};

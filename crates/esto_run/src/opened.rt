@@ -2,7 +2,7 @@
 ghost use Rattle.std.specs.Prelude.{◌≡◌, ◌≢◌, ℕ, List, [], ◌∷◌, ◌++◌, ◌<◌, length, map, slice_get, IfOk, IfSome, OnOk, OnErr};
 ghost use Rattle.esto_catalog.specs.declared.catalogue.Store.{Store};
 ghost use Rattle.esto_lines.specs.Faults.{Gives};
-ghost use Rattle.esto_plan.specs.Rows.{held_by};
+ghost use Rattle.esto_steps.specs.Rows.{held_by};
 ghost use Rattle.esto_run.specs.Opened.{AreRowsFor, AreOpened, rows_held, unopened};
 ghost use Rattle.esto_run.specs.Stores.{first_fault_in};
 

@@ -2,7 +2,7 @@
 ghost use Rattle.std.specs.Prelude.{◌≡◌, ◌↔◌, ℕ, List, Bool, length, map, Contains, IfOk};
 ghost use Rattle.esto_columns.specs.Interned.{Grows};
 ghost use Rattle.esto_plan.specs.Planned.{IsSafeOrder};
-ghost use Rattle.esto_plan.specs.Rows.{IsRowOf, held_by};
+ghost use Rattle.esto_steps.specs.Rows.{IsRowOf, held_by};
 ghost use Rattle.esto_semantics.specs.Access.{IsOrder};
 ghost use Rattle.esto_semantics.specs.Listed.{candidate};
 ghost use Rattle.esto_views.specs.Fragments.{patterns_of};
@@ -14,8 +14,9 @@ ghost use Rattle.esto_run.specs.Opened.{AreRowsFor, HaveTexts, held_of, rows_hel
 
 use crate::answers::lent_answers_text;
 use crate::held::FragmentRows;
+use crate::laws::plans_are_runnable;
 use esto_columns::{Codes, Rows, StoredRows, sorted_rows, sorted_texts};
-use esto_exec::{plans_are_runnable, run_plan};
+use esto_exec::run_plan;
 use esto_plan::{plan_of, results_are_candidate_answers, results_have_texts};
 use esto_query::Query;
 use esto_semantics::chosen_atoms_are_named;

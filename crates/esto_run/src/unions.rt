@@ -1,7 +1,7 @@
 //! The run of several sets together.
 ghost use Rattle.std.specs.Prelude.{◌≡◌, ◌++◌, ◌∷◌, [], List, length, map, Contains, IfOk, OnOk};
 ghost use Rattle.esto_columns.specs.Interned.{Grows};
-ghost use Rattle.esto_plan.specs.Rows.{IsRowOf, held_by};
+ghost use Rattle.esto_steps.specs.Rows.{IsRowOf, held_by};
 ghost use Rattle.esto_semantics.specs.Queries.{ConjunctiveQuery};
 ghost use Rattle.esto_run.specs.Answers.{IsAnswersText};
 ghost use Rattle.esto_run.specs.Coded.{AreCodesOfAll, IsStoredRow};

@@ -14,7 +14,7 @@ use Rattle.esto_run.specs.Laws.{AnswersAreOverFiles, IsAnswerOver, UsesOnly}
 use Rattle.esto_run.specs.Opened.{AreOpened}
 use Rattle.esto_run.specs.Stores.{IsFileRow}
 use Rattle.esto_run.specs.Used.{AreUsed}
-use Rattle.esto_plan.specs.Rows.{IsRowOf, held_by}
+use Rattle.esto_steps.specs.Rows.{IsRowOf, held_by}
 use Rattle.esto_semantics.specs.Listed.{candidate}
 use Rattle.esto_semantics.specs.ListedLaws.{ChosenAreNamed}
 use Rattle.esto_semantics.specs.declared.fact.Fact.{Fact}

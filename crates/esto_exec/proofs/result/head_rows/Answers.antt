@@ -1,6 +1,6 @@
 use Rattle.std.proofs.Common.{◌↔◌, ℕ, List, Contains, subst}
 use Rattle.std.proofs.lemmas.Result.{IfOk-weaker}
-use Rattle.esto_exec.specs.Named.{NamesCodes}
+use Rattle.esto_steps.specs.Named.{NamesCodes}
 use Rattle.esto_exec.proofs.result.head_rows.Goals as goal
 
 pub returns-clause-rows : goal.returns-clause-rows

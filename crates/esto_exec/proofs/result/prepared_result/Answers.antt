@@ -1,6 +1,6 @@
 use Rattle.std.proofs.Common.{[], map, get_or, refl, subst}
 use Rattle.std.proofs.lemmas.Result.{IfOk-weaker}
-use Rattle.esto_plan.specs.Rows.{IsRowOf}
+use Rattle.esto_steps.specs.Rows.{IsRowOf}
 use Rattle.esto_exec.specs.Turns.{IsUnderWay}
 use Rattle.esto_exec.proofs.UnderWayLemmas.{results_told}
 use Rattle.esto_exec.proofs.result.prepared_result.Goals as goal

@@ -1,7 +1,7 @@
 use Rattle.std.proofs.Common.{◌≡◌, ◌<◌, [], map, length, get_or, Some, slice_get, Contains, sym, ap, ◌∙◌, subst, arith}
 use Rattle.std.proofs.lemmas.List.{take_all}
 use Rattle.esto_term.proofs.PlaceLemmas.{item_at}
-use Rattle.esto_plan.specs.Rows.{IsRowOf}
+use Rattle.esto_steps.specs.Rows.{IsRowOf}
 use Rattle.esto_exec.specs.Turns.{AreTables}
 use Rattle.esto_exec.proofs.RunLemmas.{fragment_there, fragment_allows, fragment_rows}
 use Rattle.esto_exec.proofs.UnderWayLemmas.{tables_more}

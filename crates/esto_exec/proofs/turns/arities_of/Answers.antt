@@ -1,7 +1,7 @@
 use Rattle.std.proofs.Common.{◌≡◌, ◌<◌, Some, [], map, length, get_or, slice_get, sym, subst, ap, ◌∙◌, arith}
 use Rattle.std.proofs.lemmas.List.{take_all}
 use Rattle.esto_term.proofs.PlaceLemmas.{item_at}
-use Rattle.esto_plan.specs.Rows.{IsRowOf}
+use Rattle.esto_steps.specs.Rows.{IsRowOf}
 use Rattle.esto_exec.specs.Turns.{AreArities}
 use Rattle.esto_exec.proofs.RunLemmas.{fragment_there, fragment_rows}
 use Rattle.esto_exec.proofs.UnderWayLemmas.{arities_more}

@@ -1,5 +1,5 @@
 use Rattle.std.proofs.Common.{map, take, slice_index_or, []}
-use Rattle.esto_plan.specs.Rows.{IsRowOf}
+use Rattle.esto_steps.specs.Rows.{IsRowOf}
 use Rattle.esto_exec.specs.Turns.{AreArities}
 use Rattle.esto_exec.proofs.turns.arities_of.Given as goal
 

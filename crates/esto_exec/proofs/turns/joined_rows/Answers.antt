@@ -1,5 +1,5 @@
 use Rattle.std.proofs.Common.{[], map, get_or}
-use Rattle.esto_plan.specs.Rows.{IsRowOf}
+use Rattle.esto_steps.specs.Rows.{IsRowOf}
 use Rattle.esto_exec.proofs.UnderWayLemmas.{under_way_at}
 use Rattle.esto_exec.proofs.turns.joined_rows.Goals as goal
 

@@ -1,6 +1,6 @@
 use Rattle.std.proofs.Common.{◌↔◌, ℕ, List, Contains, subst}
 use Rattle.std.proofs.lemmas.Result.{IfOk-weaker}
-use Rattle.esto_exec.specs.Joined.{IsJoin, IsKept}
+use Rattle.esto_steps.specs.Joined.{IsJoin, IsKept}
 use Rattle.esto_exec.proofs.turns.joined_slots.Goals as goal
 
 pub returns : goal.returns

@@ -1,5 +1,5 @@
 use Rattle.std.proofs.Common.{◌<◌, [], ℕ, map, slice_index_or, Contains}
-use Rattle.esto_plan.specs.Rows.{IsRowOf}
+use Rattle.esto_steps.specs.Rows.{IsRowOf}
 use Rattle.esto_exec.specs.Turns.{IsUnderWay}
 use Rattle.esto_exec.proofs.turns.take_all.Given as goal
 

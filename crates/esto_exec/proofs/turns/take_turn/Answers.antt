@@ -2,7 +2,7 @@ use Rattle.std.proofs.Common.{◌<◌, [], map, length, take, get_or, refl, sym,
 use Rattle.std.proofs.lemmas.List.{length-map}
 use Rattle.std.proofs.lemmas.Result.{on_ok_weaker}
 use Rattle.esto_columns.specs.Asked.{IsAllowed}
-use Rattle.esto_plan.specs.Rows.{IsRowOf}
+use Rattle.esto_steps.specs.Rows.{IsRowOf}
 use Rattle.esto_exec.specs.Turns.{link_in, IsUnderWay}
 use Rattle.esto_exec.proofs.RunLemmas.{fragment_there, fragment_allows, fragment_rows}
 use Rattle.esto_exec.proofs.UnderWayLemmas.{under_way_more, links_in_columns}

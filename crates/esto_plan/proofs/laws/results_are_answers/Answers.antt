@@ -1,4 +1,4 @@
-use Rattle.esto_plan.specs.Rows.{IsRowOf}
+use Rattle.esto_steps.specs.Rows.{IsRowOf}
 use Rattle.esto_plan.proofs.MeaningLemmas.{results_are_answers}
 use Rattle.esto_plan.proofs.laws.results_are_answers.Goals as goal
 

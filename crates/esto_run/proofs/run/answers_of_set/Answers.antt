@@ -1,6 +1,6 @@
 use Rattle.std.proofs.Common.{List, map, sym, ap, subst, ◌∙◌}
 use Rattle.esto_columns.specs.declared.stored.StoredRows.{StoredRows}
-use Rattle.esto_plan.specs.Rows.{IsRowOf, held_by}
+use Rattle.esto_steps.specs.Rows.{IsRowOf, held_by}
 use Rattle.esto_semantics.specs.Listed.{candidate}
 use Rattle.esto_views.specs.Plans.{plan_query}
 use Rattle.esto_run.specs.Coded.{AreCodesOfAll}

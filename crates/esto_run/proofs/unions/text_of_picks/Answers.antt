@@ -1,7 +1,7 @@
 use Rattle.std.proofs.Common.{All, List, length, map, ap, sym, subst, ◌≡◌, ◌∙◌}
 use Rattle.esto_columns.specs.Lent.{lent_rows}
 use Rattle.esto_columns.specs.declared.stored.StoredRows.{StoredRows}
-use Rattle.esto_plan.specs.Rows.{IsRowOf, held_by}
+use Rattle.esto_steps.specs.Rows.{IsRowOf, held_by}
 use Rattle.esto_run.specs.Answers.{rows_text}
 use Rattle.esto_run.specs.Coded.{AreCodesOfAll, IsStoredRow}
 use Rattle.esto_run.specs.Laws.{IsAnswerOfOne}

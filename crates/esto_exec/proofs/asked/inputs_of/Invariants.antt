@@ -1,6 +1,0 @@
-use Rattle.std.proofs.Common.{◌≡◌, take}
-use Rattle.esto_exec.specs.Inputs.{inputs_with}
-use Rattle.esto_exec.proofs.asked.inputs_of.Given as goal
-
-abbrev pub invariant-links : goal.invariant-links
-invariant-links l = l.inputs ≡ inputs_with (take l.at l.link-items) l.codes

@@ -1,6 +1,0 @@
-use Rattle.std.proofs.Common.{◌≡◌, map, take}
-use Rattle.esto_plan.specs.declared.steps.Source.TheVariants.{Cell}
-use Rattle.esto_exec.proofs.links.columns_of.Given as goal
-
-abbrev pub invariant-links : goal.invariant-links
-invariant-links l = l.columns ≡ map (λ link. Cell link.column) (take l.link-index l.link-items)

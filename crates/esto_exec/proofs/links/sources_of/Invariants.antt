@@ -1,5 +1,0 @@
-use Rattle.std.proofs.Common.{◌≡◌, map, take}
-use Rattle.esto_exec.proofs.links.sources_of.Given as goal
-
-abbrev pub invariant-links : goal.invariant-links
-invariant-links l = l.sources ≡ map (λ link. link.source) (take l.link-index l.link-items)

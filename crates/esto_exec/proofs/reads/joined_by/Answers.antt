@@ -1,9 +1,0 @@
-use Rattle.std.proofs.lemmas.Result.{IfOk-weaker}
-use Rattle.esto_exec.proofs.ReadLemmas.{join_few}
-use Rattle.esto_exec.proofs.reads.joined_by.Goals as goal
-
-pub returns : goal.returns
-returns c = IfOk-weaker c.joined.result _ _
-    (λ it. join_few c.args.so_far.now.arity c.args.join.now.get.now c.args.join.now.kept.now c.args.cells.now c.args.so_far.now.rows c.args.rows.now.rows
-    c.in_ok-few.few.rows it.rows c.arity-arity.ensures.fits c.requires c.in_ok-few.ensures)
-    c.joined.ensures

@@ -1,7 +1,0 @@
-use Rattle.std.proofs.Common.{ap, ◌∙◌}
-use Rattle.esto_exec.specs.Reads.{read_cells}
-use Rattle.esto_exec.proofs.reads.joined_firsts.Goals as goal
-
-pub joined_by-requires : goal.joined_by-requires
-joined_by-requires c = c.in_ok-cells.ensures
-    ∙ ap (λ width. read_cells width c.args.join.now.get.now c.args.join.now.kept.now) c.arity.ensures.value

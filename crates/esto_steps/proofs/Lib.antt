@@ -1,0 +1,6 @@
+pub mod NamedLemmas
+pub mod RowLemmas
+pub mod IndexLemmas
+pub mod JoinLemmas
+pub mod AskedLemmas
+pub mod ReadLemmas

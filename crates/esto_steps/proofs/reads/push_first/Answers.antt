@@ -1,0 +1,76 @@
+use Rattle.std.proofs.Common.{inl, inr, length, Contains, refl, sym, subst, ap, ◌∙◌}
+use Rattle.std.proofs.lemmas.List.Elements.{Contains-push_cases}
+use Rattle.std.proofs.lemmas.Option.{get_or_from_slice_get}
+use Rattle.std.proofs.lemmas.Result.{on_ok_weaker}
+use Rattle.esto_term.proofs.ListLemmas.{Contains-at}
+use Rattle.esto_columns.specs.CodedRows.{CodedRows}
+use Rattle.esto_steps.specs.Named.{NamesCodes}
+use Rattle.esto_steps.proofs.NamedLemmas.{names_true, length-named}
+use Rattle.esto_steps.proofs.ReadLemmas.{stood_seen, stood_pushed}
+use Rattle.esto_steps.proofs.reads.push_first.Goals as goal
+
+pub returns-then-not-branch-clause-stand : goal.returns-then-not-branch-clause-stand
+returns-then-not-branch-clause-stand c = on_ok_weaker c.add.result
+    (λ grown before. stood_pushed c.args.cells.now c.args.rows.now.rows c.args.at c.read_row.new.codes c.requires.there
+    (sym (get_or_from_slice_get c.args.rows.now.rows c.args.at c.read_row.new.codes c.read_row.new.codes c.in_ok-read_row.ensures))
+    c.args.seen.now.rows c.args.few.now.rows before c.items-then-not-branch.result.now c.args.seen.now.rows c.add.new.self.rows
+    c.items-then-not-branch.ensures (ap (λ (it : CodedRows). it.rows) grown) (λ key inside. inl inside))
+    c.add.ensures.ok
+
+pub returns-then-has-clause-stand : goal.returns-then-has-clause-stand
+returns-then-has-clause-stand c = λ before.
+    stood_seen c.args.cells.now c.args.rows.now.rows c.args.at c.read_row.new.codes c.requires.there
+    (sym (get_or_from_slice_get c.args.rows.now.rows c.args.at c.read_row.new.codes c.read_row.new.codes c.in_ok-read_row.ensures))
+    c.args.seen.now.rows c.args.few.now.rows before c.name_codes.new.codes
+    (subst (λ it. NamesCodes it c.args.cells.now c.name_codes.new.codes) c.items.ensures
+    (names_true c.items.result.now c.args.cells.now c.name_codes.new.codes c.in_ok-name_codes.field-0 c.in_ok-name_codes.ensures c.if-not-branch.false))
+    (subst (Contains c.args.seen.now.rows) c.items-2.ensures (c.has.ensures c.if-has.true))
+
+pub put-requires : goal.put-requires
+put-requires c = ap length c.items-3.ensures
+    ∙ length-named c.items.result.now c.args.cells.now c.name_codes.new.codes
+    (names_true c.items.result.now c.args.cells.now c.name_codes.new.codes c.in_ok-name_codes.field-0 c.in_ok-name_codes.ensures c.if-not-branch.false)
+    ∙ sym c.requires.width
+
+pub add-requires : goal.add-requires
+add-requires c = ap length c.items-then-not-branch.ensures
+    ∙ c.arity-arity.ensures.fits c.read_row.new.codes
+    (Contains-at c.args.rows.now.rows c.args.at c.read_row.new.codes c.in_ok-read_row.ensures) ∙ sym c.requires.arity
+
+pub add-requires-2 : goal.add-requires-2
+add-requires-2 c = ap length c.items-4.ensures
+    ∙ c.arity-arity.ensures.fits c.read_row.new.codes
+    (Contains-at c.args.rows.now.rows c.args.at c.read_row.new.codes c.in_ok-read_row.ensures) ∙ sym c.requires.arity
+
+pub returns-clause-stand : goal.returns-clause-stand
+returns-clause-stand c = on_ok_weaker c.add-2.result
+    (λ grown before. stood_pushed c.args.cells.now c.args.rows.now.rows c.args.at c.read_row.new.codes c.requires.there
+    (sym (get_or_from_slice_get c.args.rows.now.rows c.args.at c.read_row.new.codes c.read_row.new.codes c.in_ok-read_row.ensures))
+    c.args.seen.now.rows c.args.few.now.rows before c.items-4.result.now c.put.new.self.rows c.add-2.new.self.rows
+    c.items-4.ensures (ap (λ (it : CodedRows). it.rows) grown)
+    (λ key inside. elim (Contains-push_cases c.args.seen.now.rows c.items-3.result.now key
+    (subst (λ (them : CodedRows). Contains them.rows key) c.in_ok-put.ensures inside)) [
+      | inl old ↦ inl old
+      | inr same ↦ inr (subst (NamesCodes c.read_row.new.codes c.args.cells.now) (sym c.items-3.ensures ∙ same)
+          (subst (λ it. NamesCodes it c.args.cells.now c.name_codes.new.codes) c.items.ensures
+          (names_true c.items.result.now c.args.cells.now c.name_codes.new.codes c.in_ok-name_codes.field-0 c.in_ok-name_codes.ensures c.if-not-branch.false)))
+    ]))
+    c.add-2.ensures.ok
+
+pub returns-then-not-branch-clause-arity : goal.returns-then-not-branch-clause-arity
+returns-then-not-branch-clause-arity c = on_ok_weaker c.add.result (λ grown. ap (λ (it : CodedRows). it.arity) grown) c.add.ensures.ok
+
+pub returns-then-not-branch-clause-width : goal.returns-then-not-branch-clause-width
+returns-then-not-branch-clause-width c = on_ok_weaker c.add.result (λ _. refl) c.add.ensures.ok
+
+pub returns-then-has-clause-arity : goal.returns-then-has-clause-arity
+returns-then-has-clause-arity c = refl
+
+pub returns-then-has-clause-width : goal.returns-then-has-clause-width
+returns-then-has-clause-width c = refl
+
+pub returns-clause-arity : goal.returns-clause-arity
+returns-clause-arity c = on_ok_weaker c.add-2.result (λ grown. ap (λ (it : CodedRows). it.arity) grown) c.add-2.ensures.ok
+
+pub returns-clause-width : goal.returns-clause-width
+returns-clause-width c = on_ok_weaker c.add-2.result (λ _. ap (λ (it : CodedRows). it.arity) c.in_ok-put.ensures) c.add-2.ensures.ok

@@ -1,0 +1,7 @@
+pub mod Meaning
+pub mod Rows
+pub mod Named
+pub mod Indexed
+pub mod Joined
+pub mod Inputs
+pub mod Reads

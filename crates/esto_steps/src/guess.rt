@@ -1,0 +1,102 @@
+//! How many rows there are about once a get is joined. Nothing rests on it but speed, so nothing here has a contract.
+use crate::codes::{codes_at, name_codes};
+use crate::links::{columns_of, sources_of};
+use crate::seen::Seen;
+use crate::steps::{Links, Sources};
+use esto_columns::Rows;
+use esto_term::{OutOfMemory, Values};
+use std::alloc::Global;
+
+/// How many of the rows so far a guess looks at.
+const SAMPLE: usize = 64;
+
+/// Puts the codes that the sources name in the cells after the keys, if they are new.
+fn put_key(
+    alloc: Global,
+    cells: &[u64],
+    sources: &Sources,
+    keys: &mut Seen,
+) -> Result<(), OutOfMemory> {
+    match codes_at(alloc, cells, sources)? {
+        Some(key) => keys.put_new(alloc, key.items()),
+        None => Ok(()),
+    }
+}
+
+/// The same for the cells of the row at the place, if there is one.
+fn put_key_at(
+    alloc: Global,
+    rows: &Rows,
+    at: usize,
+    sources: &Sources,
+    keys: &mut Seen,
+) -> Result<(), OutOfMemory> {
+    if at >= rows.len() {
+        return Ok(());
+    }
+    let cells = rows.row(alloc, at)?;
+    put_key(alloc, cells.items(), sources, keys)
+}
+
+/// Puts the codes that the links name in some of the rows, which are spread evenly over all, after the keys.
+fn put_some_keys(
+    alloc: Global,
+    rows: &Rows,
+    links: &Links,
+    keys: &mut Seen,
+) -> Result<(), OutOfMemory> {
+    let step = rows.len() / SAMPLE + 1;
+    let sources = sources_of(alloc, links)?;
+    'sample: for turn in 0..SAMPLE {
+        put_key_at(alloc, rows, step.saturating_mul(turn), &sources, keys)?;
+    }
+    Ok(())
+}
+
+/// How many of the rows have one of the keys in the columns.
+fn count_found(
+    alloc: Global,
+    rows: &Rows,
+    columns: &Sources,
+    keys: &Seen,
+) -> Result<usize, OutOfMemory> {
+    let mut row = Values::new(alloc);
+    let mut key = Values::new(alloc);
+    let mut count: usize = 0;
+    'rows: for at in 0..rows.len() {
+        rows.read_row(at, &mut row)?;
+        if name_codes(row.items(), columns, &mut key)? && keys.has(key.items()) {
+            count = count.saturating_add(1);
+        }
+    }
+    Ok(count)
+}
+
+/// How many of the table's rows follow a key by the links, on average and times so many.
+fn followers(
+    alloc: Global,
+    links: &Links,
+    table: &Rows,
+    keys: &Seen,
+    times: usize,
+) -> Result<usize, OutOfMemory> {
+    let columns = columns_of(alloc, links)?;
+    let found = count_found(alloc, table, &columns, keys)?;
+    Ok(found.saturating_mul(times) / keys.len().max(1))
+}
+
+/// How many rows there are about once the table's rows are joined by the links: each of the rows so far is taken to have
+/// as many followers as some of them have on average. It serves to choose an order of joins, and is no more than a guess.
+pub fn guessed_count(
+    alloc: Global,
+    links: &Links,
+    table: &Rows,
+    so_far: &Rows,
+) -> Result<usize, OutOfMemory> {
+    if links.is_empty() {
+        return Ok(so_far.len().saturating_mul(table.len()));
+    }
+    let mut keys = Seen::new(alloc, links.len(), SAMPLE)?;
+    put_some_keys(alloc, so_far, links, &mut keys)?;
+    followers(alloc, links, table, &keys, so_far.len())
+}

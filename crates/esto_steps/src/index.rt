@@ -1,0 +1,41 @@
+//! Indexes of rows by the codes that sources name in them.
+ghost use Rattle.std.specs.Prelude.{◌+◌, ◌<◌, length, take, IfOk, OnOk};
+ghost use Rattle.esto_steps.specs.Indexed.{FindsRows};
+
+use crate::codes::name_codes;
+use crate::steps::Sources;
+use esto_columns::{Index, Rows};
+use esto_term::{OutOfMemory, Values};
+use std::alloc::Global;
+
+/// Puts the key of the row at the place into the index of the rows before it: the codes that the columns name in it, and
+/// any where they don't all name one. The row and the key are read into the two lists.
+fn index_row(
+    rows: &Rows,
+    columns: &Sources,
+    at: usize,
+    row: &mut Values<u64>,
+    key: &mut Values<u64>,
+    index: &mut Index,
+) -> Result<(), OutOfMemory>
+    requires there { at < length rows.now.rows }
+    requires own { FindsRows (take at rows.now.rows) columns.now index.old }
+    ensures { OnOk result (FindsRows (take (at + 1) rows.now.rows) columns.now index.new) }
+{
+    rows.read_row(at, row)?;
+    name_codes(row.items(), columns, key)?;
+    index.add(key.items())
+}
+
+/// An index of the rows by the codes that the columns name in them.
+pub(crate) fn index_of(alloc: Global, rows: &Rows, columns: &Sources) -> Result<Index, OutOfMemory>
+    ensures { IfOk result (FindsRows rows.now.rows columns.now) }
+{
+    let mut index = Index::new(alloc, rows.len())?;
+    let mut row = Values::new(alloc);
+    let mut key = Values::new(alloc);
+    'rows: for at in 0..rows.len() {
+        index_row(rows, columns, at, &mut row, &mut key, &mut index)?;
+    }
+    Ok(index)
+}

@@ -1,0 +1,273 @@
+//! Rows so far joined with rows of a fragment.
+ghost use Rattle.std.specs.Prelude.{◌≡◌, ◌↔◌, ◌++◌, ◌<◌, [], List, ℕ, Some, slice_get, length, drop, map, Contains, IfOk, OnOk, IsTrue};
+ghost use Rattle.esto_steps.specs.Meaning.{IsMet, Follows};
+ghost use Rattle.esto_steps.specs.declared.steps.Link.{Link};
+ghost use Rattle.esto_steps.specs.declared.steps.Source.{Source};
+ghost use Rattle.esto_steps.specs.declared.steps.Source.TheVariants.{Cell};
+ghost use Rattle.esto_columns.specs.Indexed.{AreChains, bucket_of};
+ghost use Rattle.esto_steps.specs.Indexed.{FindsRows};
+ghost use Rattle.esto_steps.specs.Joined.{IsJoin, IsFollower, IsFollowerAt, IsKept, GainsOnly};
+ghost use Rattle.esto_steps.specs.Named.{NamesCodes};
+
+use crate::codes::{each_met, name_codes};
+use crate::index::index_of;
+use crate::links::{columns_of, early_links, sources_of};
+use crate::seen::{Seen, put_unseen};
+use crate::steps::{Get, Links, Sources};
+use esto_columns::{Index, Rows};
+use esto_term::{OutOfMemory, Values};
+use std::alloc::Global;
+
+/// A get that is joined, and what names the codes that are kept of its joined rows.
+#[derive(Clone, Copy)]
+pub struct Join<'a> {
+    pub get: &'a Get,
+    pub kept: &'a Sources,
+}
+
+/// Lists that are filled anew for each row: the cells of a row so far and its key, the cells with those of a row of the
+/// fragment after them, and what is kept of these.
+#[derive(Drop)]
+struct Buffers {
+    cells: Values<u64>,
+    key: Values<u64>,
+    both: Values<u64>,
+    kept: Values<u64>,
+}
+
+impl Buffers {
+    /// Empty lists, which take no memory.
+    fn new(alloc: Global) -> Buffers {
+        Buffers {
+            cells: Values::new(alloc),
+            key: Values::new(alloc),
+            both: Values::new(alloc),
+            kept: Values::new(alloc),
+        }
+    }
+}
+
+/// Makes the codes the cells with those of the row at the place after them.
+fn append_row(
+    cells: &[u64],
+    rows: &Rows,
+    place: usize,
+    both: &mut Values<u64>,
+) -> Result<(), OutOfMemory>
+    requires { place < length rows.now.rows }
+    ensures { OnOk result ((row : List ℕ)
+        × (slice_get rows.now.rows place ≡ Some row) × (both.new ≡ cells.now ++ row)) }
+{
+    both.truncate(0);
+    'cells: for code in cells {
+        both.push(*code)?;
+    }
+    rows.push_row(place, both)
+}
+
+/// The codes of the two that stand past so many.
+fn past(both: &[u64], width: usize) -> &[u64]
+    ensures { result.now ≡ drop width both.now }
+{
+    if width < both.len() {
+        &both[width..]
+    } else {
+        &[]
+    }
+}
+
+/// Whether the row follows the cells; the two are also given one after the other.
+fn follows(get: &Get, cells: &[u64], both: &[u64], row: &[u64]) -> bool
+    requires { both.now ≡ cells.now ++ row.now }
+    ensures { IsTrue result ↔ Follows get.now cells.now row.now }
+{
+    each_met(cells, row, &get.inputs) && each_met(both, row, &get.filters)
+}
+
+/// Puts what is kept of the cells with the row at the place after them at the end, where the row is there and follows
+/// them.
+fn push_follower(
+    alloc: Global,
+    join: &Join,
+    rows: &Rows,
+    place: usize,
+    buffers: &mut Buffers,
+    into: &mut Seen,
+) -> Result<(), OutOfMemory>
+    requires { into.old.arity ≡ length join.now.kept.now }
+    ensures cells { buffers.new.cells ≡ buffers.old.cells }
+    ensures arity { OnOk result (into.new.arity ≡ into.old.arity) }
+    ensures rows { OnOk result (GainsOnly into.old.rows into.new.rows (IsKept join.now.kept.now
+        (IsFollowerAt join.now.get.now buffers.old.cells rows.now.rows place))) }
+{
+    if place >= rows.len() {
+        return Ok(());
+    }
+    append_row(buffers.cells.items(), rows, place, &mut buffers.both)?;
+    let cells = buffers.cells.items();
+    let both = buffers.both.items();
+    if !follows(join.get, cells, both, past(both, cells.len())) {
+        return Ok(());
+    }
+    if !name_codes(both, join.kept, &mut buffers.kept)? {
+        return Ok(());
+    }
+    put_unseen(alloc, into, buffers.kept.items())
+}
+
+/// Puts what is kept of the cells with each of the rows that follows them at the end, of the rows whose keys are in one
+/// bucket with that of the cells.
+fn push_followers(
+    alloc: Global,
+    join: &Join,
+    rows: &Rows,
+    index: &Index,
+    buffers: &mut Buffers,
+    into: &mut Seen,
+) -> Result<(), OutOfMemory>
+    requires { into.old.arity ≡ length join.now.kept.now }
+    ensures arity { OnOk result (into.new.arity ≡ into.old.arity) }
+    ensures rows { OnOk result ((buckets : List ℕ) → AreChains index.now buckets
+        → GainsOnly into.old.rows into.new.rows (λ it. (place : ℕ)
+        × (slice_get buckets place ≡ Some (bucket_of (length index.now.last) buffers.old.key))
+        × IsKept join.now.kept.now
+        (IsFollowerAt join.now.get.now buffers.old.cells rows.now.rows place) it)) }
+{
+    let mut next = index.last_of(buffers.key.items());
+    'places: while next > 0 {
+        let place = next - 1;
+        push_follower(alloc, join, rows, place, buffers, into)?;
+        next = index.before(place);
+    }
+    Ok(())
+}
+
+/// Puts what is kept of the row so far at the place with each of the rows that follows it at the end.
+fn push_joined(
+    alloc: Global,
+    join: &Join,
+    so_far: &Rows,
+    at: usize,
+    rows: &Rows,
+    sources: &Sources,
+    index: &Index,
+    buffers: &mut Buffers,
+    into: &mut Seen,
+) -> Result<(), OutOfMemory>
+    requires there { at < length so_far.now.rows }
+    requires arity { into.old.arity ≡ length join.now.kept.now }
+    requires found { (columns : List Source) × FindsRows rows.now.rows columns index.now
+        × ((cells row : List ℕ) → Contains so_far.now.rows cells → Follows join.now.get.now cells row
+        → (codes : List ℕ) × NamesCodes cells sources.now codes × NamesCodes row columns codes) }
+    ensures arity { OnOk result (into.new.arity ≡ into.old.arity) }
+    ensures rows { OnOk result ((cells : List ℕ) → slice_get so_far.now.rows at ≡ Some cells
+        → GainsOnly into.old.rows into.new.rows
+        (IsKept join.now.kept.now (IsFollower join.now.get.now cells rows.now.rows))) }
+{
+    so_far.read_row(at, &mut buffers.cells)?;
+    if !name_codes(buffers.cells.items(), sources, &mut buffers.key)? {
+        return Ok(());
+    }
+    push_followers(alloc, join, rows, index, buffers, into)
+}
+
+/// Puts what is kept of each of the rows so far with every one of the rows that follows it at the end.
+fn push_each_joined(
+    alloc: Global,
+    join: &Join,
+    so_far: &Rows,
+    rows: &Rows,
+    sources: &Sources,
+    index: &Index,
+    into: &mut Seen,
+) -> Result<(), OutOfMemory>
+    requires none { into.old.rows ≡ [] }
+    requires arity { into.old.arity ≡ length join.now.kept.now }
+    requires found { (columns : List Source) × FindsRows rows.now.rows columns index.now
+        × ((cells row : List ℕ) → Contains so_far.now.rows cells → Follows join.now.get.now cells row
+        → (codes : List ℕ) × NamesCodes cells sources.now codes × NamesCodes row columns codes) }
+    ensures { OnOk result ((row : List ℕ) → Contains into.new.rows row
+        ↔ IsKept join.now.kept.now (IsJoin join.now.get.now so_far.now.rows rows.now.rows) row) }
+{
+    let mut buffers = Buffers::new(alloc);
+    'rows: for at in 0..so_far.len() {
+        push_joined(
+            alloc,
+            join,
+            so_far,
+            at,
+            rows,
+            sources,
+            index,
+            &mut buffers,
+            into,
+        )?;
+    }
+    Ok(())
+}
+
+/// An index of the rows by the columns of the links.
+fn index_by(alloc: Global, rows: &Rows, links: &Links) -> Result<Index, OutOfMemory>
+    ensures { IfOk result
+        (FindsRows rows.now.rows (map (λ link. Cell link.column) links.now)) }
+{
+    let columns = columns_of(alloc, links)?;
+    let index = index_of(alloc, rows, &columns)?;
+    Ok(index)
+}
+
+/// Puts what is kept of each of the rows so far with every one of the rows that follows it at the end, by an index of
+/// these. The links are ones that each row meets which follows one so far.
+fn push_joined_by(
+    alloc: Global,
+    join: &Join,
+    so_far: &Rows,
+    rows: &Rows,
+    links: &Links,
+    into: &mut Seen,
+) -> Result<(), OutOfMemory>
+    requires none { into.old.rows ≡ [] }
+    requires arity { into.old.arity ≡ length join.now.kept.now }
+    requires early { (cells row : List ℕ) → Contains so_far.now.rows cells
+        → Follows join.now.get.now cells row
+        → (link : Link) → Contains links.now link → IsMet cells row link }
+    ensures { OnOk result ((row : List ℕ) → Contains into.new.rows row
+        ↔ IsKept join.now.kept.now (IsJoin join.now.get.now so_far.now.rows rows.now.rows) row) }
+{
+    let sources = sources_of(alloc, links)?;
+    let index = index_by(alloc, rows, links)?;
+    push_each_joined(alloc, join, so_far, rows, &sources, &index, into)
+}
+
+/// Puts what is kept of each of the rows so far with every one of the rows that follows it at the end.
+fn push_all_joined(
+    alloc: Global,
+    join: &Join,
+    so_far: &Rows,
+    rows: &Rows,
+    into: &mut Seen,
+) -> Result<(), OutOfMemory>
+    requires none { into.old.rows ≡ [] }
+    requires arity { into.old.arity ≡ length join.now.kept.now }
+    ensures { OnOk result ((row : List ℕ) → Contains into.new.rows row
+        ↔ IsKept join.now.kept.now (IsJoin join.now.get.now so_far.now.rows rows.now.rows) row) }
+{
+    let width = so_far.arity();
+    let links = early_links(alloc, join.get, width)?;
+    push_joined_by(alloc, join, so_far, rows, &links, into)
+}
+
+/// What is kept of the rows so far, each with every one of the rows that follows it after it.
+pub(crate) fn joined(
+    alloc: Global,
+    join: &Join,
+    so_far: &Rows,
+    rows: &Rows,
+) -> Result<Rows, OutOfMemory>
+    ensures { IfOk result (λ it. (row : List ℕ) → Contains it.rows row
+        ↔ IsKept join.now.kept.now (IsJoin join.now.get.now so_far.now.rows rows.now.rows) row) }
+{
+    let mut joined = Seen::new(alloc, join.kept.len(), so_far.len())?;
+    push_all_joined(alloc, join, so_far, rows, &mut joined)?;
+    Ok(joined.into_rows())
+}

@@ -1,0 +1,21 @@
+//! Steps, what they mean, and how one of their gets is joined, over rows of codes. Start from `Steps`,
+//! `asked_rows` and `joined_firsts`.
+#![tactic(auto)]
+
+mod asked;
+mod codes;
+mod guess;
+mod index;
+mod join;
+mod links;
+mod project;
+mod reads;
+mod seen;
+mod steps;
+
+pub use asked::asked_rows;
+pub use guess::guessed_count;
+pub use join::Join;
+pub use project::projected;
+pub use reads::joined_firsts;
+pub use steps::{Get, Gets, Link, Links, Source, Sources, Steps};

@@ -1,0 +1,211 @@
+//! What a join reads of a fragment's rows, and rows that stand for others which have the same codes there.
+ghost use Rattle.std.specs.Prelude.{◌≡◌, ◌↔◌, ◌++◌, ◌+◌, ◌<◌, [], List, ℕ, map, flat_map, length, take, Contains, IfOk, OnOk};
+ghost use Rattle.esto_steps.specs.declared.steps.Source.TheVariants.{Cell};
+ghost use Rattle.esto_steps.specs.Reads.{own_cells, filter_cells, read_cells, StandFor, AreStood};
+ghost use Rattle.esto_steps.specs.Joined.{IsJoin, IsKept};
+
+use crate::codes::name_codes;
+use crate::join::{Join, joined};
+use crate::seen::Seen;
+use crate::steps::{Link, Links, Source, Sources};
+use esto_columns::Rows;
+use esto_term::{List, OutOfMemory, Values};
+use std::alloc::Global;
+
+/// Puts the cell that the source names past so many at the end, as a cell of the row that stands there.
+fn push_own(cells: &mut Sources, width: usize, source: &Source) -> Result<(), OutOfMemory>
+    ensures { OnOk result (cells.new ≡ cells.old ++ own_cells width source.now) }
+{
+    match source {
+        Source::Code(_) => Ok(()),
+        Source::Cell(place) => {
+            if *place < width {
+                return Ok(());
+            }
+            cells.push(Source::Cell(*place - width))
+        }
+    }
+}
+
+/// Puts the columns of the links at the end.
+fn push_columns(cells: &mut Sources, links: &Links) -> Result<(), OutOfMemory>
+    ensures { OnOk result (cells.new ≡ cells.old ++ map (λ link. Cell link.column) links.now) }
+{
+    'links: for link in links.items() {
+        cells.push(Source::Cell(link.column))?;
+    }
+    Ok(())
+}
+
+/// Puts what the filter reads at the end.
+fn push_filter(cells: &mut Sources, width: usize, link: &Link) -> Result<(), OutOfMemory>
+    ensures { OnOk result (cells.new ≡ cells.old ++ filter_cells width link.now) }
+{
+    cells.push(Source::Cell(link.column))?;
+    push_own(cells, width, &link.source)
+}
+
+/// Puts what the filters read at the end.
+fn push_filters(cells: &mut Sources, width: usize, links: &Links) -> Result<(), OutOfMemory>
+    ensures { OnOk result (cells.new ≡ cells.old ++ flat_map (filter_cells width) links.now) }
+{
+    'links: for link in links.items() {
+        push_filter(cells, width, link)?;
+    }
+    Ok(())
+}
+
+/// Puts what the sources name past so many cells at the end.
+fn push_kept(cells: &mut Sources, width: usize, kept: &Sources) -> Result<(), OutOfMemory>
+    ensures { OnOk result (cells.new ≡ cells.old ++ flat_map (own_cells width) kept.now) }
+{
+    'sources: for source in kept.items() {
+        push_own(cells, width, source)?;
+    }
+    Ok(())
+}
+
+/// The cells of the fragment's row that the join reads, where rows so far have so many.
+fn cells_read(alloc: Global, join: &Join, width: usize) -> Result<Sources, OutOfMemory>
+    ensures { IfOk result (λ it. it ≡ read_cells width join.now.get.now join.now.kept.now) }
+{
+    let mut cells = List::new(alloc);
+    push_columns(&mut cells, &join.get.inputs)?;
+    push_filters(&mut cells, width, &join.get.filters)?;
+    push_kept(&mut cells, width, join.kept)?;
+    Ok(cells)
+}
+
+/// Whether the cell is one of these.
+fn has_cell(cells: &Sources, column: usize) -> bool {
+    'cells: for cell in cells.items() {
+        if let Source::Cell(place) = cell {
+            if *place == column {
+                return true;
+            }
+        }
+    }
+    false
+}
+
+/// Whether each cell of a row of the arity is one of these.
+fn has_all(cells: &Sources, arity: usize) -> bool {
+    'columns: for column in 0..arity {
+        if !has_cell(cells, column) {
+            return false;
+        }
+    }
+    true
+}
+
+/// Lists that are filled anew for each row: its codes, and those of them that are read.
+#[derive(Drop)]
+struct Buffers {
+    row: Values<u64>,
+    key: Values<u64>,
+}
+
+/// Puts the row at the place after the few, unless one with the same codes in the cells was seen.
+fn push_first(
+    alloc: Global,
+    rows: &Rows,
+    at: usize,
+    cells: &Sources,
+    buffers: &mut Buffers,
+    seen: &mut Seen,
+    few: &mut Rows,
+) -> Result<(), OutOfMemory>
+    requires there { at < length rows.now.rows }
+    requires arity { few.old.arity ≡ rows.now.arity }
+    requires width { seen.old.arity ≡ length cells.now }
+    ensures arity { OnOk result (few.new.arity ≡ few.old.arity) }
+    ensures width { OnOk result (seen.new.arity ≡ seen.old.arity) }
+    ensures stand { OnOk result (AreStood cells.now (take at rows.now.rows) seen.old.rows few.old.rows
+        → AreStood cells.now (take (at + 1) rows.now.rows) seen.new.rows few.new.rows) }
+{
+    let _arity = rows.arity();
+    rows.read_row(at, &mut buffers.row)?;
+    if !name_codes(buffers.row.items(), cells, &mut buffers.key)? {
+        return few.add(buffers.row.items());
+    }
+    if seen.has(buffers.key.items()) {
+        return Ok(());
+    }
+    seen.put(alloc, buffers.key.items())?;
+    few.add(buffers.row.items())
+}
+
+/// Puts the first of the rows for each list of codes in the cells after the few.
+fn push_firsts(
+    alloc: Global,
+    rows: &Rows,
+    cells: &Sources,
+    seen: &mut Seen,
+    few: &mut Rows,
+) -> Result<(), OutOfMemory>
+    requires none { few.old ≡ record { arity = rows.now.arity; rows = [] } }
+    requires unseen { seen.old ≡ record { arity = length cells.now; rows = [] } }
+    ensures { OnOk result (StandFor cells.now rows.now.rows few.new.rows) }
+{
+    let mut buffers = Buffers {
+        row: Values::new(alloc),
+        key: Values::new(alloc),
+    };
+    'rows: for at in 0..rows.len() {
+        push_first(alloc, rows, at, cells, &mut buffers, seen, few)?;
+    }
+    Ok(())
+}
+
+/// Puts some of the rows, which stand for all where only the cells are read, after the few.
+fn push_few(alloc: Global, rows: &Rows, cells: &Sources, few: &mut Rows) -> Result<(), OutOfMemory>
+    requires { few.old ≡ record { arity = rows.now.arity; rows = [] } }
+    ensures { OnOk result (StandFor cells.now rows.now.rows few.new.rows) }
+{
+    let mut seen = Seen::new(alloc, cells.len(), rows.len())?;
+    push_firsts(alloc, rows, cells, &mut seen, few)
+}
+
+/// Some of the rows, which stand for all where only the cells are read.
+fn firsts(alloc: Global, rows: &Rows, cells: &Sources) -> Result<Rows, OutOfMemory>
+    ensures { IfOk result (λ it. StandFor cells.now rows.now.rows it.rows) }
+{
+    let mut few = Rows::new(alloc, rows.arity())?;
+    push_few(alloc, rows, cells, &mut few)?;
+    Ok(few)
+}
+
+/// The same as `joined`, where the cells are those of the rows that the join reads.
+fn joined_by(
+    alloc: Global,
+    join: &Join,
+    so_far: &Rows,
+    rows: &Rows,
+    cells: &Sources,
+) -> Result<Rows, OutOfMemory>
+    requires { cells.now ≡ read_cells so_far.now.arity join.now.get.now join.now.kept.now }
+    ensures { IfOk result (λ it. (row : List ℕ) → Contains it.rows row
+        ↔ IsKept join.now.kept.now (IsJoin join.now.get.now so_far.now.rows rows.now.rows) row) }
+{
+    let _arity = so_far.arity();
+    let few = firsts(alloc, rows, cells)?;
+    joined(alloc, join, so_far, &few)
+}
+
+/// What is kept of the rows so far, each with every one of the rows that follows it after it. Where a cell of the rows is
+/// not read, only the first of those that are the same in the others is joined.
+pub fn joined_firsts(
+    alloc: Global,
+    join: &Join,
+    so_far: &Rows,
+    rows: &Rows,
+) -> Result<Rows, OutOfMemory>
+    ensures { IfOk result (λ it. (row : List ℕ) → Contains it.rows row
+        ↔ IsKept join.now.kept.now (IsJoin join.now.get.now so_far.now.rows rows.now.rows) row) }
+{
+    let cells = cells_read(alloc, join, so_far.arity())?;
+    if has_all(&cells, rows.arity()) {
+        return joined(alloc, join, so_far, rows);
+    }
+    joined_by(alloc, join, so_far, rows, &cells)
+}

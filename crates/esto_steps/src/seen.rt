@@ -1,0 +1,140 @@
+//! Rows that were seen.
+ghost use Rattle.std.specs.Prelude.{◌≡◌, ◌++◌, ◌∷◌, [], length, Contains, IfOk, OnOk, IsTrue};
+ghost use Rattle.esto_columns.specs.CodedRows.{CodedRows};
+ghost use Rattle.esto_steps.specs.Joined.{GainsOnly};
+
+use esto_columns::{Index, Rows};
+use esto_term::{OutOfMemory, Values};
+use std::alloc::Global;
+use std::marker::Model;
+
+/// Rows of codes that were seen, which contracts see as their arity and their list. They are kept by columns, and found
+/// by an index, which is made anew when there are as many rows as there was room for.
+#[derive(Drop)]
+pub(crate) struct Seen {
+    rows: Rows,
+    index: Index,
+    room: usize,
+}
+
+impl Model for Seen {
+    ghost use Rattle.esto_columns.specs.CodedRows.{CodedRows};
+
+    ghost Value = { CodedRows };
+
+    ghost view = { λ it. it.rows };
+}
+
+/// Whether the row stands at the place of the rows.
+fn is_at(rows: &Rows, place: usize, row: &[u64]) -> bool
+    ensures { IsTrue result → Contains rows.now.rows row.now }
+{
+    let arity = rows.arity();
+    if place >= rows.len() || row.len() != arity {
+        return false;
+    }
+    'columns: for column in 0..arity {
+        if rows.column(column).item(place) != row[column] {
+            return false;
+        }
+    }
+    true
+}
+
+/// Whether the row is one of the rows, as far as a look at those of its bucket tells.
+fn is_among(rows: &Rows, index: &Index, row: &[u64]) -> bool
+    ensures { IsTrue result → Contains rows.now.rows row.now }
+{
+    let mut next = index.last_of(row);
+    'places: while next > 0 {
+        let place = next - 1;
+        if is_at(rows, place, row) {
+            return true;
+        }
+        next = index.before(place);
+    }
+    false
+}
+
+/// Puts each of the rows into the index.
+fn index_rows(alloc: Global, rows: &Rows, index: &mut Index) -> Result<(), OutOfMemory> {
+    let mut row = Values::new(alloc);
+    'rows: for at in 0..rows.len() {
+        rows.read_row(at, &mut row)?;
+        index.add(row.items())?;
+    }
+    Ok(())
+}
+
+impl Seen {
+    /// No rows of the arity, with room for so many.
+    pub(crate) fn new(alloc: Global, arity: usize, room: usize) -> Result<Seen, OutOfMemory>
+        ensures { IfOk result (λ it. it ≡ record { arity = arity; rows = [] }) }
+    {
+        let rows = Rows::new(alloc, arity)?;
+        let index = Index::new(alloc, room)?;
+        Ok(Seen { rows, index, room })
+    }
+
+    /// Whether the row was seen, as far as a look at those of its bucket tells.
+    pub(crate) fn has(&self, row: &[u64]) -> bool
+        ensures { IsTrue result → Contains self.now.rows row.now }
+    {
+        is_among(&self.rows, &self.index, row)
+    }
+
+    /// Sees to it that there is room for one more row.
+    fn widen(&mut self, alloc: Global) -> Result<(), OutOfMemory>
+        ensures { self.new ≡ self.old }
+    {
+        if self.rows.len() < self.room {
+            return Ok(());
+        }
+        self.room = self.rows.len().saturating_mul(2).saturating_add(1);
+        self.index = Index::new(alloc, self.room)?;
+        index_rows(alloc, &self.rows, &mut self.index)
+    }
+
+    /// Puts the row at the end.
+    pub(crate) fn put(&mut self, alloc: Global, row: &[u64]) -> Result<(), OutOfMemory>
+        requires { length row.now ≡ self.old.arity }
+        ensures { OnOk result (self.new
+            ≡ record { arity = self.old.arity; rows = self.old.rows ++ row.now ∷ [] }) }
+    {
+        self.widen(alloc)?;
+        self.index.add(row)?;
+        self.rows.add(row)
+    }
+
+    /// Puts the row at the end, unless it was seen or has another arity.
+    pub(crate) fn put_new(&mut self, alloc: Global, row: &[u64]) -> Result<(), OutOfMemory> {
+        if row.len() != self.rows.arity() || self.has(row) {
+            return Ok(());
+        }
+        self.put(alloc, row)
+    }
+
+    /// How many rows were seen.
+    pub(crate) fn len(&self) -> usize {
+        self.rows.len()
+    }
+
+    /// The rows.
+    pub(crate) fn into_rows(self) -> Rows
+        ensures { result ≡ self }
+    {
+        self.rows
+    }
+}
+
+/// Puts the row at the end, unless it was seen.
+pub(crate) fn put_unseen(alloc: Global, seen: &mut Seen, row: &[u64]) -> Result<(), OutOfMemory>
+    requires { length row.now ≡ seen.old.arity }
+    ensures arity { OnOk result (seen.new.arity ≡ seen.old.arity) }
+    ensures rows { OnOk result (GainsOnly seen.old.rows seen.new.rows (λ it. row.now ≡ it)) }
+{
+    if seen.has(row) {
+        return Ok(());
+    }
+    seen.put(alloc, row)
+}
