@@ -15,5 +15,6 @@ pub mod FactLemmas
 pub mod LayoutLemmas
 pub mod MentionLemmas
 pub mod MatchLemmas
+pub mod AskingLemmas
 pub mod VariableLemmas
 pub mod DocumentLemmas

@@ -117,7 +117,7 @@ matched_text m (group path inner rest) start term ((found, leads, matches), othe
 matched_text m (group path inner rest) start term (here, others) (inr later) = matched_text m rest start term others later
 
 -- one document
-abbrev one : Node → Forest
+abbrev pub one : Node → Forest
 one start = kid place start.content start.inside none
 
 module _ (entries : Entries) (start : Node) (variables : List ℕ) (said : AreVariables entries variables) (facts body : List (Fact Term))

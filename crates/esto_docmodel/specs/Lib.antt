@@ -11,3 +11,4 @@ pub mod Putting
 pub mod Layouts
 pub mod Valuations
 pub mod Matching
+pub mod Asking

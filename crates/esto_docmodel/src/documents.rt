@@ -169,13 +169,13 @@ fn every(base: usize) -> Kept
     }
 }
 
-/// The facts of a document, with numbers and relations from 0 on.
-pub fn document_facts(alloc: Global, tree: &Tree) -> Result<Facts, OutOfMemory>
-    ensures facts { IfOk result (λ it. it ≡ facts_of 0 0 (documents (tree.now ∷ []))) }
-    ensures rising { OnOk result (AreRising (tree.now ∷ [])) }
+/// The facts of a document that are kept, with numbers from 0 on.
+pub fn document_facts(alloc: Global, relations: &Kept, tree: &Tree) -> Result<Facts, OutOfMemory>
+    requires { relations.now.base + 4 ≤ 18446744073709551615 }
+    ensures { IfOk result (λ it. it ≡ kept_of relations.now 0 (documents (tree.now ∷ []))) }
 {
     let mut facts = List::new(alloc);
-    put_document(alloc, &mut facts, &every(0), tree, 0)?;
+    put_document(alloc, &mut facts, relations, tree, 0)?;
     Ok(facts)
 }
 

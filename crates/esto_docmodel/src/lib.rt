@@ -21,6 +21,6 @@ pub use field::FieldOf;
 pub use kept::{Kept, KeptTexts};
 pub use laws::{documents_meet_the_rules, encodings_mean_the_same, matches_rest_on_their_terms};
 pub use layout::{MAX_LAYOUT_DEPTH, is_layout, path_of};
-pub use matches::{Valuations, match_pattern};
+pub use matches::{AskedPattern, Valuations, ask_pattern, match_asked, match_pattern};
 pub use pattern::{Entries, Entry, Path, Pattern, Step};
 pub use tree::{Field, Fields, Tree, Trees};

@@ -5,6 +5,8 @@ ghost use Rattle.esto_term.specs.declared.term.Term.{Term};
 ghost use Rattle.esto_term.specs.declared.term.Term.TheVariants.{Plain};
 ghost use Rattle.esto_query.specs.Rows.{Adds, IsAscending};
 ghost use Rattle.esto_query.specs.Valuations.{Assignment};
+ghost use Rattle.std.specs.List.{list_any};
+ghost use Rattle.esto_docmodel.specs.Asking.{IsAskedBy, all_but_below, asks_below};
 ghost use Rattle.esto_docmodel.specs.Matching.{AreVariables, AreRows, head_of, IsEncoding, valuation_of};
 ghost use Rattle.esto_docmodel.specs.Patterns.{done, Mentions};
 ghost use Rattle.esto_docmodel.specs.Shapes.{shape, entry_shape, entries_of};
@@ -12,14 +14,26 @@ ghost use Rattle.esto_docmodel.specs.Valuations.{HaveFlatTerms, AreMatches, Bind
 
 use crate::documents::document_facts;
 use crate::encode::{after, encode_pattern};
+use crate::kept::{Kept, KeptTexts};
 use crate::pattern::{Entry, Pattern};
 use crate::tree::Tree;
 use esto_query::{Name, Names, Query, Valuation, answers};
+use esto_semantics::Atom;
 use esto_term::{List, OutOfMemory, Replicate, Term, TermRows, Terms, Text};
 use std::alloc::Global;
 
 /// A list of valuations.
 pub type Valuations = List<Valuation>;
+
+/// The number of the relation of `below`, where the five stand from 0 on.
+const BELOW: usize = 4;
+
+/// A pattern as a query for the terms of its variables, in the order of their numbers.
+#[derive(Drop)]
+pub struct AskedPattern {
+    pub variables: Vec<u64>,
+    pub query: Query,
+}
 
 /// Puts the term's number, where it is a variable.
 fn put_variable(variables: &mut Vec<u64>, term: &Term) -> Result<(), OutOfMemory>
@@ -137,22 +151,66 @@ fn query_of(alloc: Global, pattern: &Pattern, variables: &[u64]) -> Result<Query
     })
 }
 
-/// The rows of that head under the maps that match the pattern in the tree, each once, in the order of terms.
+// Whether an atom asks which nodes stand below others.
+fn asks_below(body: &[Atom]) -> bool
+    ensures { result ≡ asks_below body.now }
+{
+    body.iter().any(|atom| atom.relation == BELOW)
+}
+
+// The facts of documents that the atoms of a pattern can go to: all, but those of `below` only where an atom asks for them.
+fn kept_for(body: &[Atom]) -> Kept
+    ensures { result ≡ all_but_below (asks_below body.now) }
+{
+    Kept {
+        base: 0,
+        root: true,
+        field: KeptTexts::Every,
+        item: true,
+        value: KeptTexts::Every,
+        below: asks_below(body),
+    }
+}
+
+// The pattern as a query for these variables' terms.
+fn asked_for(
+    alloc: Global,
+    pattern: &Pattern,
+    variables: Vec<u64>,
+) -> Result<AskedPattern, OutOfMemory>
+    requires flat { HaveFlatTerms (entries_of pattern.now.entries) }
+    requires ascending { AllPairs ◌<◌ variables.items }
+    requires variables { AreVariables (entries_of pattern.now.entries) variables.items }
+    ensures { IfOk result (IsAskedBy (entries_of pattern.now.entries)) }
+{
+    let query = query_of(alloc, pattern, variables.as_slice())?;
+    Ok(AskedPattern { variables, query })
+}
+
+/// The pattern as a query, which is made once for many trees.
+pub fn ask_pattern(alloc: Global, pattern: &Pattern) -> Result<AskedPattern, OutOfMemory>
+    requires { HaveFlatTerms (entries_of pattern.now.entries) }
+    ensures { IfOk result (IsAskedBy (entries_of pattern.now.entries)) }
+{
+    let variables = variables_of(alloc, pattern)?;
+    asked_for(alloc, pattern, variables)
+}
+
+// The rows of the query's head under the maps that match the pattern in the tree, each once, in the order of terms.
 fn rows_of(
     alloc: Global,
     pattern: &Pattern,
-    variables: &[u64],
+    asked: &AskedPattern,
     tree: &Tree,
 ) -> Result<TermRows, OutOfMemory>
-    requires flat { HaveFlatTerms (entries_of pattern.now.entries) }
-    requires variables { AreVariables (entries_of pattern.now.entries) variables.now }
+    requires { IsAskedBy (entries_of pattern.now.entries) asked.now }
     ensures rows { IfOk result
-        (AreRows (entries_of pattern.now.entries) (shape tree.now) variables.now) }
+        (AreRows (entries_of pattern.now.entries) (shape tree.now) asked.now.variables.items) }
     ensures ascending { IfOk result IsAscending }
 {
-    let query = query_of(alloc, pattern, variables)?;
-    let facts = document_facts(alloc, tree)?;
-    answers(alloc, &query, &facts)
+    let kept = kept_for(asked.query.body.items());
+    let facts = document_facts(alloc, &kept, tree)?;
+    answers(alloc, &asked.query, &facts)
 }
 
 /// The valuation of a row of that head.
@@ -183,6 +241,27 @@ fn valuations_of(
     Ok(valuations)
 }
 
+/// The same as `match_pattern`, with the pattern's query, which is made once for many trees.
+pub fn match_asked(
+    alloc: Global,
+    pattern: &Pattern,
+    asked: &AskedPattern,
+    tree: &Tree,
+) -> Result<Valuations, OutOfMemory>
+    requires { IsAskedBy (entries_of pattern.now.entries) asked.now }
+    ensures matches { IfOk result (AreMatches (entries_of pattern.now.entries) (shape tree.now)) }
+    ensures variables { IfOk result (λ valuations. (valuation : Assignment)
+        → Contains valuations valuation
+        → BindsVariables (entries_of pattern.now.entries) valuation) }
+    ensures texts { IfOk result (λ valuations. (valuation : Assignment)
+        → Contains valuations valuation → GivesTexts valuation) }
+    ensures ascending { IfOk result (AllPairs ComesBefore) }
+{
+    let rows = rows_of(alloc, pattern, asked, tree)?;
+    let valuations = valuations_of(alloc, asked.variables.as_slice(), rows.items())?;
+    Ok(valuations)
+}
+
 /// The matches of a pattern in a tree by the pattern's own meaning: each once, as a valuation that gives a text to each
 /// variable after `:` and a term to no other variable, in the order of the texts of the variables in the order of their
 /// numbers. A map that keeps constants matches the pattern exactly where it extends one of them. OutOfMemory comes too
@@ -202,8 +281,6 @@ pub fn match_pattern(
         → Contains valuations valuation → GivesTexts valuation) }
     ensures ascending { IfOk result (AllPairs ComesBefore) }
 {
-    let variables = variables_of(alloc, pattern)?;
-    let rows = rows_of(alloc, pattern, variables.as_slice(), tree)?;
-    let valuations = valuations_of(alloc, variables.as_slice(), rows.items())?;
-    Ok(valuations)
+    let asked = ask_pattern(alloc, pattern)?;
+    match_asked(alloc, pattern, &asked, tree)
 }

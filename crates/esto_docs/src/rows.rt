@@ -3,6 +3,7 @@ ghost use Rattle.std.specs.Prelude.{◌≡◌, ◌∷◌, ◌++◌, [], map, Con
 ghost use Rattle.std.specs.FinMap as finmap;
 ghost use Rattle.serde_json.specs.View.{view, items_view};
 ghost use Rattle.esto_lines.specs.Lines.{lines_of};
+ghost use Rattle.esto_docmodel.specs.Asking.{IsAskedBy};
 ghost use Rattle.esto_docmodel.specs.Layouts.{IsLayout};
 ghost use Rattle.esto_docmodel.specs.Shapes.{entries_of};
 ghost use Rattle.esto_docs.specs.Files.{json_of, lines_fault, trees_of_lines, array_fault, trees_of_array, trees_fault, file_trees};
@@ -13,7 +14,7 @@ use crate::from_json::tree_of;
 use crate::layout::Layout;
 use crate::parse::{ParseError, parse};
 use crate::trees::read_line;
-use esto_docmodel::{Pattern, Tree, match_pattern};
+use esto_docmodel::{AskedPattern, Pattern, Tree, ask_pattern, match_asked};
 use esto_lines::{cut_line, fault};
 use esto_ports::{FileError, FileKind};
 use esto_query::Valuation;
@@ -62,14 +63,16 @@ fn put_rows(
     alloc: Global,
     tree: &Tree,
     pattern: &Pattern,
+    asked: &AskedPattern,
     columns: usize,
     rows: &mut TextRows,
 ) -> Result<(), OutOfMemory>
-    requires { IsLayout columns (entries_of pattern.now.entries) }
+    requires layout { IsLayout columns (entries_of pattern.now.entries) }
+    requires asked { IsAskedBy (entries_of pattern.now.entries) asked.now }
     ensures { OnOk result (Gains
         (IsRowOf columns (entries_of pattern.now.entries) (tree.now ∷ [])) rows.old rows.new) }
 {
-    let found = match_pattern(alloc, pattern, tree)?;
+    let found = match_asked(alloc, pattern, asked, tree)?;
     put_found(alloc, found.items(), columns, rows)?;
     Ok(())
 }
@@ -79,15 +82,17 @@ fn open_line(
     alloc: Global,
     line: &[u8],
     pattern: &Pattern,
+    asked: &AskedPattern,
     columns: usize,
     rows: &mut TextRows,
 ) -> Result<(), ParseError>
-    requires { IsLayout columns (entries_of pattern.now.entries) }
+    requires layout { IsLayout columns (entries_of pattern.now.entries) }
+    requires asked { IsAskedBy (entries_of pattern.now.entries) asked.now }
     ensures { OpensLine (IsRowOf columns (entries_of pattern.now.entries))
         line.now rows.old rows.new result }
 {
     match read_line(alloc, line) {
-        Ok(Some(tree)) => match put_rows(alloc, &tree, pattern, columns, rows) {
+        Ok(Some(tree)) => match put_rows(alloc, &tree, pattern, asked, columns, rows) {
             Ok(()) => Ok(()),
             Err(_) => Err(ParseError::OutOfMemory),
         },
@@ -101,9 +106,11 @@ fn open_lines(
     alloc: Global,
     bytes: &[u8],
     pattern: &Pattern,
+    asked: &AskedPattern,
     columns: usize,
 ) -> Result<TextRows, FileError>
-    requires { IsLayout columns (entries_of pattern.now.entries) }
+    requires layout { IsLayout columns (entries_of pattern.now.entries) }
+    requires asked { IsAskedBy (entries_of pattern.now.entries) asked.now }
     ensures { let lines = lines_of bytes.now in
         GivesRows (IsRowOf columns (entries_of pattern.now.entries) (trees_of_lines lines))
         (lines_fault 1 lines) result }
@@ -113,7 +120,7 @@ fn open_lines(
     let mut number: u64 = 1;
     'lines: while !rest.is_empty() {
         let (line, after) = cut_line(rest);
-        match open_line(alloc, line, pattern, columns, &mut rows) {
+        match open_line(alloc, line, pattern, asked, columns, &mut rows) {
             Ok(()) => {}
             Err(ParseError::BadJson) => return Err(fault(FileKind::BadJson, number)),
             Err(ParseError::OutOfMemory) => return Err(FileError::OutOfMemory),
@@ -129,16 +136,18 @@ fn put_value(
     alloc: Global,
     value: &Value,
     pattern: &Pattern,
+    asked: &AskedPattern,
     columns: usize,
     rows: &mut TextRows,
 ) -> Result<(), OutOfMemory>
-    requires { IsLayout columns (entries_of pattern.now.entries) }
+    requires layout { IsLayout columns (entries_of pattern.now.entries) }
+    requires asked { IsAskedBy (entries_of pattern.now.entries) asked.now }
     ensures { OnOk result (Gains
         (IsRowOf columns (entries_of pattern.now.entries) (tree_of (view value.now) ∷ []))
         rows.old rows.new) }
 {
     let tree = tree_of(alloc, value)?;
-    put_rows(alloc, &tree, pattern, columns, rows)?;
+    put_rows(alloc, &tree, pattern, asked, columns, rows)?;
     Ok(())
 }
 
@@ -147,16 +156,18 @@ fn open_items(
     alloc: Global,
     items: &Vec<Value>,
     pattern: &Pattern,
+    asked: &AskedPattern,
     columns: usize,
 ) -> Result<TextRows, OutOfMemory>
-    requires { IsLayout columns (entries_of pattern.now.entries) }
+    requires layout { IsLayout columns (entries_of pattern.now.entries) }
+    requires asked { IsAskedBy (entries_of pattern.now.entries) asked.now }
     ensures { IfOk result (λ rows. (row : Row) → Contains rows row
         ↔ IsRowOf columns (entries_of pattern.now.entries)
         (trees_of (items_view items.now.items)) row) }
 {
     let mut rows = List::new(alloc);
     'items: for item in items {
-        put_value(alloc, item, pattern, columns, &mut rows)?;
+        put_value(alloc, item, pattern, asked, columns, &mut rows)?;
     }
     Ok(rows)
 }
@@ -166,16 +177,18 @@ fn open_array(
     alloc: Global,
     bytes: &[u8],
     pattern: &Pattern,
+    asked: &AskedPattern,
     columns: usize,
 ) -> Result<TextRows, FileError>
-    requires { IsLayout columns (entries_of pattern.now.entries) }
+    requires layout { IsLayout columns (entries_of pattern.now.entries) }
+    requires asked { IsAskedBy (entries_of pattern.now.entries) asked.now }
     ensures { let value = json_of bytes.now in
         GivesRows (IsRowOf columns (entries_of pattern.now.entries) (trees_of_array value))
         (array_fault value) result }
 {
     match parse(alloc, bytes) {
         Ok(value) => match value.as_array() {
-            Some(items) => match open_items(alloc, items, pattern, columns) {
+            Some(items) => match open_items(alloc, items, pattern, asked, columns) {
                 Ok(rows) => Ok(rows),
                 Err(_) => Err(FileError::OutOfMemory),
             },
@@ -201,8 +214,9 @@ pub fn open_documents(
         (IsRowOf columns (entries_of pattern.now.entries) (file_trees layout.now bytes.now))
         (trees_fault layout.now bytes.now) result }
 {
+    let asked = ask_pattern(alloc, pattern)?;
     match layout {
-        Layout::Array => open_array(alloc, bytes, pattern, columns),
-        Layout::Lines => open_lines(alloc, bytes, pattern, columns),
+        Layout::Array => open_array(alloc, bytes, pattern, &asked, columns),
+        Layout::Lines => open_lines(alloc, bytes, pattern, &asked, columns),
     }
 }

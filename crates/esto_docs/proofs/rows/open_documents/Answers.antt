@@ -3,7 +3,11 @@ use Rattle.esto_docmodel.specs.Shapes.{entries_of}
 use Rattle.esto_docs.specs.Files.{file_trees, trees_fault}
 use Rattle.esto_docs.specs.Rows.{IsRowOf, GivesRows}
 use Rattle.esto_docs.specs.declared.layout.Layout.{Layout}
+use Rattle.esto_docs.proofs.RowLemmas.{flat_terms}
 use Rattle.esto_docs.proofs.rows.open_documents.Goals as goal
+
+pub ask_pattern-requires : goal.ask_pattern-requires
+ask_pattern-requires c = flat_terms c.args.columns (entries_of c.args.pattern.now.entries) c.requires
 
 pub returns-in-Array : goal.returns-in-Array
 returns-in-Array c =
