@@ -1,7 +1,11 @@
 mod ReadLemmas
 mod ZipLemmas
-mod LinkLemmas
+pub mod LinkLemmas
+pub mod NumberLemmas
+pub mod ClaimLemmas
+pub mod WordLemmas
 mod MatchLemmas
+mod BeyondLemmas
 mod JudgeLemmas
 mod VerdictLemmas
 mod WorldLemmas
@@ -9,3 +13,7 @@ mod ShowLemmas
 mod OneLemmas
 mod MoveLemmas
 mod DeriveLemmas
+mod NumeralLemmas
+mod CourseLemmas
+pub mod ExpansionLemmas
+mod CompleteLemmas

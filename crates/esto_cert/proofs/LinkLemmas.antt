@@ -10,12 +10,21 @@ use Rattle.esto_term.specs.Order.{replaced, same_term}
 use Rattle.esto_term.specs.declared.term.Term.{Term}
 use Rattle.esto_semantics.proofs.TermLemmas.{same_term-Decides}
 use Rattle.esto_semantics.specs.declared.fact.Fact.{Fact}
-use Rattle.esto_world_laws.specs.Worlds.{Linked, here, along}
+use Rattle.esto_world_laws.specs.Worlds.{Linked, here, along, back}
 use Rattle.esto_world_laws.specs.declared.entry.Claim.{Claim}
 use Rattle.esto_world_laws.specs.declared.entry.Claim.TheVariants.{Fact as Stated, Same}
-use Rattle.esto_world_laws.proofs.LinkLemmas.{Linked-back, Linked-is, Linked-more, Linked-respects, Linked-then}
+use Rattle.esto_world_laws.proofs.LinkLemmas.{Linked-back, Linked-is, Linked-more, Linked-respects, Linked-then, one_link}
 use Rattle.esto_cert.specs.Linking.{IsAmong, standing, Tells}
 use Rattle.esto_cert.specs.declared.linking.Equality.{Equality}
+
+-- --
+pub Linked-through : {P Q : Claim → Type 0} → ((s t : Term) → P (Same s t) → Linked Q s t) → (s t : Term) → Linked P s t → Linked Q s t
+Linked-through through s t here = here
+Linked-through through s t (along holds linked) = Linked-then _ _ _ (through _ _ holds) (Linked-through through _ _ linked)
+Linked-through through s t (back holds linked) = Linked-then _ _ _ (Linked-back _ _ (through _ _ holds)) (Linked-through through _ _ linked)
+
+pub Linked-said : {P Q : Claim → Type 0} → ((s t : Term) → P (Same s t) → Q (Same s t)) → (s t : Term) → Linked P s t → Linked Q s t
+Linked-said said = Linked-through (λ s t holds. one_link s t (said s t holds))
 
 -- ---- one more renaming
 

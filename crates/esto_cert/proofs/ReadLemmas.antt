@@ -1,8 +1,12 @@
 -- Steps of the walks over items that may be wanting.
-use Rattle.std.proofs.Common.{◌≡◌, ◌≢◌, ℕ, length, List, [], ◌∷◌, ◌++◌, Option, Some, None, refl, ap}
+use Rattle.std.proofs.Common.{◌≡◌, ◌≢◌, ◌&&◌, ℕ, ◌+◌, ◌-◌, ◌*◌, ◌≤◌, nat_le, Bool, true, false, if◌then◌else◌, length, List, [], ◌∷◌, ◌++◌}
+use Rattle.std.proofs.Common.{Option, Some, None, option_map, refl, sym, ap, ◌∙◌, subst, arith}
+use Rattle.std.proofs.lemmas.Bool.Decides.{nat_tests}
 use Rattle.std.proofs.lemmas.List.{append_assoc}
+use Rattle.esto_term.specs.Nesting.{greatest_u64}
 use Rattle.esto_term.proofs.ListLemmas.{after}
-use Rattle.esto_cert.specs.Lines.{with_item, line_of_words}
+use Rattle.esto_cert.specs.Lines.{number_after, with_item, line_of_words}
+use Rattle.esto_cert.specs.Reading.{capped, line_within}
 
 pub after_nothing : {A : Type 0} (rest : Option (List A)) → after [] rest ≡ rest
 after_nothing None = refl
@@ -14,7 +18,7 @@ after_one done item None = refl
 after_one done item (Some rest) = ap Some (append_assoc done (item ∷ []) rest)
 
 -- words of another number say nothing
-pub other_words : (words : List (List ℕ)) → length words ≢ 3 → length words ≢ 5 → None ≡ line_of_words words
+pub other_words : (words : List (List ℕ)) → length words ≢ 3 → length words ≢ 5 → None ≡ line_within (line_of_words words)
 other_words [] three five = refl
 other_words (a ∷ []) three five = refl
 other_words (a ∷ b ∷ []) three five = refl
@@ -22,3 +26,65 @@ other_words (a ∷ b ∷ c ∷ []) three five = absurd (three refl)
 other_words (a ∷ b ∷ c ∷ d ∷ []) three five = refl
 other_words (a ∷ b ∷ c ∷ d ∷ e ∷ []) three five = absurd (five refl)
 other_words (a ∷ b ∷ c ∷ d ∷ e ∷ f ∷ rest) three five = refl
+
+-- ---- numbers that 64 bits don't hold
+
+-- digits after a number that 64 bits don't hold make one that they don't hold either
+capped-capped : (value : ℕ) → capped (capped value) ≡ capped value
+capped-capped value = by (nat_le value greatest_u64) refl
+  where
+    by : (test : Bool) → nat_le value greatest_u64 ≡ test → capped (if test then value else 18446744073709551616) ≡ (if test then value else 18446744073709551616)
+    by true is = ap (λ (it : Bool). if it then value else 18446744073709551616) is
+    by false is = refl
+
+one_digit_capped : (value digit : ℕ) → capped (capped value * 10 + digit) ≡ capped (value * 10 + digit)
+one_digit_capped value digit = by (nat_le value greatest_u64) refl
+  where
+    large : (number : ℕ) → 18446744073709551616 ≤ number → capped number ≡ 18446744073709551616
+    large number above = ap (λ (it : Bool). if it then number else 18446744073709551616) (test number above)
+      where
+        test : (number : ℕ) → 18446744073709551616 ≤ number → nat_le number greatest_u64 ≡ false
+        test number above = grind (arith, nat_tests, above)
+
+    past : nat_le value greatest_u64 ≡ false → 18446744073709551616 ≤ value
+    past is = grind (arith, nat_tests, is)
+
+    by : (test : Bool) → nat_le value greatest_u64 ≡ test
+        → capped ((if test then value else 18446744073709551616) * 10 + digit) ≡ capped (value * 10 + digit)
+    by true is = refl
+    by false is =
+        let above = past is in
+        large (18446744073709551616 * 10 + digit) (omega arith) ∙ sym (large (value * 10 + digit) (omega (arith, above)))
+
+number_after-capped : (digits : List ℕ) (value : ℕ) → option_map capped (number_after (capped value) digits) ≡ option_map capped (number_after value digits)
+number_after-capped [] value = ap (λ (it : ℕ). Some it) (capped-capped value)
+number_after-capped (byte ∷ digits) value = by (nat_le 48 byte && nat_le byte 57) (number_after-capped digits)
+  where
+    by : (test : Bool) → ((next : ℕ) → option_map capped (number_after (capped next) digits) ≡ option_map capped (number_after next digits))
+        → option_map capped (if test then number_after (capped value * 10 + (byte - 48)) digits else None)
+        ≡ option_map capped (if test then number_after (value * 10 + (byte - 48)) digits else None)
+    by true same =
+        sym (same (capped value * 10 + (byte - 48))) ∙ ap (λ (it : ℕ). option_map capped (number_after it digits)) (one_digit_capped value (byte - 48))
+        ∙ same (value * 10 + (byte - 48))
+    by false same = refl
+
+-- one digit more is read
+pub digit_read : (digits rest all : List ℕ) (value digit next : ℕ) → digits ≡ digit ∷ rest → 48 ≤ digit → digit ≤ 57
+    → option_map capped (number_after value digits) ≡ option_map capped (number_after 0 all) → next ≡ capped (value * 10 + (digit - 48))
+    → (next ≤ 18446744073709551616) × (option_map capped (number_after next rest) ≡ option_map capped (number_after 0 all))
+digit_read digits rest all value digit next is from to so_far next_is = (
+  subst (λ (it : ℕ). it ≤ 18446744073709551616) (sym next_is) (small (value * 10 + (digit - 48))),
+  ap (λ (it : ℕ). option_map capped (number_after it rest)) next_is ∙ number_after-capped rest (value * 10 + (digit - 48))
+      ∙ ap (λ (it : Bool). option_map capped (if it then number_after (value * 10 + (digit - 48)) rest else None)) (sym test)
+      ∙ ap (λ (it : List ℕ). option_map capped (number_after value it)) (sym is) ∙ so_far,
+)
+  where
+    test : (nat_le 48 digit && nat_le digit 57) ≡ true
+    test = grind (arith, nat_tests, from, to)
+
+    small : (number : ℕ) → capped number ≤ 18446744073709551616
+    small number = by (nat_le number greatest_u64) refl
+      where
+        by : (test : Bool) → nat_le number greatest_u64 ≡ test → (if test then number else 18446744073709551616) ≤ 18446744073709551616
+        by true is = let at_most : number ≤ greatest_u64 = grind (arith, nat_tests, is) in omega (arith, at_most)
+        by false is = omega arith

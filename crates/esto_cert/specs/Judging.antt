@@ -1,6 +1,7 @@
 -- Which line of a certificate is the first that is not so.
-use Rattle.std.specs.Prelude.{◌≡◌, ◌⊎◌, ⊤, ◌==◌, ◌<◌, ℕ, ◌+◌, Bool, List, [], ◌∷◌, ◌++◌, Option, Some, None, length, Contains, Result, Ok, Err}
+use Rattle.std.specs.Prelude.{◌≡◌, ◌⊎◌, ⊤, ◌==◌, ◌<◌, ◌≤◌, ℕ, ◌+◌, Bool, List, [], ◌∷◌, ◌++◌, Option, Some, None, length, Contains, Result, Ok, Err}
 use Rattle.std.specs.List.{slice_split}
+use Rattle.esto_term.specs.Nesting.{greatest_u64}
 use Rattle.esto_constraint.specs.Constraints.{rules_of}
 use Rattle.esto_constraint.specs.declared.rule.Constraint.{Constraint}
 use Rattle.esto_semantics.specs.Maps.{AreFlat}
@@ -32,9 +33,16 @@ case_of given =
       targets = given.targets.now;
     }
 
--- Each expanded fact is of an atom that has a place in the set.
+-- Each expanded fact is of an atom that has a place in the set, and has itself one among as many as the expanded facts are.
 abbrev pub AreNumbersOf : List Bool → List ExpandedFact → Type 0
-AreNumbersOf set expanded = (fact : ExpandedFact) → Contains expanded fact → fact.atom < length set
+AreNumbersOf set expanded = (fact : ExpandedFact) → Contains expanded fact → (fact.atom < length set) × (fact.place < length expanded)
+
+-- 64 bits hold how many claims and rules there are, and the numbers of the expanded facts' atoms and places, counted from 1.
+pub record AreFew (case : Case) (claims : List Claim) : Type 0 where
+  pub claims_few : length claims ≤ greatest_u64
+  pub rules_few : length case.rules ≤ greatest_u64
+  pub atoms_few : (fact : ExpandedFact) → Contains case.expanded fact → fact.atom + 1 ≤ greatest_u64
+  pub places_few : (fact : ExpandedFact) → Contains case.expanded fact → fact.place + 1 ≤ greatest_u64
 
 -- A line's judgement is right: it says the claim that the line may make, or that the line may be the last, or that it may do neither.
 abbrev pub IsJudged : Case → List Claim → Line → Judged → Type 0

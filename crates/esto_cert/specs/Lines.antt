@@ -2,15 +2,13 @@
 use Rattle.std.specs.Prelude.{◌==◌, ◌&&◌, ℕ, ◌+◌, ◌*◌, ◌-◌, nat_le, nat_eq, Bool, if◌then◌else◌, List, [], ◌∷◌, Option, Some, None, codes}
 use Rattle.std.specs.Cmp.Lexicographic.{pointwise}
 use Rattle.std.specs.List.{slice_split}
-use Rattle.esto_term.specs.Nesting.{greatest_u64}
 use Rattle.esto_cert.specs.declared.line.Line.{Line}
 use Rattle.esto_cert.specs.declared.line.Line.TheVariants.{Expanded, Step, Match}
 
--- The number that digits write in decimal after those of a value, where it is at most the greatest of 64 bits.
+-- The number that digits write in decimal after those of a value.
 abbrev pub number_after : ℕ → List ℕ → Option ℕ
 number_after value [] = Some value
-number_after value (byte ∷ rest) =
-    if nat_le 48 byte && (nat_le byte 57 && nat_le (value * 10 + (byte - 48)) greatest_u64) then number_after (value * 10 + (byte - 48)) rest else None
+number_after value (byte ∷ rest) = if nat_le 48 byte && nat_le byte 57 then number_after (value * 10 + (byte - 48)) rest else None
 
 -- The number that the bytes write in decimal, without a leading zero.
 abbrev pub number_of : List ℕ → Option ℕ

@@ -1,19 +1,21 @@
 //! What a line may claim after others, and which line may be the last.
-ghost use Rattle.std.specs.Prelude.{◌≡◌, ◌↔◌, ◌<◌, List, length, IsTrue, IfOk};
+ghost use Rattle.std.specs.Prelude.{◌≡◌, ◌↔◌, ◌<◌, ℕ, List, length, IsTrue, IfOk};
 ghost use Rattle.esto_constraint.specs.Constraints.{rule_of};
 ghost use Rattle.esto_semantics.specs.Facts.{terms_of};
 ghost use Rattle.esto_semantics.specs.Rules.{tuple, equality, body_of};
 ghost use Rattle.esto_world_laws.specs.Matches.{taken};
 ghost use Rattle.esto_world_laws.specs.declared.entry.Claim.{Claim};
 ghost use Rattle.esto_cert.specs.Certificates.{made_at, IsNamed};
-ghost use Rattle.esto_cert.specs.Judging.{case_of, AreNumbersOf, IsJudged, IsJudgedText};
+ghost use Rattle.esto_cert.specs.Judging.{case_of, AreFew, AreNumbersOf, IsJudged, IsJudgedText};
 ghost use Rattle.esto_cert.specs.Lines.{line_of};
+ghost use Rattle.esto_cert.specs.Reading.{head_of, nearest, StandsFor};
+ghost use Rattle.esto_cert.specs.declared.line.Line.{Line};
 ghost use Rattle.esto_cert.specs.declared.line.Line.TheVariants.{Expanded, Step, Match};
 
 use crate::line::Line;
 use crate::linking::stand_as_one;
 use crate::matching::find_match;
-use crate::naming::numbered;
+use crate::naming::{count, numbered};
 use crate::reading::read_line;
 use esto_bits::RowBits;
 use esto_constraint::{Constraint, Egd, Tgd, frontier_of};
@@ -109,6 +111,39 @@ pub fn made_at(
     }
 }
 
+/// How many atoms the head of a rule has.
+fn head_count(rule: &Constraint) -> usize
+    ensures { result ≡ length (head_of (rule_of rule.now)) }
+{
+    match rule {
+        Constraint::Tuple(tuple) => tuple.head.len(),
+        Constraint::Equal(_) => 0,
+        Constraint::Never(_) => 0,
+    }
+}
+
+/// What the rule makes at the place that was said, where this is the nearest that 64 bits hold.
+fn made_near(
+    alloc: Global,
+    place: u64,
+    number: usize,
+    rule: &Constraint,
+    from: &[Term],
+    to: &[Term],
+) -> Result<Option<Claim>, OutOfMemory>
+    requires { from.now ≡ terms_of (body_of (rule_of rule.now)) }
+    ensures { IfOk result (λ it. (said : ℕ) → nearest said ≡ place
+        → it ≡ made_at said number (rule_of rule.now) (taken from.now to.now)) }
+{
+    if place == u64::MAX {
+        if head_count(rule) == usize::MAX {
+            return Err(OutOfMemory);
+        }
+        return Ok(None);
+    }
+    made_at(alloc, place, number, rule, from, to)
+}
+
 /// What a certificate is for: the expanded facts of a plan, a set of its atoms, the rules, the query, and the plan's head.
 #[derive(Clone, Copy)]
 pub struct Case<'a> {
@@ -149,7 +184,7 @@ impl Case<'_> {
         Ok(Judged::Refused)
     }
 
-    /// Judges the line of a step.
+    /// Judges the line of a step at the place that was said, where this is the nearest that 64 bits hold.
     fn judge_step(
         &self,
         alloc: Global,
@@ -159,8 +194,8 @@ impl Case<'_> {
         facts: &[u64],
         links: &[u64],
     ) -> Result<Judged, OutOfMemory>
-        ensures { IfOk result
-            (IsJudged (case_of self.now) claims.now (Step number place facts.now links.now)) }
+        ensures { IfOk result (λ judged. (said : ℕ) → nearest said ≡ place
+            → IsJudged (case_of self.now) claims.now (Step number said facts.now links.now) judged) }
     {
         let Some(rule) = numbered(self.rules, number) else {
             return Ok(Judged::Refused);
@@ -170,7 +205,7 @@ impl Case<'_> {
         };
         let from = it.from.items();
         let to = it.to.items();
-        match made_at(alloc, place, (number - 1) as usize, rule, from, to)? {
+        match made_near(alloc, place, (number - 1) as usize, rule, from, to)? {
             Some(claim) => Ok(Judged::Claims(claim)),
             None => Ok(Judged::Refused),
         }
@@ -198,10 +233,11 @@ impl Case<'_> {
         Ok(Judged::Refused)
     }
 
-    /// Judges a line.
+    /// Judges the line that was said, where this line was read.
     fn judge(&self, alloc: Global, claims: &[Claim], line: &Line) -> Result<Judged, OutOfMemory>
         requires { AreNumbersOf self.now.set.now self.now.expanded.now }
-        ensures { IfOk result (IsJudged (case_of self.now) claims.now line.now) }
+        ensures { IfOk result (λ judged. (said : Line) → StandsFor line.now said
+            → IsJudged (case_of self.now) claims.now said judged) }
     {
         match line {
             Line::Expanded(atom, place) => self.judge_expanded(alloc, *atom, *place),
@@ -214,7 +250,18 @@ impl Case<'_> {
         }
     }
 
-    /// Judges what the bytes of a line say, and refuses bytes that say nothing.
+    /// Counts all that lines name by numbers: 64 bits hold how many there are of each.
+    fn count_all(&self, claims: &[Claim])
+        requires { AreNumbersOf self.now.set.now self.now.expanded.now }
+        ensures { AreFew (case_of self.now) claims.now }
+    {
+        count(claims);
+        count(self.rules);
+        count(self.expanded);
+        self.set.count();
+    }
+
+    /// Judges what the bytes of a line say, and refuses bytes that say nothing, or that name what is not there.
     pub fn judge_text(
         &self,
         alloc: Global,
@@ -226,7 +273,10 @@ impl Case<'_> {
     {
         match read_line(alloc, bytes)? {
             Some(line) => self.judge(alloc, claims, &line),
-            None => Ok(Judged::Refused),
+            None => {
+                self.count_all(claims);
+                Ok(Judged::Refused)
+            }
         }
     }
 }

@@ -1,9 +1,12 @@
 //! Laws of certificates.
+ghost use Rattle.esto_cert.specs.Complete.{ContainedSetsHaveCertificates};
 ghost use Rattle.esto_cert.specs.Showing.{AcceptedCertificatesDerive, AcceptedCertificatesShow, VerdictsAreMoved, VerdictsAreOne};
 
+use esto_chase_laws::{clashes_receive_nothing, runs_reach_an_end, states_are_universal};
 use esto_constraint::rules_are_sound;
 use esto_prov::matched_sets_are_contained;
 use esto_query::queries_are_sound;
+use esto_semantics::{an_expansion_means_the_same, an_expansion_of_a_plan_expands_its_candidates};
 use esto_views::plans_are_sound;
 use esto_world_laws::derived_entries_are_sound;
 
@@ -17,6 +20,22 @@ pub fn accepted_certificates_show()
     queries_are_sound();
     derived_entries_are_sound();
     matched_sets_are_contained();
+}
+
+/// A law: under ranks that rise, each set of a plan's atoms that is safe, and whose candidate has an answer and is contained in
+/// the query, has a certificate that is accepted: a line for each fact of its atoms and for each step of their chase, and
+/// one for the query's match in its end.
+pub fn contained_sets_have_certificates()
+    ensures { ContainedSetsHaveCertificates }
+{
+    rules_are_sound();
+    queries_are_sound();
+    plans_are_sound();
+    runs_reach_an_end();
+    states_are_universal();
+    clashes_receive_nothing();
+    an_expansion_means_the_same();
+    an_expansion_of_a_plan_expands_its_candidates();
 }
 
 /// A law: each line of an accepted certificate before the last makes a claim, and has a derivation of it from the expanded

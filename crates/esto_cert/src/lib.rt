@@ -15,7 +15,8 @@ mod reading;
 pub use check::{CertError, check_certificate};
 pub use judging::{body_of, made_at};
 pub use laws::{
-    accepted_certificates_derive, accepted_certificates_show, verdicts_are_moved, verdicts_are_one,
+    accepted_certificates_derive, accepted_certificates_show, contained_sets_have_certificates,
+    verdicts_are_moved, verdicts_are_one,
 };
 pub use line::{Line, Numbers};
 pub use reading::parts_by_comma;

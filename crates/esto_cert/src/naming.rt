@@ -1,5 +1,5 @@
 //! What the lines of given numbers claim.
-ghost use Rattle.std.specs.Prelude.{◌≡◌, option_map, IfOk};
+ghost use Rattle.std.specs.Prelude.{◌≡◌, ◌≤◌, length, option_map, IfOk};
 ghost use Rattle.esto_cert.specs.Certificates.{numbered, fact_of, equality_of, facts_at, equalities_at};
 
 use crate::linking::{Equalities, Equality};
@@ -7,6 +7,14 @@ use esto_semantics::{Atom, Atoms};
 use esto_term::{List, OutOfMemory, Replicate};
 use esto_world_laws::Claim;
 use std::alloc::Global;
+
+/// How many items there are; 64 bits hold that.
+pub fn count<T>(items: &[T]) -> usize
+    ensures count { result ≡ length items.now }
+    ensures bound { length items.now ≤ 18446744073709551615 }
+{
+    items.len()
+}
 
 /// The item of a number, counted from 1.
 pub fn numbered<T>(items: &[T], number: u64) -> Option<&T>

@@ -1,8 +1,9 @@
 //! Reading the lines of a certificate.
-ghost use Rattle.std.specs.Prelude.{◌≡◌, ◌==◌, ◌∷◌, [], length, map, IfOk};
+ghost use Rattle.std.specs.Prelude.{◌≡◌, ◌==◌, ◌∷◌, [], length, map, option_map, IfOk};
 ghost use Rattle.std.specs.List.{slice_split};
 ghost use Rattle.esto_cert.specs.Lines.{number_after, number_of, numbers_of, list_of, links_of, is_word};
 ghost use Rattle.esto_cert.specs.Lines.{expanded_of, match_of, step_of, line_of_words, line_of};
+ghost use Rattle.esto_cert.specs.Reading.{capped, nearest, within, list_within, line_within};
 
 use crate::line::{Line, Numbers};
 use esto_term::{OutOfMemory, Values};
@@ -12,27 +13,33 @@ const ZERO: u8 = b'0';
 
 const NINE: u8 = b'9';
 
-/// The number that the digits write in decimal.
-fn number_after(digits: &[u8]) -> Option<u64>
-    ensures { result ≡ number_after 0 digits.now }
+/// The first number that 64 bits don't hold.
+const PAST: u128 = 18446744073709551616;
+
+/// The number, and for all that 64 bits don't hold the first of these.
+fn capped(number: u128) -> u128
+    ensures { result ≡ capped number }
 {
-    let mut value: u64 = 0;
+    if number > PAST { PAST } else { number }
+}
+
+/// The number that the digits write in decimal, and for all that 64 bits don't hold the first of these.
+fn number_after(digits: &[u8]) -> Option<u128>
+    ensures { result ≡ option_map capped (number_after 0 digits.now) }
+{
+    let mut value: u128 = 0;
     'digits: for digit in digits {
         if *digit < ZERO || *digit > NINE {
             return None;
         }
-        let next = value as u128 * 10 + (*digit - ZERO) as u128;
-        if next > u64::MAX as u128 {
-            return None;
-        }
-        value = next as u64;
+        value = capped(value * 10 + (*digit - ZERO) as u128);
     }
     Some(value)
 }
 
-/// The number that the bytes write in decimal, without a leading zero.
-fn number_of(bytes: &[u8]) -> Option<u64>
-    ensures { result ≡ number_of bytes.now }
+/// The number that the bytes write in decimal, without a leading zero, and for all that 64 bits don't hold the first of these.
+fn number_of(bytes: &[u8]) -> Option<u128>
+    ensures { result ≡ option_map capped (number_of bytes.now) }
 {
     match bytes {
         [] => None,
@@ -44,6 +51,30 @@ fn number_of(bytes: &[u8]) -> Option<u64>
                 number_after(bytes)
             }
         }
+    }
+}
+
+/// The number that the bytes write, where 64 bits hold it.
+fn exact_of(bytes: &[u8]) -> Option<u64>
+    ensures { result ≡ within (number_of bytes.now) }
+{
+    let number = number_of(bytes)?;
+    if number < PAST {
+        Some(number as u64)
+    } else {
+        None
+    }
+}
+
+/// The number that the bytes write, or the greatest that 64 bits hold where they don't hold it.
+fn nearest_of(bytes: &[u8]) -> Option<u64>
+    ensures { result ≡ option_map nearest (number_of bytes.now) }
+{
+    let number = number_of(bytes)?;
+    if number < PAST {
+        Some(number as u64)
+    } else {
+        Some(u64::MAX)
     }
 }
 
@@ -82,13 +113,13 @@ pub fn lines_and_rest<'a>(alloc: Global, bytes: &'a [u8]) -> Result<Vec<&'a [u8]
     }
 }
 
-/// The numbers that the parts write, where each writes one.
+/// The numbers that the parts write, where each writes one that 64 bits hold.
 fn numbers_of(alloc: Global, parts: &[&[u8]]) -> Result<Option<Numbers>, OutOfMemory>
-    ensures { IfOk result (λ it. it ≡ numbers_of (map (λ part. part.now) parts.now)) }
+    ensures { IfOk result (λ it. it ≡ list_within (numbers_of (map (λ part. part.now) parts.now))) }
 {
     let mut numbers = Values::new(alloc);
     'parts: for part in parts {
-        let Some(number) = number_of(part) else {
+        let Some(number) = exact_of(part) else {
             return Ok(None);
         };
         numbers.push(number)?;
@@ -98,7 +129,7 @@ fn numbers_of(alloc: Global, parts: &[&[u8]]) -> Result<Option<Numbers>, OutOfMe
 
 /// The numbers of a list: they are parted by commas.
 fn list_of(alloc: Global, word: &[u8]) -> Result<Option<Numbers>, OutOfMemory>
-    ensures { IfOk result (λ it. it ≡ list_of word.now) }
+    ensures { IfOk result (λ it. it ≡ list_within (list_of word.now)) }
 {
     match parts_by_comma(alloc, word) {
         Ok(parts) => numbers_of(alloc, parts.as_slice()),
@@ -108,7 +139,7 @@ fn list_of(alloc: Global, word: &[u8]) -> Result<Option<Numbers>, OutOfMemory>
 
 /// The numbers of a list, or none where a minus stands in its place.
 fn links_of(alloc: Global, word: &[u8]) -> Result<Option<Numbers>, OutOfMemory>
-    ensures { IfOk result (λ it. it ≡ links_of word.now) }
+    ensures { IfOk result (λ it. it ≡ list_within (links_of word.now)) }
 {
     if is_word(word, b"-") {
         return Ok(Some(Values::new(alloc)));
@@ -125,16 +156,17 @@ fn is_word(word: &[u8], name: &[u8]) -> bool
 
 /// What a fact's line says.
 fn expanded_of(atom: &[u8], place: &[u8]) -> Option<Line>
-    ensures { result ≡ expanded_of (number_of atom.now) (number_of place.now) }
+    ensures { result ≡ expanded_of (within (number_of atom.now)) (within (number_of place.now)) }
 {
-    let number = number_of(atom)?;
-    let at = number_of(place)?;
+    let number = exact_of(atom)?;
+    let at = exact_of(place)?;
     Some(Line::Expanded(number, at))
 }
 
 /// What a match's line says.
 fn match_of(alloc: Global, facts: &[u8], links: &[u8]) -> Result<Option<Line>, OutOfMemory>
-    ensures { IfOk result (λ it. it ≡ match_of (list_of facts.now) (links_of links.now)) }
+    ensures { IfOk result (λ it. it ≡ match_of (list_within (list_of facts.now))
+        (list_within (links_of links.now))) }
 {
     let Some(fact_lines) = list_of(alloc, facts)? else {
         return Ok(None);
@@ -153,13 +185,14 @@ fn step_of(
     facts: &[u8],
     links: &[u8],
 ) -> Result<Option<Line>, OutOfMemory>
-    ensures { IfOk result (λ it. it ≡ step_of (number_of rule.now) (number_of place.now)
-        (list_of facts.now) (links_of links.now)) }
+    ensures { IfOk result (λ it. it ≡ step_of (within (number_of rule.now))
+        (option_map nearest (number_of place.now)) (list_within (list_of facts.now))
+        (list_within (links_of links.now))) }
 {
-    let Some(number) = number_of(rule) else {
+    let Some(number) = exact_of(rule) else {
         return Ok(None);
     };
-    let Some(at) = number_of(place) else {
+    let Some(at) = nearest_of(place) else {
         return Ok(None);
     };
     let Some(fact_lines) = list_of(alloc, facts)? else {
@@ -178,7 +211,8 @@ fn line_of_three(
     first: &[u8],
     second: &[u8],
 ) -> Result<Option<Line>, OutOfMemory>
-    ensures { IfOk result (λ it. it ≡ line_of_words (verb.now ∷ first.now ∷ second.now ∷ [])) }
+    ensures { IfOk result (λ it. it ≡ line_within
+        (line_of_words (verb.now ∷ first.now ∷ second.now ∷ []))) }
 {
     if is_word(verb, b"fact") {
         return Ok(expanded_of(first, second));
@@ -198,8 +232,8 @@ fn line_of_five(
     facts: &[u8],
     links: &[u8],
 ) -> Result<Option<Line>, OutOfMemory>
-    ensures { IfOk result (λ it. it ≡ line_of_words
-        (verb.now ∷ rule.now ∷ place.now ∷ facts.now ∷ links.now ∷ [])) }
+    ensures { IfOk result (λ it. it ≡ line_within (line_of_words
+        (verb.now ∷ rule.now ∷ place.now ∷ facts.now ∷ links.now ∷ []))) }
 {
     if is_word(verb, b"step") {
         return step_of(alloc, rule, place, facts, links);
@@ -210,7 +244,7 @@ fn line_of_five(
 /// What words say that are three.
 fn line_of_three_words(alloc: Global, words: &[&[u8]]) -> Result<Option<Line>, OutOfMemory>
     requires { length words.now ≡ 3 }
-    ensures { IfOk result (λ it. it ≡ line_of_words (map (λ word. word.now) words.now)) }
+    ensures { IfOk result (λ it. it ≡ line_within (line_of_words (map (λ word. word.now) words.now))) }
 {
     let [verb, first, second] = words else {
         return Ok(None);
@@ -221,7 +255,7 @@ fn line_of_three_words(alloc: Global, words: &[&[u8]]) -> Result<Option<Line>, O
 /// What words say that are five.
 fn line_of_five_words(alloc: Global, words: &[&[u8]]) -> Result<Option<Line>, OutOfMemory>
     requires { length words.now ≡ 5 }
-    ensures { IfOk result (λ it. it ≡ line_of_words (map (λ word. word.now) words.now)) }
+    ensures { IfOk result (λ it. it ≡ line_within (line_of_words (map (λ word. word.now) words.now))) }
 {
     let [verb, rule, place, facts, links] = words else {
         return Ok(None);
@@ -231,7 +265,7 @@ fn line_of_five_words(alloc: Global, words: &[&[u8]]) -> Result<Option<Line>, Ou
 
 /// What words say.
 fn line_of_words(alloc: Global, words: &[&[u8]]) -> Result<Option<Line>, OutOfMemory>
-    ensures { IfOk result (λ it. it ≡ line_of_words (map (λ word. word.now) words.now)) }
+    ensures { IfOk result (λ it. it ≡ line_within (line_of_words (map (λ word. word.now) words.now))) }
 {
     if words.len() == 3 {
         return line_of_three_words(alloc, words);
@@ -242,9 +276,9 @@ fn line_of_words(alloc: Global, words: &[&[u8]]) -> Result<Option<Line>, OutOfMe
     Ok(None)
 }
 
-/// What a line says.
+/// What a line says, where 64 bits hold its numbers; in the place of a head's place that they don't hold is the nearest.
 pub fn read_line(alloc: Global, bytes: &[u8]) -> Result<Option<Line>, OutOfMemory>
-    ensures { IfOk result (λ it. it ≡ line_of bytes.now) }
+    ensures { IfOk result (λ it. it ≡ line_within (line_of bytes.now)) }
 {
     match parts_by_space(alloc, bytes) {
         Ok(words) => line_of_words(alloc, words.as_slice()),

@@ -16,42 +16,8 @@ use Rattle.esto_cert.specs.Lines.{line_of}
 use Rattle.esto_cert.specs.declared.judging.Judged.TheVariants.{Claims, Ends}
 use Rattle.esto_cert.specs.declared.line.Line.{Line}
 use Rattle.esto_cert.specs.declared.line.Line.TheVariants.{Match}
+use Rattle.esto_cert.proofs.ClaimLemmas.{no_verdict}
 use Rattle.esto_derive.specs.Writing.{IsWritten}
-
-module _ (case : Case) where
-  goes_on : (claims : List Claim) (number : ℕ) (part : List ℕ) (parts : List (List ℕ)) (claim : Claim)
-      → IsJudgedText case claims (line_of part) (Claims claim) → Verdict case (claims ++ claim ∷ []) (number + 1) (parts ++ [] ∷ []) None
-      → Verdict case claims number (part ∷ parts ++ [] ∷ []) None
-  goes_on claims number part [] claim judged rest = inl (inl (claim, judged, rest))
-  goes_on claims number part (next ∷ parts) claim judged rest = inl (inl (claim, judged, rest))
-
-  no_verdict : (last : Line) (lines : List Line) (parts : List (List ℕ)) (claims more : List Claim) (number : ℕ)
-      → map line_of parts ≡ map Some (lines ++ last ∷ []) → length more ≡ length lines
-      → ((place : ℕ) (line : Line) (claim : Claim) → slice_get lines place ≡ Some line → slice_get more place ≡ Some claim
-      → MayClaim case (claims ++ take place more) line claim) → MayEnd case (claims ++ more) last → Verdict case claims number (parts ++ [] ∷ []) None
-  no_verdict last [] [] claims more number read as_many each ends = absurd (cc)
-  no_verdict last [] (part ∷ next ∷ parts) claims more number read as_many each ends = absurd (cc)
-  no_verdict last [] (part ∷ []) claims (claim ∷ more) number read as_many each ends = absurd (omega (arith, as_many))
-  no_verdict last [] (part ∷ []) claims [] number read as_many each ends =
-      let is : line_of part ≡ Some last = cc in
-      inl (inr (
-        subst (λ (it : Option Line). IsJudgedText case claims it Ends) (sym is)
-            (subst (λ (it : List Claim). MayEnd case it last) (append-nil claims) ends),
-        refl,
-      ))
-  no_verdict last (line ∷ lines) [] claims more number read as_many each ends = absurd (cc)
-  no_verdict last (line ∷ lines) (part ∷ parts) claims [] number read as_many each ends = absurd (omega (arith, as_many))
-  no_verdict last (line ∷ lines) (part ∷ parts) claims (claim ∷ more) number read as_many each ends =
-      let is : line_of part ≡ Some line = cc in
-      let rest : map line_of parts ≡ map Some (lines ++ last ∷ []) = cc in
-      let few : length more ≡ length lines = omega (arith, as_many) in
-      goes_on claims number part parts claim
-      (subst (λ (it : Option Line). IsJudgedText case claims it (Claims claim)) (sym is)
-      (subst (λ (it : List Claim). MayClaim case it line claim) (append-nil claims) (each zero line claim refl refl)))
-      (no_verdict last lines parts (claims ++ claim ∷ []) more (number + 1) rest few
-      (λ place its its_claim at claimed. subst (λ (it : List Claim). MayClaim case it its its_claim) (sym (append_assoc claims (claim ∷ []) (take place more)))
-      (each (suc place) its its_claim at claimed))
-      (subst (λ (it : List Claim). MayEnd case it last) (sym (append_assoc claims (claim ∷ []) more)) ends))
 
 pub accepted : (case : Case) (entries : List Entry) (bytes : List ℕ) → IsWritten case entries bytes → Decides case bytes None
 accepted case entries bytes is =

@@ -23,8 +23,8 @@ use Rattle.esto_derive.specs.Marking.{named_by, AreUsed, IsNamedByUsed}
 use Rattle.esto_derive.specs.Reasons.{HasLine, IsBehind, itself, through, AreNamedBy, IsLineOf, IsNamedLater, named_in, SaysReason}
 use Rattle.esto_derive.specs.Writing.{AddsNew, AreOwn, IsBasis, IsState, StandFor, lines_at, own_lines}
 use Rattle.esto_derive.specs.declared.writing.Written.{Written}
-use Rattle.esto_derive.proofs.ReasonLemmas.{as_many_lines, behind_below, behind_own, named_below, numbered_at, stands_before, stands_once}
-use Rattle.esto_derive.proofs.StepLemmas.{numbered_next}
+use Rattle.esto_cert.proofs.NumberLemmas.{numbered_at, numbered_next}
+use Rattle.esto_derive.proofs.ReasonLemmas.{as_many_lines, behind_below, behind_own, named_below, stands_before, stands_once}
 
 -- ---- what a line names
 

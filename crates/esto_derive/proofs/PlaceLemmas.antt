@@ -12,7 +12,7 @@ use Rattle.esto_world_laws.specs.declared.entry.Claim.{Claim}
 use Rattle.esto_world_laws.specs.declared.entry.Claim.TheVariants.{Fact as Stated, Same}
 use Rattle.esto_cert.specs.Certificates.{made_at, numbered}
 use Rattle.std.proofs.lemmas.Option.{slice_get_within}
-use Rattle.esto_derive.proofs.StepLemmas.{numbered_next}
+use Rattle.esto_cert.proofs.NumberLemmas.{numbered_next}
 use Rattle.esto_derive.specs.Placing.{Makes}
 
 -- what is made of a place is a fact

@@ -23,22 +23,8 @@ use Rattle.esto_cert.specs.Showing.{AreClaimsOf}
 use Rattle.esto_cert.specs.declared.line.Line.{Line}
 use Rattle.esto_derive.specs.Marking.{named_by}
 use Rattle.esto_derive.specs.Reasons.{HasLine, IsBehind, itself, through, AreNamedBy, SaysReason, IsLineOf, AreOfEntries}
-use Rattle.esto_derive.proofs.StepLemmas.{numbered_next}
-
--- ---- numbers from 1
-
-pub numbered_at : {X : Type 0} (items : List X) (number : ℕ) (item : X) → numbered items number ≡ Some item
-    → (place : ℕ) × (number ≡ place + 1) × (slice_get items place ≡ Some item)
-numbered_at items zero item at = absurd (let wrong : None ≡ Some item = at in cc)
-numbered_at items (suc place) item at =
-    let next : suc place ≡ place + 1 = omega arith in
-    (place, next, sym (numbered_next items place) ∙ ap (numbered items) (sym next) ∙ at)
-
-pub numbered_more : {X : Type 0} (items more : List X) (number : ℕ) (item : X) → numbered items number ≡ Some item
-    → numbered (items ++ more) number ≡ Some item
-numbered_more items more number item at =
-    let (place, is, there) = numbered_at items number item at in
-    ap (numbered (items ++ more)) is ∙ numbered_next (items ++ more) place ∙ at_left items more place item there
+use Rattle.esto_cert.proofs.ClaimLemmas.{claims_more}
+use Rattle.esto_cert.proofs.NumberLemmas.{numbered_at, numbered_more}
 
 -- ---- what stands for an entry
 
@@ -151,35 +137,6 @@ line_of_more : (entries : List Entry) (set : List Bool) (written more : List ℕ
     → IsLineOf entries set (written ++ more) place line
 line_of_more entries set written more place line (entry, at, within, says) =
     (entry, at, within, says_more entries written more entry.reason line says)
-
-module _ (case : Case) (lines : List Line) (claims : List Claim) (line : Line) (claim : Claim) (may : MayClaim case claims line claim)
-    (are : AreClaimsOf case lines claims) where
-  pub claims_more : AreClaimsOf case (lines ++ line ∷ []) (claims ++ claim ∷ [])
-  claims_more = record {
-    as_many = omega (arith, length-append claims (claim ∷ []), length-append lines (line ∷ []), are.as_many);
-    each = λ place its its_claim at claimed. elim (at_pushed lines line place its at) [
-      | inl earlier ↦ old place its its_claim earlier (slice_get_within lines place its earlier) (at_pushed claims claim place its_claim claimed)
-      | inr (last, is) ↦ own place its its_claim last is (at_pushed claims claim place its_claim claimed)
-    ];
-  }
-    where
-      old : (place : ℕ) (its : Line) (its_claim : Claim) → slice_get lines place ≡ Some its → place < length lines
-          → (slice_get claims place ≡ Some its_claim) ⊎ ((place ≡ length claims) × (claim ≡ its_claim))
-          → MayClaim case (take place (claims ++ claim ∷ [])) its its_claim
-      old place its its_claim at within (inl claimed) =
-          subst (λ (it : List Claim). MayClaim case it its its_claim)
-          (sym (take-append-le place claims (claim ∷ []) (omega (arith, slice_get_within claims place its_claim claimed))))
-          (are.each place its its_claim at claimed)
-      old place its its_claim at within (inr (last, is)) = absurd (omega (arith, within, last, are.as_many))
-
-      own : (place : ℕ) (its : Line) (its_claim : Claim) → place ≡ length lines → line ≡ its
-          → (slice_get claims place ≡ Some its_claim) ⊎ ((place ≡ length claims) × (claim ≡ its_claim))
-          → MayClaim case (take place (claims ++ claim ∷ [])) its its_claim
-      own place its its_claim last is (inl claimed) = absurd (omega (arith, last, slice_get_within claims place its_claim claimed, are.as_many))
-      own place its its_claim last is (inr (end, claim_is)) =
-          subst (λ (it : List Claim). MayClaim case it its its_claim)
-          (sym (take-append-le place claims (claim ∷ []) (omega (arith, end)) ∙ take_all place claims (omega (arith, end))))
-          (subst (λ (it : Line). MayClaim case claims it its_claim) is (subst (MayClaim case claims line) claim_is may))
 
 pub of_entries_more : (case : Case) (entries : List Entry) (places : List ℕ) (lines : List Line) (claims : List Claim)
     → AreOfEntries case entries places lines claims → (next : ℕ) → ((place : ℕ) → Contains places place → place < next) → (line : Line) (claim : Claim)

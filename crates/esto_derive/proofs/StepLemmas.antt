@@ -21,31 +21,10 @@ use Rattle.esto_cert.specs.Certificates.{numbered, fact_of, equality_of, facts_a
 use Rattle.esto_cert.specs.Lines.{with_item}
 use Rattle.esto_cert.specs.Linking.{IsAmong}
 use Rattle.esto_cert.specs.declared.linking.Equality.{Equality}
+use Rattle.esto_cert.proofs.LinkLemmas.{Linked-through, Linked-said}
+use Rattle.esto_cert.proofs.NumberLemmas.{numbered_next}
 use Rattle.esto_derive.specs.Printing.{Fit}
 use Rattle.esto_derive.specs.Writing.{AtLines, AreEqualities, StandFor, own_lines, lines_at, AddsNew}
-
--- ---- numbers from 1
-
-pub numbered_next : {A : Type 0} (items : List A) (place : ℕ) → numbered items (place + 1) ≡ slice_get items place
-numbered_next items place =
-    ap (λ (it : Bool). cond it None (slice_get items (place + 1 - 1))) some ∙ ap (slice_get items) minus
-  where
-    some : (place + 1 == 0) ≡ false
-    some = grind (arith, nat_tests)
-
-    minus : place + 1 - 1 ≡ place
-    minus = omega arith
-
--- ---- links
-
--- links by links
-pub Linked-through : {P Q : Claim → Type 0} → ((s t : Term) → P (Same s t) → Linked Q s t) → (s t : Term) → Linked P s t → Linked Q s t
-Linked-through through s t here = here
-Linked-through through s t (along holds linked) = Linked-then _ _ _ (through _ _ holds) (Linked-through through _ _ linked)
-Linked-through through s t (back holds linked) = Linked-then _ _ _ (Linked-back _ _ (through _ _ holds)) (Linked-through through _ _ linked)
-
-pub Linked-said : {P Q : Claim → Type 0} → ((s t : Term) → P (Same s t) → Q (Same s t)) → (s t : Term) → Linked P s t → Linked Q s t
-Linked-said said = Linked-through (λ s t holds. one_link s t (said s t holds))
 
 -- ---- equalities by their lines
 

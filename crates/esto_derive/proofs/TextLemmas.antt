@@ -15,59 +15,22 @@ use Rattle.esto_list.specs.Text.{each_from, comma_before, numbers_text}
 use Rattle.esto_cert.specs.Lines.{number_after, number_of, numbers_of, list_of, links_of, is_word, with_item, line_of_words, expanded_of, step_of, match_of}
 use Rattle.esto_cert.specs.declared.line.Line.{Line}
 use Rattle.esto_cert.specs.declared.line.Line.TheVariants.{Expanded, Step, Match}
+use Rattle.esto_cert.proofs.WordLemmas.{one_more, digit_more, read_whole, IsDigit, IsOfList, no_byte, no_minus, words, last_word, two_words, above, spaced}
 use Rattle.esto_derive.specs.Printing.{after_commas, list_text, line_text, Fit, IsReadable, LinesAreReadBack}
 
 -- ---- numbers
 
-one_more : (value digit : ℕ) → digit < 10 → value * 10 + digit ≤ greatest_u64 → number_after value ((48 + digit) ∷ []) ≡ Some (value * 10 + digit)
-one_more value digit is fits =
-    ap (λ (it : Bool). if it then Some (value * 10 + ((48 + digit) - 48)) else None) test ∙ ap (λ (it : ℕ). Some (value * 10 + it)) minus
-  where
-    minus : (48 + digit) - 48 ≡ digit
-    minus = omega arith
-
-    test : (nat_le 48 (48 + digit) && (nat_le (48 + digit) 57 && nat_le (value * 10 + ((48 + digit) - 48)) greatest_u64)) ≡ true
-    test = grind (arith, nat_tests)
-
--- one digit more at the end
-digit_more : (digits : List ℕ) (value number digit : ℕ) → number_after value digits ≡ Some number → digit < 10 → number * 10 + digit ≤ greatest_u64
-    → number_after value (digits ++ (48 + digit) ∷ []) ≡ Some (number * 10 + digit)
-digit_more [] value number digit is small fits =
-    let same : value ≡ number = same_Some value number is in
-    ap (λ (it : ℕ). number_after it ((48 + digit) ∷ [])) same ∙ one_more number digit small fits
-digit_more (byte ∷ digits) value number digit is small fits =
-    by (nat_le 48 byte && (nat_le byte 57 && nat_le (value * 10 + (byte - 48)) greatest_u64)) is
-    (λ goes. digit_more digits (value * 10 + (byte - 48)) number digit goes small fits)
-  where
-    by : (test : Bool) → (if test then number_after (value * 10 + (byte - 48)) digits else None) ≡ Some number
-        → (number_after (value * 10 + (byte - 48)) digits ≡ Some number
-        → number_after (value * 10 + (byte - 48)) (digits ++ (48 + digit) ∷ []) ≡ Some (number * 10 + digit))
-        → (if test then number_after (value * 10 + (byte - 48)) (digits ++ (48 + digit) ∷ []) else None) ≡ Some (number * 10 + digit)
-    by true goes again = again goes
-    by false wrong again = cc
-
 digits_read : (number : ℕ) → number ≤ greatest_u64 → number_after 0 (decimal number) ≡ Some number
-digits_read number fits = decimal_by_steps (λ n digits. n ≤ greatest_u64 → number_after 0 digits ≡ Some n)
-    (λ n small fits. one_more 0 n small (omega arith) ∙ ap (λ (it : ℕ). Some it) (none n))
-    (λ n digits large read fits.
-    digit_more digits 0 (n / 10) (n % 10) (read (omega (arith, fits))) (omega arith) (omega (arith, fits)) ∙ ap (λ (it : ℕ). Some it) (whole n))
-    number (omega (arith, fits)) fits
+digits_read number fits = decimal_by_steps (λ n digits. number_after 0 digits ≡ Some n)
+    (λ n small. one_more 0 n small ∙ ap (λ (it : ℕ). Some it) (none n))
+    (λ n digits large read. digit_more digits 0 (n / 10) (n % 10) read (omega arith) ∙ ap (λ (it : ℕ). Some it) (whole n))
+    number (omega (arith, fits))
   where
     whole : (n : ℕ) → n / 10 * 10 + n % 10 ≡ n
     whole n = omega arith
 
     none : (n : ℕ) → 0 * 10 + n ≡ n
     none n = omega arith
-
-read_whole : (digits : List ℕ) (number : ℕ) → 0 < length digits → (2 ≤ length digits → 48 < get_or digits 0 0) → number_after 0 digits ≡ Some number
-    → number_of digits ≡ Some number
-read_whole [] number some first is = absurd (omega (arith, some))
-read_whole (byte ∷ []) number some first is = is
-read_whole (byte ∷ second ∷ rest) number some first is = ap (λ (it : Bool). if it then None else number_after 0 (byte ∷ second ∷ rest)) (test (first
-    (omega arith))) ∙ is
-  where
-    test : 48 < byte → (byte == 48) ≡ false
-    test more = grind (arith, nat_tests)
 
 number_read : (number : ℕ) → number ≤ greatest_u64 → number_of (decimal number) ≡ Some number
 number_read number fits =
@@ -79,21 +42,10 @@ number_read number fits =
 
 -- ---- bytes
 
--- a digit
-abbrev IsDigit : ℕ → Type 0
-IsDigit byte = (48 ≤ byte) × (byte ≤ 57)
-
 are_digits : (number : ℕ) → number ≤ greatest_u64 → All IsDigit (decimal number)
 are_digits number fits = decimal_by_steps (λ n digits. All IsDigit digits) (λ n small. All-cons IsDigit (48 + n) [] (omega arith, omega arith)
     (All-nil IsDigit))
     (λ n digits large are. All-push IsDigit digits (48 + n % 10) are (omega arith, omega arith)) number (omega (arith, fits))
-
--- a digit, a comma or a minus
-abbrev IsOfList : ℕ → Type 0
-IsOfList byte = (44 ≤ byte) × (byte ≤ 57)
-
-no_byte : (byte : ℕ) → byte < 48 → (word : List ℕ) → All IsDigit word → All (λ other. (other == byte) ≡ false) word
-no_byte byte low = All-weaker IsDigit (λ other. (other == byte) ≡ false) (λ other (from, to). grind (arith, nat_tests))
 
 after-of_list : (numbers : List ℕ) → Fit numbers → All IsOfList (after_commas numbers)
 after-of_list [] fit = All-nil IsOfList
@@ -111,9 +63,6 @@ list-of_list (number ∷ numbers) fit =
     (All-weaker IsDigit IsOfList (λ byte (from, to). (omega (arith, from), to)) (decimal number) (are_digits number (fit number
     (Contains-head number numbers))))
     (after-of_list numbers (λ other inside. fit other (Contains-rest number numbers other inside)))
-
-no_space : (word : List ℕ) → All IsOfList word → All (λ byte. (byte == 32) ≡ false) word
-no_space = All-weaker IsOfList (λ byte. (byte == 32) ≡ false) (λ byte (from, to). grind (arith, nat_tests))
 
 of_digits : (number : ℕ) → number ≤ greatest_u64 → All IsOfList (decimal number)
 of_digits number fits = All-weaker IsDigit IsOfList (λ byte (from, to). (omega (arith, from), to)) (decimal number) (are_digits number fits)
@@ -138,14 +87,6 @@ list_read [] some fit = absurd (some refl)
 list_read (number ∷ numbers) some fit =
     commas_read number numbers (fit number (Contains-head number numbers)) (λ other inside. fit other (Contains-rest number numbers other inside))
 
--- what begins with a digit is no minus
-no_minus : (digits rest : List ℕ) → 0 < length digits → All IsDigit digits → is_word (digits ++ rest) (codes "-") ≡ false
-no_minus [] rest some are = absurd (omega (arith, some))
-no_minus (byte ∷ digits) rest some are = ap (λ (it : Bool). it && pointwise nat_eq (digits ++ rest) []) (test (All-head IsDigit byte digits are).0)
-  where
-    test : 48 ≤ byte → nat_eq byte 45 ≡ false
-    test large = grind (arith, nat_tests)
-
 links_read : (numbers : List ℕ) → Fit numbers → links_of (list_text numbers) ≡ Some numbers
 links_read [] fit = refl
 links_read (number ∷ numbers) fit =
@@ -155,19 +96,6 @@ links_read (number ∷ numbers) fit =
     ∙ list_read (number ∷ numbers) (λ e. cc) fit
 
 -- ---- lines
-
-words : (word rest : List ℕ) → All IsOfList word → slice_split (λ byte. byte == 32) (word ++ (codes " " ++ rest))
-    ≡ word ∷ slice_split (λ byte. byte == 32) rest
-words word rest are = slice_split_at (λ byte. byte == 32) word 32 rest (no_space word are) refl
-
-last_word : (word : List ℕ) → All IsOfList word → slice_split (λ byte. byte == 32) word ≡ word ∷ []
-last_word word are = slice_split_none (λ byte. byte == 32) word (no_space word are)
-
-two_words : (verb first second : List ℕ) → All IsOfList first → All IsOfList second
-    → (λ (it : List (List ℕ)). line_of_words (verb ∷ it)) (slice_split (λ byte. byte == 32) (first ++ (codes " " ++ second)))
-    ≡ line_of_words (verb ∷ first ∷ second ∷ [])
-two_words verb first second are are_too =
-    ap (λ (it : List (List ℕ)). line_of_words (verb ∷ it)) (words first second are ∙ ap (λ (it : List (List ℕ)). first ∷ it) (last_word second are_too))
 
 pub read_back : LinesAreReadBack
 read_back (Expanded atom place) (fits, fits_too) =
@@ -207,13 +135,6 @@ lines_text [] some = absurd (some refl)
 lines_text (line ∷ lines) some = ap (λ (it : List ℕ). decimal (line + 1) ++ it) (commas_text 1 (omega arith) lines)
 
 -- ---- no line feed
-
-above : (word : List ℕ) → All IsOfList word → All (λ byte. 32 ≤ byte) word
-above = All-weaker IsOfList (λ byte. 32 ≤ byte) (λ byte (from, to). omega (arith, from))
-
-spaced : (word rest : List ℕ) → All IsOfList word → All (λ byte. 32 ≤ byte) rest → All (λ byte. 32 ≤ byte) (word ++ (codes " " ++ rest))
-spaced word rest are are_too = All-append (λ byte. 32 ≤ byte) word (codes " " ++ rest) (above word are) (All-cons (λ byte. 32 ≤ byte) 32 rest
-    (omega arith) are_too)
 
 printable : (line : Line) → IsReadable line → All (λ byte. 32 ≤ byte) (line_text line)
 printable (Expanded atom place) (fits, fits_too) =

@@ -35,7 +35,9 @@ use Rattle.esto_derive.specs.declared.writing.Written.{Written}
 use Rattle.esto_derive.proofs.NamingLemmas.{are_named}
 use Rattle.esto_derive.proofs.ReasonLemmas.{behind_equal, fact_has_line}
 use Rattle.esto_derive.proofs.StateLemmas.{line_more, state_push}
-use Rattle.esto_derive.proofs.StepLemmas.{numbered_next, Linked-said, are_equalities, lines_link, matches, eqs, facts_fit, links_fit, facts_some}
+use Rattle.esto_cert.proofs.LinkLemmas.{Linked-said}
+use Rattle.esto_cert.proofs.NumberLemmas.{numbered_next}
+use Rattle.esto_derive.proofs.StepLemmas.{are_equalities, lines_link, matches, eqs, facts_fit, links_fit, facts_some}
 
 -- ---- what a step names
 

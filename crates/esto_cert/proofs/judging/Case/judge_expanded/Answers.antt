@@ -7,7 +7,7 @@ use Rattle.esto_cert.proofs.judging.Case.judge_expanded.Goals as goal
 
 pub is_named-requires : goal.is_named-requires
 is_named-requires c =
-    c.requires c.fact-item.result (Contains-read c.args.self.now.expanded.now c.facts.fact-index c.fact-item.result c.facts-test.true c.fact-item.is)
+    (c.requires c.fact-item.result (Contains-read c.args.self.now.expanded.now c.facts.fact-index c.fact-item.result c.facts-test.true c.fact-item.is)).0
 
 pub facts-init : goal.facts-init
 facts-init c = λ fact inside named. absurd (Contains-nil fact inside)
