@@ -23,6 +23,7 @@ use Rattle.esto_opening.specs.declared.reply.Reply.TheVariants.{Done}
 use Rattle.esto_opening.specs.declared.status.Status.{Status}
 use Rattle.esto_opening.specs.declared.status.Status.TheVariants as status
 use Rattle.esto_planning.specs.Choice.{HasNoPlace, IsPlace}
+use Rattle.esto_planning.specs.Laws.{HoldsOfPlans}
 use Rattle.esto_planning.specs.Listing.{IsClash, IsListOf, IsPlanned}
 use Rattle.esto_certify.specs.Explain.{explain_course}
 use Rattle.esto_certify.specs.Verify.{first_above, HasVerdict, IsSetOf, verify_course}
@@ -56,6 +57,18 @@ pub record Certifies (catalogue : Catalogue) (query : Query) (plan : Plan) (set 
   pub accepted : HasVerdict catalogue query plan set bytes None
   pub contained : IsSafelyContained (rules_of catalogue.rules) (views_of catalogue.fragments) (query_of query) (plan_query plan) set
   pub derived : HoldsDerivationsFor plan catalogue.fragments set catalogue.rules query bytes
+
+-- Over each printed plan of a query, a set of its atoms that is safe, and whose candidate is contained in the query, has a certificate that is accepted, whether
+-- it is listed or not.
+abbrev pub ContainedSetsHaveOne : Type 0
+ContainedSetsHaveOne = HoldsOfPlans (λ catalogue query plan. (set : List Bool)
+    → IsSafelyContained (rules_of catalogue.rules) (views_of catalogue.fragments) (query_of query) (plan_query plan) set
+    → (bytes : List ℕ) × HasVerdict catalogue query plan set bytes None)
+
+-- So has the set of each item of the query's list.
+abbrev pub ListedSetsHaveOne : Type 0
+ListedSetsHaveOne = HoldsOfPlans (λ catalogue query plan. (items : List Listed) (place : ℕ) (item : Listed) → IsListOf catalogue query plan items
+    → slice_get items place ≡ Some item → (bytes : List ℕ) × HasVerdict catalogue query plan item.set bytes None)
 
 -- ---- what `verify` says
 

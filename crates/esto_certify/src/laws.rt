@@ -1,12 +1,19 @@
 //! Laws of the commands on certificates.
+ghost use Rattle.esto_certify.specs.Laws.{ContainedSetsHaveOne, ListedSetsHaveOne};
 ghost use Rattle.esto_certify.specs.Laws.{ExplainHasOneStatus, ExplainSaysCertificates, VerifyChecksCertificates, VerifyIsOne, VerifySaysVerdicts};
 
+use esto_catalog::catalogues_are_sound;
 use esto_cert::{
-    accepted_certificates_derive, accepted_certificates_show, verdicts_are_moved, verdicts_are_one,
+    accepted_certificates_derive, accepted_certificates_show, contained_sets_have_certificates,
+    verdicts_are_moved, verdicts_are_one,
 };
+use esto_constraint::ranks_rise;
 use esto_opening::openings_are_one;
-use esto_planning::{chosen_items_are_listed, plans_and_lists_are_moved, plans_and_lists_are_one};
-use esto_semantics::sets_are_ordered;
+use esto_planning::{
+    chosen_items_are_listed, planned_plans_are_universal, planned_plans_have_their_form,
+    plans_and_lists_are_moved, plans_and_lists_are_one,
+};
+use esto_semantics::{candidates_contain_the_query, sets_are_ordered};
 
 /// A law: over the same files `verify` has one reply or one refusal, where no fetch is at a fault.
 pub fn verify_outcomes_are_one()
@@ -66,4 +73,19 @@ pub fn explain_says_certificates()
     verdicts_are_moved();
     accepted_certificates_show();
     accepted_certificates_derive();
+}
+
+/// A law: over each printed plan of a query, a set of its atoms that is safe, and whose candidate is contained in the query,
+/// has a certificate that is accepted; so has each set of the query's list.
+pub fn sets_have_certificates()
+    ensures contained { ContainedSetsHaveOne }
+    ensures listed { ListedSetsHaveOne }
+{
+    contained_sets_have_certificates();
+    catalogues_are_sound();
+    ranks_rise();
+    planned_plans_have_their_form();
+    planned_plans_are_universal();
+    candidates_contain_the_query();
+    chosen_items_are_listed();
 }

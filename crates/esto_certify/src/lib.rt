@@ -8,7 +8,7 @@ mod verifying;
 
 pub use explaining::explain;
 pub use laws::{
-    explain_has_one_status, explain_says_certificates, verify_checks_certificates,
-    verify_outcomes_are_one, verify_says_verdicts,
+    explain_has_one_status, explain_says_certificates, sets_have_certificates,
+    verify_checks_certificates, verify_outcomes_are_one, verify_says_verdicts,
 };
 pub use verifying::{CERTIFICATE_LIMIT, verify};
