@@ -1,7 +1,8 @@
--- The course of `explain` comes to an end where the set of the number has a certificate.
+-- The course of `explain` comes to an end: the set of the number has a certificate.
 use Rattle.std.proofs.Common.{◌≡◌, ℕ, List, None, Some, slice_get}
 use Rattle.esto_catalog.specs.declared.catalogue.Catalogue.{Catalogue}
 use Rattle.esto_certify.specs.Explain.{certifies_item, explain_course, explains_plan, explains_query, explains_read}
+use Rattle.esto_certify.specs.Laws.{ListedSetsHaveOne}
 use Rattle.esto_certify.specs.Verify.{HasVerdict}
 use Rattle.esto_course.specs.Course.{Course, and_then, gives, judges}
 use Rattle.esto_list.specs.declared.listing.Listed.{Listed}
@@ -18,13 +19,11 @@ use Rattle.esto_term.proofs.ListLemmas.{thing_at}
 use Rattle.esto_views.specs.declared.plan.Plan.{Plan}
 use Rattle.esto_outcome_laws.specs.Ends.{Ends, EndsOrLacks}
 use Rattle.esto_outcome_laws.specs.Laws.{BelowLaws, ReadingLaws}
-use Rattle.esto_outcome_laws.specs.Steps.{FilesHaveCertificate, HasCertificate}
 use Rattle.esto_outcome_laws.proofs.CourseLemmas.{ends_judged, ends_then, gives_ends, judges_accepted, judges_accepts}
 use Rattle.esto_outcome_laws.proofs.OpeningLemmas.{catalogue_opens, query_opens}
 use Rattle.esto_outcome_laws.proofs.RunLemmas.{chooses_ends, items_exist, plan_of, plans_ends}
 
-module _ (laws : BelowLaws) (place_is : PlaceIsWithin) (catalogue : Catalogue) (query : Query) (number : ℕ)
-    (has : HasCertificate catalogue query number) where
+module _ (laws : BelowLaws) (place_is : PlaceIsWithin) (have : ListedSetsHaveOne) (catalogue : Catalogue) (query : Query) (number : ℕ) where
   plan_ends : {lack : Type 0} (plan : Plan) → IsPlanned catalogue query plan → Ends lack (explains_plan catalogue query number plan)
   plan_ends plan planned =
       ends_judged (IsListOf catalogue query plan) (λ _. ⊥) (λ items. and_then (chooses items (Some number)) (after items))
@@ -33,7 +32,7 @@ module _ (laws : BelowLaws) (place_is : PlaceIsWithin) (catalogue : Catalogue) (
       ends_judged (λ item. slice_get items place ≡ Some item) (λ _. ⊥) (certifies_item catalogue query plan)
       (thing_at items place (place_is items (Some number) place (placed items place goes)))
       (λ item at.
-      let text = has plan items place item planned list (placed items place goes) at in
+      let text = have catalogue query plan planned items place item list at in
       judges_accepts (λ it. HasVerdict catalogue query plan item.set it None) (λ _. ⊥) text.0 text.1)))
     where
       after : List Listed → ℕ → Course Status (List ℕ)
@@ -47,12 +46,12 @@ module _ (laws : BelowLaws) (place_is : PlaceIsWithin) (catalogue : Catalogue) (
       ends_then (plans_query catalogue query) (λ plan. explains_plan catalogue query number plan) (plans_ends laws catalogue query)
       (λ plan goes. plan_ends plan (plan_of laws catalogue query plan goes))
 
-pub explain_ends : ReadingLaws → BelowLaws → PlaceIsWithin → (files : Files) (catalogue_name query_name : List ℕ) (number : ℕ)
-    → FilesHaveCertificate files catalogue_name query_name number → EndsOrLacks (explain_course (Some files) catalogue_name query_name number)
-explain_ends readings laws place_is files catalogue_name query_name number has =
+pub explain_ends : ReadingLaws → BelowLaws → PlaceIsWithin → ListedSetsHaveOne → (files : Files) (catalogue_name query_name : List ℕ) (number : ℕ)
+    → EndsOrLacks (explain_course (Some files) catalogue_name query_name number)
+explain_ends readings laws place_is have files catalogue_name query_name number =
     ends_then (opens_catalogue (Some files) catalogue_name) (explains_read (Some files) query_name number) (catalogue_opens readings files catalogue_name)
     (λ catalogue says.
     ends_then (opens_query (Some files) query_name catalogue) (λ query. and_then (explains_query number catalogue query) (λ text. gives (Done text)))
     (query_opens readings files query_name catalogue) (λ query says_query.
     ends_then (explains_query number catalogue query) (λ text. gives (Done text))
-    (query_ends laws place_is catalogue query number (has catalogue query says says_query)) (λ text _. gives_ends (Done text))))
+    (query_ends laws place_is have catalogue query number) (λ text _. gives_ends (Done text))))

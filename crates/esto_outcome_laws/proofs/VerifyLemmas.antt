@@ -1,11 +1,11 @@
 -- A certificate for a set of a plan's atoms is verified.
-use Rattle.std.proofs.Common.{◌≡◌, inl, inr, ℕ, zero, suc, ◌+◌, ◌<◌, ◌≤◌, Bool, true, false, List, [], ◌∷◌, ◌++◌, map, length, Some, None, Option}
-use Rattle.std.proofs.Common.{Contains, nat_lt, refl, ap, subst, arith}
-use Rattle.std.specs.List.{range_with_len}
+use Rattle.std.proofs.Common.{◌≡◌, inl, inr, ℕ, zero, suc, ◌+◌, ◌<◌, ◌≤◌, Bool, true, false, List, [], ◌∷◌, length, Some, None, Option}
+use Rattle.std.proofs.Common.{Contains, nat_lt, refl, ap, arith}
 use Rattle.std.specs.Prelude.{codes, if◌then◌else◌}
 use Rattle.std.proofs.lemmas.Bool.Decides.{nat_tests}
 use Rattle.std.proofs.lemmas.Bool.{cases_eq}
 use Rattle.esto_catalog.specs.declared.catalogue.Catalogue.{Catalogue}
+use Rattle.esto_cert.proofs.ExpansionLemmas.{expanded_exists}
 use Rattle.esto_cert.specs.Judging.{DecidesFor, case_for}
 use Rattle.esto_certify.specs.Verify.{HasVerdict, IsAbove, IsSetOf, first_above, judges_certificate, names_set, verifies_query, verifies_set}
 use Rattle.esto_certify.specs.declared.verifying.TheConstants.{CERTIFICATE_LIMIT}
@@ -17,79 +17,21 @@ use Rattle.esto_opening.specs.declared.status.Status.TheVariants.{NoSuchNumber, 
 use Rattle.esto_planning.specs.Listing.{IsPlanned}
 use Rattle.esto_planning.specs.Planning.{plans_query}
 use Rattle.esto_ports.specs.Files.{Files}
-use Rattle.esto_query.specs.Making.{query_of}
-use Rattle.esto_query.specs.Soundness.{IsSound}
 use Rattle.esto_query.specs.declared.query.Query.{Query}
-use Rattle.esto_semantics.proofs.TermLemmas.{decided_term}
 use Rattle.esto_term.proofs.DistinctLemmas.{decided_contains}
-use Rattle.esto_semantics.specs.Expansions.{IsInner}
-use Rattle.esto_semantics.specs.Facts.{image, terms_of}
-use Rattle.esto_semantics.specs.Queries.{ConjunctiveQuery}
 use Rattle.esto_semantics.specs.Sets.{Has}
-use Rattle.esto_chase_laws.proofs.MakingLemmas.{terms_of-Mentions}
 use Rattle.esto_term.proofs.ChoiceLemmas.{Decided}
-use Rattle.esto_term.proofs.ListLemmas.{Contains-cases, Contains-head, Contains-nil, Contains-rest}
-use Rattle.esto_term.specs.declared.term.Term.{Term}
-use Rattle.esto_term.specs.declared.term.Term.TheVariants.{Plain}
+use Rattle.esto_term.proofs.ListLemmas.{Contains-cases, Contains-nil}
 use Rattle.esto_views.proofs.ExpandedLemmas.{plan_expands}
 use Rattle.esto_views.proofs.FlatLemmas.{expanded-flat}
-use Rattle.esto_views.proofs.InnerLemmas.{AreInnerBelow, inner-from_parts, inner_all, inner_none, inner_skips, inner_takes}
-use Rattle.esto_query.proofs.SubstitutionLemmas.{spread_is}
-use Rattle.esto_views.specs.Expanded.{AreExpanded, placed}
-use Rattle.esto_views.specs.Fragments.{IsFragment}
-use Rattle.esto_views.specs.Plans.{IsAtomOver, IsPlanOver}
-use Rattle.esto_query.specs.Spreads.{IsSpread, substituted}
-use Rattle.esto_query.specs.declared.expanded.ExpandedFact.{ExpandedFact}
+use Rattle.esto_views.specs.Plans.{IsPlanOver}
 use Rattle.esto_views.specs.declared.fragments.FragmentDef.{FragmentDef}
 use Rattle.esto_views.specs.declared.plan.Plan.{Plan}
-use Rattle.esto_views.specs.declared.plan.PlanAtom.{PlanAtom}
 use Rattle.esto_outcome_laws.specs.Ends.{Ends, EndsOrLacks}
 use Rattle.esto_outcome_laws.specs.Laws.{BelowLaws, KeptLaws}
-use Rattle.esto_outcome_laws.proofs.AnswerLemmas.{mentioned}
 use Rattle.esto_outcome_laws.proofs.CourseLemmas.{ends_then, fetches_ends, judges_accepts, judges_refuses}
 use Rattle.esto_outcome_laws.proofs.RunLemmas.{plan_of, plans_ends}
 use Rattle.esto_outcome_laws.proofs.VerdictLemmas.{decides}
-
--- ---- the expansion of a plan, atom by atom
-
-inner_decided : (view : ConjunctiveQuery) (number : ℕ) → Decided (IsInner view (Plain number))
-inner_decided view number = elim (decided_contains decided_term (terms_of view.body) (Plain number)) [
-  | inr outside ↦ inr (λ inner. outside (mentioned view.body (Plain number) inner.in_body))
-  | inl inside ↦ elim (decided_contains decided_term view.head (Plain number)) [
-    | inl in_head ↦ inr (λ inner. inner.not_in_head in_head)
-    | inr apart ↦ inl (inner-from_parts view number (terms_of-Mentions view.body (Plain number) inside) apart)
-  ]
-]
-
-inner_below : (view : ConjunctiveQuery) (bound : ℕ) → (numbers : List ℕ) × AreInnerBelow view bound numbers
-inner_below view zero = ([], inner_none view)
-inner_below view (suc bound) =
-    let before = inner_below view bound in
-    let same : bound + 1 ≡ suc bound = omega arith in elim (inner_decided view bound) [
-      | inl inner ↦ (before.0 ++ bound ∷ [], subst (λ it. AreInnerBelow view it (before.0 ++ bound ∷ [])) same (inner_takes view bound before.0 before.1 inner))
-      | inr outer ↦ (before.0, subst (λ it. AreInnerBelow view it before.0) same (inner_skips view bound before.0 before.1 outer))
-    ]
-
-module _ (queries : (query : Query) → IsSound query.head query.body query.names) (fragments : List FragmentDef) where
-  spread_exists : (fragment : FragmentDef) (terms : List Term) (first : ℕ) → IsFragment fragment → length terms ≡ length fragment.view.head
-      → (next : ℕ) × (m : Term → Term) × IsSpread (query_of fragment.view) terms first next m
-  spread_exists fragment terms first is lengths =
-      let view = query_of fragment.view in
-      let inner = inner_below view (length fragment.view.names) in
-      let are = inner_all view (length fragment.view.names) inner.0 inner.1 (queries fragment.view).named in (
-        first + length inner.0,
-        substituted (view.head ++ map Plain inner.0) (terms ++ map Plain (range_with_len first (length inner.0))),
-        spread_is view terms first (first + length inner.0) inner.0 are is.variables is.distinct lengths refl,
-      )
-
-  expanded_exists : (atoms : List PlanAtom) (number first : ℕ) → ((atom : PlanAtom) → Contains atoms atom → IsAtomOver atom fragments)
-      → (expanded : List ExpandedFact) × AreExpanded fragments number first atoms expanded
-  expanded_exists [] number first over = ([], refl)
-  expanded_exists (atom ∷ atoms) number first over =
-      let (fragment, at, is, lengths) = over atom (Contains-head atom atoms) in
-      let (next, m, spread) = spread_exists fragment atom.terms first is lengths in
-      let rest = expanded_exists atoms (number + 1) next (λ other inside. over other (Contains-rest atom atoms other inside)) in
-      (placed number 0 (map (image m) fragment.view.body) ++ rest.0, (fragment, at, (next, (m, spread, (rest.0, refl, rest.1)))))
 
 -- ---- the verdict
 

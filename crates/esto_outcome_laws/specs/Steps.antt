@@ -4,7 +4,7 @@ use Rattle.esto_bench.specs.Summary.{IsSummaryOfCase}
 use Rattle.esto_bench.specs.declared.summary.Summary.{Summary}
 use Rattle.esto_catalog.specs.declared.catalogue.Catalogue.{Catalogue}
 use Rattle.esto_certify.specs.Explain.{explain_course}
-use Rattle.esto_certify.specs.Verify.{HasVerdict, verify_course}
+use Rattle.esto_certify.specs.Verify.{verify_course}
 use Rattle.esto_data.specs.Answer.{answer_course}
 use Rattle.esto_data.specs.Audit.{audit_course}
 use Rattle.esto_data.specs.Fill.{make_course}
@@ -130,23 +130,10 @@ abbrev pub VerificationsEnd : Type 0
 VerificationsEnd =
     (files : Files) (catalogue_name query_name numbers file : List ℕ) → EndsOrLacks (verify_course (Some files) catalogue_name query_name numbers file)
 
--- The set that has the number in the list of a printed plan of the query has a certificate that is accepted; there may be none of the number.
-abbrev pub HasCertificate : Catalogue → Query → ℕ → Type 0
-HasCertificate catalogue query number =
-    (plan : Plan) (items : List Listed) (place : ℕ) (item : Listed) → IsPlanned catalogue query plan → IsListOf catalogue query plan items
-    → IsPlace items (Some number) place → slice_get items place ≡ Some item → (text : List ℕ) × HasVerdict catalogue query plan item.set text None
-
--- So it is of each query over each catalogue that the files of these names say.
-abbrev pub FilesHaveCertificate : Files → List ℕ → List ℕ → ℕ → Type 0
-FilesHaveCertificate files catalogue_name query_name number =
-    (catalogue : Catalogue) (query : Query) → (opens_catalogue (Some files) catalogue_name).goes catalogue
-    → (opens_query (Some files) query_name catalogue).goes query → HasCertificate catalogue query number
-
--- So does `explain`, where the set of the number has a certificate. That each has one is not said: the lines of a certificate are numbered within 64 bits.
+-- So does `explain`: each set that has a number has a certificate that is accepted.
 abbrev pub ExplanationsEnd : Type 0
 ExplanationsEnd =
-    (files : Files) (catalogue_name query_name : List ℕ) (number : ℕ) → FilesHaveCertificate files catalogue_name query_name number
-    → EndsOrLacks (explain_course (Some files) catalogue_name query_name number)
+    (files : Files) (catalogue_name query_name : List ℕ) (number : ℕ) → EndsOrLacks (explain_course (Some files) catalogue_name query_name number)
 
 -- The made case of each size above 0 has a summary.
 abbrev pub CasesHaveSummaries : Type 0

@@ -5,6 +5,7 @@ ghost use Rattle.esto_outcome_laws.specs.Steps.{QueriesHaveEnds, QueriesOpen, Se
 ghost use Rattle.esto_outcome_laws.specs.Steps.{UnionsAreRun, UnionsOpen, VerificationsEnd};
 
 use crate::below::{bench_laws_hold, laws_below_hold, reading_laws_hold, reasoning_laws_hold};
+use esto_certify::sets_have_certificates;
 use esto_chase_laws::rules_are_decided;
 use esto_planning::chosen_items_are_listed;
 use esto_semantics::databases_stand_for_facts;
@@ -57,8 +58,8 @@ pub fn unions_are_listed_and_run()
     laws_below_hold();
 }
 
-/// A law: over whatever files, `answer`, `fill`, `audit`, `contains`, `minimise` and `verify` come to an end, or ask for a file
-/// that is not there. So does `explain` where the set of the number, if one has it, has a certificate that is accepted.
+/// A law: over whatever files, `answer`, `fill`, `audit`, `contains`, `minimise`, `explain` and `verify` come to an end, or ask
+/// for a file that is not there.
 pub fn commands_come_to_an_end()
     ensures answer { AnswersEnd }
     ensures fill { FillsEnd }
@@ -72,6 +73,7 @@ pub fn commands_come_to_an_end()
     laws_below_hold();
     reasoning_laws_hold();
     chosen_items_are_listed();
+    sets_have_certificates();
     rules_are_decided();
     databases_stand_for_facts();
 }

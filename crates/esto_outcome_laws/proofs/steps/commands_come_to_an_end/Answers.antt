@@ -28,5 +28,6 @@ returns-clause-verify c = λ files catalogue_name query_name numbers file.
     verify_ends c.reading_laws_hold.ensures c.laws_below_hold.ensures files catalogue_name query_name numbers file
 
 pub returns-clause-explain : goal.returns-clause-explain
-returns-clause-explain c = λ files catalogue_name query_name number has.
-    explain_ends c.reading_laws_hold.ensures c.laws_below_hold.ensures c.chosen_items_are_listed.ensures.place files catalogue_name query_name number has
+returns-clause-explain c = λ files catalogue_name query_name number.
+    explain_ends c.reading_laws_hold.ensures c.laws_below_hold.ensures c.chosen_items_are_listed.ensures.place c.sets_have_certificates.ensures.listed files
+    catalogue_name query_name number
