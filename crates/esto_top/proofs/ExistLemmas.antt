@@ -38,7 +38,7 @@ use Rattle.esto_outcome_laws.proofs.CourseLemmas.{ends_by, ends_judged, ends_mor
 use Rattle.esto_outcome_laws.proofs.CourseLemmas.{judges_goes, refuses_ends}
 use Rattle.esto_top.specs.Bench.{bench_course}
 use Rattle.esto_top.specs.Check.{check_course, check_text, prints_check}
-use Rattle.esto_top.specs.Existing.{HasOutcome, IsCovered, LacksFile, OutcomesExist}
+use Rattle.esto_top.specs.Existing.{HasOutcome, LacksFile, OutcomesExist}
 use Rattle.esto_top.specs.Grammar.{Request, atom_numbers, course_of, course_of_asked, is_list_number, is_made_size, is_word, names_atoms, request_of}
 use Rattle.esto_top.specs.Grammar.{request_of_one, request_of_three, request_of_two, verifies_named}
 use Rattle.esto_top.specs.Grammar.Request.{AnswerFor, AuditOf, BenchOf, CheckOf, ContainsFor, ExplainFor, FillFor, ListFor, MinimiseFor, RunFor, VerifyFor}
@@ -221,19 +221,19 @@ module _ (laws : StepLaws) where
             ends_by (names_atoms atoms) (λ numbers. verify_course (Some files) catalogue_name query_name numbers file) numbers
             (judges_goes Accepts Refuses numbers is) (laws.verify files catalogue_name query_name numbers file)
 
-    asked_ends : (request : Option Request) → IsCovered files request → IsSized request → EndsOrLacks (course_of_asked (Some files) request)
-    asked_ends None covered sized = refuses_ends Usage (record { cause = tt })
-    asked_ends (Some (CheckOf catalogue)) covered sized = checks_end catalogue
-    asked_ends (Some (ListFor catalogue query)) covered sized = lists_end catalogue query
-    asked_ends (Some (RunFor catalogue query number)) covered sized = all_runs_end catalogue query number
-    asked_ends (Some (AnswerFor catalogue query)) covered sized = laws.answer files catalogue query
-    asked_ends (Some (AuditOf catalogue)) covered sized = laws.audit files catalogue
-    asked_ends (Some (ContainsFor catalogue left right)) covered sized = laws.contains files catalogue left right
-    asked_ends (Some (MinimiseFor catalogue query)) covered sized = laws.minimise files catalogue query
-    asked_ends (Some (BenchOf size)) covered sized = benches_end size sized
-    asked_ends (Some (FillFor catalogue fragment)) covered sized = laws.fill files catalogue fragment
-    asked_ends (Some (ExplainFor catalogue query number)) covered sized = laws.explain files catalogue query number covered
-    asked_ends (Some (VerifyFor catalogue query atoms file)) covered sized = named_ends catalogue query atoms file
+    asked_ends : (request : Option Request) → IsSized request → EndsOrLacks (course_of_asked (Some files) request)
+    asked_ends None sized = refuses_ends Usage (record { cause = tt })
+    asked_ends (Some (CheckOf catalogue)) sized = checks_end catalogue
+    asked_ends (Some (ListFor catalogue query)) sized = lists_end catalogue query
+    asked_ends (Some (RunFor catalogue query number)) sized = all_runs_end catalogue query number
+    asked_ends (Some (AnswerFor catalogue query)) sized = laws.answer files catalogue query
+    asked_ends (Some (AuditOf catalogue)) sized = laws.audit files catalogue
+    asked_ends (Some (ContainsFor catalogue left right)) sized = laws.contains files catalogue left right
+    asked_ends (Some (MinimiseFor catalogue query)) sized = laws.minimise files catalogue query
+    asked_ends (Some (BenchOf size)) sized = benches_end size sized
+    asked_ends (Some (FillFor catalogue fragment)) sized = laws.fill files catalogue fragment
+    asked_ends (Some (ExplainFor catalogue query number)) sized = laws.explain files catalogue query number
+    asked_ends (Some (VerifyFor catalogue query atoms file)) sized = named_ends catalogue query atoms file
 
 pub outcomes_exist : StepLaws → OutcomesExist
-outcomes_exist laws words files covered = outcome_or_lack words files (asked_ends laws files (request_of words) covered (words_sized words))
+outcomes_exist laws words files = outcome_or_lack words files (asked_ends laws files (request_of words) (words_sized words))

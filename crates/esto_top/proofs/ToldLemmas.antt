@@ -271,17 +271,17 @@ outcomes_lack_none one words files outcome (names, lacks) =
     absurd (cc)
 
 pub fetches_exist : OutcomesExist → FetchesExist
-fetches_exist exist words files covered = elim (exist words files covered) [
+fetches_exist exist words files = elim (exist words files) [
   | inl outcome ↦ let had = outcomes_have_files words files outcome in (had.0, had.1)
   | inr lacks ↦ (lacks.0, to_lack lacks.1)
 ]
 
 pub outcomes_where_files_are : OutcomesExist → FetchesAreDetermined → OutcomesAreWhereFilesAre
-outcomes_where_files_are exist one words files covered = (
+outcomes_where_files_are exist one words files = (
   (λ outcome names fetches.
       let had = outcomes_have_files words files outcome in
       subst (AreAmong files) (one words files had.0 names had.1 fetches) had.2),
-  (λ among. elim (exist words files covered) [
+  (λ among. elim (exist words files) [
     | inl outcome ↦ outcome
     | inr lacks ↦
         let lack = (asked_told files (request_of words)).at_lack lacks.0 lacks.1 in
@@ -295,7 +295,7 @@ outcomes_where_files_are exist one words files covered = (
 pub answered : OutcomesAreWhereFilesAre → (words : List (List ℕ)) (files : Option Files) (rose sink_rose : Type 0) (old new : Option (List ℕ)) (result : Status)
     → CompleteWhereTold words files rose sink_rose old new result → AnsweredWhereTold words files rose sink_rose old new result
 answered where_files words None rose sink_rose old new result complete = tt
-answered where_files words (Some files) rose sink_rose old new result complete = λ calm sink_calm covered have. elim (complete calm sink_calm) [
+answered where_files words (Some files) rose sink_rose old new result complete = λ calm sink_calm have. elim (complete calm sink_calm) [
   | inl whole ↦ (result, whole.0, whole.1, inl (refl, whole.2))
-  | inr wanting ↦ let (said, text, is) = (where_files words files covered).1 have in (said, text, is, inr wanting)
+  | inr wanting ↦ let (said, text, is) = (where_files words files).1 have in (said, text, is, inr wanting)
 ]

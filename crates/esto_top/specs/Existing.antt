@@ -8,9 +8,7 @@ use Rattle.esto_ports.specs.Files.{Files}
 use Rattle.esto_opening.specs.Asked.{Fetches}
 use Rattle.esto_opening.specs.declared.status.Status.{Status}
 use Rattle.esto_opening.specs.declared.status.Status.TheVariants as status
-use Rattle.esto_outcome_laws.specs.Steps.{FilesHaveCertificate}
-use Rattle.esto_top.specs.Grammar.{Request, course_of, request_of}
-use Rattle.esto_top.specs.Grammar.Request.{ExplainFor}
+use Rattle.esto_top.specs.Grammar.{course_of}
 use Rattle.esto_top.specs.Outcome.{Outcome}
 
 -- The words over the files have an outcome.
@@ -29,26 +27,15 @@ AreAmong files names = (name : List ℕ) → Contains names name → (file : Lis
 abbrev pub HaveFetched : List (List ℕ) → Files → Type 0
 HaveFetched words files = (names : Names) → Fetches (course_of words (Some files)) names → AreAmong files names
 
--- Where a certificate is asked for, the set that has the number, of the query that the files say, has one that is accepted; no set need have the number.
-abbrev pub IsCovered : Files → Option Request → Type 0
-IsCovered files (Some (ExplainFor catalogue query number)) = FilesHaveCertificate files catalogue query number
-IsCovered files _ = Unit {0}
-
--- So it is of what the words ask for; of most words nothing is asked.
-abbrev pub AreCovered : List (List ℕ) → Files → Type 0
-AreCovered words files = IsCovered files (request_of words)
-
 -- ---- laws
 
--- Whatever the words are, they have an outcome over whatever files, or they ask for a file that is not there; where they ask for a certificate, if the set
--- of the number has one that is accepted.
+-- Whatever the words are, they have an outcome over whatever files, or they ask for a file that is not there.
 abbrev pub OutcomesExist : Type 0
-OutcomesExist = (words : List (List ℕ)) (files : Files) → AreCovered words files → HasOutcome words files ⊎ LacksFile words files
+OutcomesExist = (words : List (List ℕ)) (files : Files) → HasOutcome words files ⊎ LacksFile words files
 
--- Whatever the words are, they fetch some sequence of names over whatever files; where they ask for a certificate, if the set of the number has one that is
--- accepted.
+-- Whatever the words are, they fetch some sequence of names over whatever files.
 abbrev pub FetchesExist : Type 0
-FetchesExist = (words : List (List ℕ)) (files : Files) → AreCovered words files → (names : Names) × Fetches (course_of words (Some files)) names
+FetchesExist = (words : List (List ℕ)) (files : Files) → (names : Names) × Fetches (course_of words (Some files)) names
 
 -- Whatever the words are, where they have an outcome over the files, they fetch a sequence of names, each of which is of one of the files.
 abbrev pub OutcomesHaveFiles : Type 0
@@ -60,10 +47,9 @@ OutcomesHaveFiles =
 abbrev pub OutcomesLackNone : Type 0
 OutcomesLackNone = (words : List (List ℕ)) (files : Files) → HasOutcome words files → LacksFile words files → ⊥
 
--- Whatever the words are, they have an outcome exactly where each file that they fetch is there; where they ask for a certificate, if the set of the number
--- has one that is accepted.
+-- Whatever the words are, they have an outcome exactly where each file that they fetch is there.
 abbrev pub OutcomesAreWhereFilesAre : Type 0
-OutcomesAreWhereFilesAre = (words : List (List ℕ)) (files : Files) → AreCovered words files → HasOutcome words files ↔ HaveFetched words files
+OutcomesAreWhereFilesAre = (words : List (List ℕ)) (files : Files) → HasOutcome words files ↔ HaveFetched words files
 
 -- ---- what the top call says
 
@@ -74,8 +60,8 @@ IsTheOutcome words files old new result =
     × (((result ≡ said) × Appends old new text) ⊎ ((result ≡ status.OutOfMemory) × Keeps old new))
 
 -- Where the shelf tells its files, each that the words fetch is there, and neither count rose, there is an outcome, and it is what was answered, or memory was
--- refused; where the words ask for a certificate, if the set of the number has one that is accepted.
+-- refused.
 abbrev pub AnsweredWhereTold : List (List ℕ) → Option Files → Type 0 → Type 0 → Option (List ℕ) → Option (List ℕ) → Status → Type 0
 AnsweredWhereTold words None rose sink_rose old new result = Unit {0}
 AnsweredWhereTold words (Some files) rose sink_rose old new result =
-    ¬ rose → ¬ sink_rose → AreCovered words files → HaveFetched words files → IsTheOutcome words files old new result
+    ¬ rose → ¬ sink_rose → HaveFetched words files → IsTheOutcome words files old new result

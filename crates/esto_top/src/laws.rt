@@ -163,8 +163,7 @@ fn steps_hold()
 }
 
 /// A law: whatever the words are, also those outside the grammar, they have an outcome over whatever files, or they ask
-/// for a file that is not there. Of `explain` this is said where the set of the number, if one has it, has a certificate
-/// that is accepted.
+/// for a file that is not there.
 pub fn outcomes_exist()
     ensures { OutcomesExist }
 {
@@ -173,8 +172,7 @@ pub fn outcomes_exist()
 
 /// A law: whatever the words are, they fetch a sequence of names. Each file that they fetch is there where they have an
 /// outcome, so that they have none where they ask for a file that is not there. They have one exactly where each is
-/// there. Of `explain` the first and the last are said where the set of the number, if one has it, has a certificate that
-/// is accepted.
+/// there.
 pub fn outcomes_are_where_files_are()
     ensures fetches { FetchesExist }
     ensures files { OutcomesHaveFiles }

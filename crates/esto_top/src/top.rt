@@ -76,8 +76,7 @@ pub fn mediate<S: Shelf, O: Sink>(
         (Rises S.faults shelf.old shelf.new) (Rises O.faults out.old out.new) (O.written out.old)
         (O.written out.new) result }
 
-    // And there is one, wherever each file that the words fetch is there: want of memory is the only way out of it. Of
-    // `explain` this is said where the set of the number, if one has it, has a certificate that is accepted.
+    // And there is one, wherever each file that the words fetch is there: want of memory is the only way out of it.
     ensures answered { AnsweredWhereTold words.now (S.files shelf.old)
         (Rises S.faults shelf.old shelf.new) (Rises O.faults out.old out.new) (O.written out.old)
         (O.written out.new) result }
