@@ -199,6 +199,27 @@ fn open_array(
     }
 }
 
+// The rows of a JSON file, with the pattern's query.
+fn open_asked(
+    alloc: Global,
+    bytes: &[u8],
+    layout: &Layout,
+    pattern: &Pattern,
+    asked: &AskedPattern,
+    columns: usize,
+) -> Result<TextRows, FileError>
+    requires layout { IsLayout columns (entries_of pattern.now.entries) }
+    requires asked { IsAskedBy (entries_of pattern.now.entries) asked.now }
+    ensures { GivesRows
+        (IsRowOf columns (entries_of pattern.now.entries) (file_trees layout.now bytes.now))
+        (trees_fault layout.now bytes.now) result }
+{
+    match layout {
+        Layout::Array => open_array(alloc, bytes, pattern, asked, columns),
+        Layout::Lines => open_lines(alloc, bytes, pattern, asked, columns),
+    }
+}
+
 /// The rows of a JSON file by a layout of so many columns, or the file's first fault, as `read_trees` has it. They are
 /// exactly the rows under which the layout is matched in one of the documents; as a set, since a row may come from
 /// several documents.
@@ -215,8 +236,5 @@ pub fn open_documents(
         (trees_fault layout.now bytes.now) result }
 {
     let asked = ask_pattern(alloc, pattern)?;
-    match layout {
-        Layout::Array => open_array(alloc, bytes, pattern, &asked, columns),
-        Layout::Lines => open_lines(alloc, bytes, pattern, &asked, columns),
-    }
+    open_asked(alloc, bytes, layout, pattern, &asked, columns)
 }
