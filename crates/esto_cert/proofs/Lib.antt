@@ -4,7 +4,7 @@ pub mod LinkLemmas
 pub mod NumberLemmas
 pub mod ClaimLemmas
 pub mod WordLemmas
-mod MatchLemmas
+pub mod MatchLemmas
 mod BeyondLemmas
 mod JudgeLemmas
 mod VerdictLemmas

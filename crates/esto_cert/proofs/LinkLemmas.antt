@@ -17,7 +17,7 @@ use Rattle.esto_world_laws.proofs.LinkLemmas.{Linked-back, Linked-is, Linked-mor
 use Rattle.esto_cert.specs.Linking.{IsAmong, standing, Tells}
 use Rattle.esto_cert.specs.declared.linking.Equality.{Equality}
 
--- --
+-- links by links
 pub Linked-through : {P Q : Claim → Type 0} → ((s t : Term) → P (Same s t) → Linked Q s t) → (s t : Term) → Linked P s t → Linked Q s t
 Linked-through through s t here = here
 Linked-through through s t (along holds linked) = Linked-then _ _ _ (through _ _ holds) (Linked-through through _ _ linked)

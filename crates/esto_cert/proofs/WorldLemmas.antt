@@ -20,7 +20,7 @@ use Rattle.esto_semantics.proofs.TermLemmas.{decided_term}
 use Rattle.esto_semantics.proofs.FactLemmas.{decided_fact}
 use Rattle.esto_chase_laws.specs.Making.{extended}
 use Rattle.esto_query.specs.declared.expanded.ExpandedFact.{ExpandedFact}
-use Rattle.esto_world_laws.specs.Worlds.{InWorld, Linked, here, along, back}
+use Rattle.esto_world_laws.specs.Worlds.{InWorld, Linked}
 use Rattle.esto_world_laws.specs.Matches.{Touching, match_map, IsMatch}
 use Rattle.esto_world_laws.specs.Steps.{IsAsked, IsCovered}
 use Rattle.esto_world_laws.specs.Derived.{Claims, IsNamed, IsUnion, IsEquality, FollowsBy, Follows, AreDerived}
@@ -30,11 +30,12 @@ use Rattle.esto_world_laws.specs.declared.entry.Reason.{Reason}
 use Rattle.esto_world_laws.specs.declared.entry.Reason.TheVariants.{Expanded, Step}
 use Rattle.esto_world_laws.specs.declared.entry.Entry.{Entry}
 use Rattle.esto_world_laws.proofs.GrowLemmas.{AreDerived-push, InWorld-within, IsCovered-more}
-use Rattle.esto_world_laws.proofs.LinkLemmas.{Linked-back, Linked-then, Linked-touching, Touching-more}
+use Rattle.esto_world_laws.proofs.LinkLemmas.{Linked-touching, Touching-more}
 use Rattle.esto_cert.specs.Certificates.{numbered, made_at}
 use Rattle.esto_cert.specs.Linking.{IsAmong}
 use Rattle.esto_cert.specs.declared.linking.Equality.{Equality}
 use Rattle.esto_cert.proofs.MatchLemmas.{are_chosen, are_like}
+use Rattle.esto_cert.proofs.LinkLemmas.{Linked-through}
 
 -- ---- which claims there are is decided
 
@@ -115,16 +116,11 @@ module _ (entries : List Entry) where
 
 -- ---- what chosen facts and equalities say
 
-links_as : {P Q : Claim → Type 0} → ((s t : Term) → P (Same s t) → Linked Q s t) → (s t : Term) → Linked P s t → Linked Q s t
-links_as each s t here = here
-links_as each s t (along held linked) = Linked-then _ _ _ (each _ _ held) (links_as each _ _ linked)
-links_as each s t (back held linked) = Linked-then _ _ _ (Linked-back _ _ (each _ _ held)) (links_as each _ _ linked)
-
 module _ (Holds : Claim → Type 0) (chosen : List (Fact Term)) (equalities : List Equality)
     (facts : (fact : Fact Term) → Contains chosen fact → Holds (Stated fact))
     (links : (s t : Term) → Contains equalities (record { left = s; right = t }) → Linked Holds s t) where
   pub links_hold : (s t : Term) → Linked (IsAmong chosen equalities) s t → Linked Holds s t
-  links_hold s t linked = links_as links s t linked
+  links_hold s t linked = Linked-through links s t linked
 
   pub match_holds : (body : List (Fact Term)) → IsMatch (IsAmong chosen equalities) body chosen → IsMatch Holds body chosen
   match_holds body matches = (

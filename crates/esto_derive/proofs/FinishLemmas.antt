@@ -23,6 +23,7 @@ use Rattle.esto_constraint.specs.declared.rule.Constraint.{Constraint}
 use Rattle.esto_query.specs.declared.expanded.ExpandedFact.{ExpandedFact}
 use Rattle.esto_derive.proofs.LoopLemmas.{terms_stated}
 use Rattle.esto_derive.proofs.MatchLemmas.{match_at, some_go_on}
+use Rattle.esto_derive.proofs.WriteLemmas.{AreThere}
 
 -- what is claimed in a world is of an entry within the set
 claims_within : (entries : List Entry) (set : List Bool) (place : ℕ) (entry : Entry) → slice_get entries place ≡ Some entry
@@ -39,7 +40,7 @@ module _ (entries : List Entry) (set : List Bool) (head targets : List Term) (bo
       subst (IsFound entries set head targets body) none is goes.0 goes.1
 
   module _ (facts : List ℕ) (found : IsFound entries set head targets body (Some facts)) where
-    pub facts_there : (place : ℕ) → Contains facts place → place < length entries
+    pub facts_there : AreThere entries facts
     facts_there place inside =
         let its = zip_left (λ (place : ℕ) (fact : Fact Term). ClaimsIn entries set place (Stated fact)) facts found.0 found.1 place inside in
         slice_get_within entries place its.2.0 its.2.1

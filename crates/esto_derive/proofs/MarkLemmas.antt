@@ -33,11 +33,15 @@ named_union entries product (Expanded atom at) is place inside = absurd (Contain
 named_union entries product (Step number places) is place inside = is
 named_union entries product (Equal places) is place inside = is
 
+-- each entry that is named is an earlier one
+abbrev pub NamesEarlier : ℕ → Entry → Type 0
+NamesEarlier place entry = (named : ℕ) → Contains (named_by entry.reason) named → named < place
+
 module _ (entries : List Entry) (reasoned : AreReasoned entries) (place : ℕ) (entry : Entry) (at : slice_get entries place ≡ Some entry) where
   union : (named : ℕ) → Contains (named_by entry.reason) named → IsUnion (take place entries) (named_by entry.reason) entry.product
   union named inside = named_union (take place entries) entry.product entry.reason (reasoned.reasoned place entry at) named inside
 
-  pub named_before : (named : ℕ) → Contains (named_by entry.reason) named → named < place
+  pub named_before : NamesEarlier place entry
   named_before named inside = omega (arith, (union named inside).there named inside, length-take place entries)
 
   named_within : (named : ℕ) (other : Entry) → Contains (named_by entry.reason) named → slice_get entries named ≡ Some other

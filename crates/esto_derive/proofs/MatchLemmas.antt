@@ -25,6 +25,7 @@ use Rattle.esto_world_laws.specs.declared.entry.Claim.TheVariants.{Fact as State
 use Rattle.esto_world_laws.specs.declared.entry.Entry.{Entry}
 use Rattle.esto_cert.specs.Certificates.{Case, MayEnd}
 use Rattle.esto_cert.specs.declared.line.Line.TheVariants as line
+use Rattle.esto_cert.proofs.MatchLemmas.{are_like}
 use Rattle.esto_derive.specs.Marking.{AreUsed}
 use Rattle.esto_derive.specs.Printing.{line_text, IsReadable}
 use Rattle.esto_derive.specs.Reasons.{AreNamedBy}
@@ -34,7 +35,7 @@ use Rattle.esto_derive.specs.declared.writing.Written.{Written}
 use Rattle.esto_derive.proofs.NamingLemmas.{all_named, are_named}
 use Rattle.esto_derive.proofs.StateLemmas.{ended}
 use Rattle.esto_derive.proofs.StepLemmas.{matches, eqs, one, facts_fit, links_fit, facts_some}
-use Rattle.esto_derive.proofs.WriteLemmas.{both_at, fact_lines, stand_at, like_chosen}
+use Rattle.esto_derive.proofs.WriteLemmas.{both_at, fact_lines, stand_at}
 
 -- ---- a match to be found
 
@@ -106,7 +107,7 @@ match_at entries set head body chosen targets facts links stated (are, fits) hea
   stated = zip_weaker (λ (place : ℕ) (fact : Fact Term). ClaimsIn entries set place (Stated fact))
       (λ (place : ℕ) (fact : Fact Term). Claims entries place (Stated fact)) facts chosen (λ place fact inside (entry, at, within, is). (entry, at, is)) stated;
   equalities = λ place inside. let its = links_are place inside in (its.0, its.1, (its.2.0, its.2.1, its.2.3));
-  alike = like_chosen (InWorld entries set) body chosen are;
+  alike = are_like (InWorld entries set) body chosen are;
   fits = body_fits (IsNamed entries links) head body chosen targets lengths head_lengths by_links;
   heads = heads_linked (IsNamed entries links) head body chosen targets lengths head_lengths by_links safe;
 }

@@ -25,6 +25,7 @@ use Rattle.esto_derive.specs.Writing.{AddsNew, AreOwn, IsBasis, IsState, StandFo
 use Rattle.esto_derive.specs.declared.writing.Written.{Written}
 use Rattle.esto_cert.proofs.NumberLemmas.{numbered_at, numbered_next}
 use Rattle.esto_derive.proofs.ReasonLemmas.{as_many_lines, behind_below, behind_own, named_below, stands_before, stands_once}
+use Rattle.esto_derive.proofs.StepLemmas.{from_links}
 
 -- ---- what a line names
 
@@ -79,14 +80,11 @@ module _ (claims : List Claim) (written : List ℕ) (lines : List (List ℕ)) (e
           );
       links_only = λ number inside.
           let (line, linked_inside, is) = Contains-map_from (λ line. line + 1) linked number inside in
-          let (place, place_inside, own_inside) = Contains-flat_from (λ place. own_lines (slice_get lines place)) links line (from_links line linked_inside) in
+          let (place, place_inside, own_inside) = Contains-flat_from (λ place. own_lines (slice_get lines place)) links line (from_links (lines_at lines links) linked adds line linked_inside) in
           let (own, at, owned) = link_lines place place_inside in
           let (other, behind, line_at) = owned.only line (subst (λ (it : List ℕ). Contains it line) (ap own_lines at) own_inside) in
           (place, other, place_inside, behind, ap (numbered written) (sym is) ∙ numbered_next written line ∙ line_at);
     }
-      where
-        from_links : (line : ℕ) → Contains linked line → Contains (lines_at lines links) line
-        from_links line inside = elim ((adds line).0 inside) [ inl none ↦ absurd (Contains-nil line none) | inr is ↦ is ]
 
 -- ---- a later line names each
 

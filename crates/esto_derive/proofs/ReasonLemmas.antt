@@ -23,6 +23,7 @@ use Rattle.esto_cert.specs.Showing.{AreClaimsOf}
 use Rattle.esto_cert.specs.declared.line.Line.{Line}
 use Rattle.esto_derive.specs.Marking.{named_by}
 use Rattle.esto_derive.specs.Reasons.{HasLine, IsBehind, itself, through, AreNamedBy, SaysReason, IsLineOf, AreOfEntries}
+use Rattle.esto_derive.proofs.MarkLemmas.{NamesEarlier}
 use Rattle.esto_cert.proofs.ClaimLemmas.{claims_more}
 use Rattle.esto_cert.proofs.NumberLemmas.{numbered_at, numbered_more}
 
@@ -61,8 +62,7 @@ module _ (expanded : List ExpandedFact) (rules : List Rule) (entries : List Entr
       by (reason.Step number places) follows = tt
       by (reason.Equal places) (some, left, right, claim_is, chain, union) = let wrong : Stated fact ≡ Same left right = sym is ∙ claim_is in cc
 
-  -- an entry names earlier ones
-  pub named_below : (named : ℕ) → Contains (named_by entry.reason) named → named < place
+  pub named_below : NamesEarlier place entry
   named_below named = by entry.reason (derived place entry at).follows
     where
       by : (its : Reason) → Follows expanded rules (take place entries) entry.claim entry.product its → Contains (named_by its) named → named < place

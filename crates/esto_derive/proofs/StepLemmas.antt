@@ -59,6 +59,10 @@ module _ (claims : List Claim) where
           → ◌≡◌ {A = Equality} (record { left = one; right = other }) (record { left = left; right = right })
       same one other left right is = let first : one ≡ left = cc in let second : other ≡ right = cc in λ i. record { left = first i; right = second i }
 
+-- what new numbers have is of those that they add, where there were none
+pub from_links : (more linked : List ℕ) → AddsNew [] more linked → (line : ℕ) → Contains linked line → Contains more line
+from_links more linked adds line inside = elim ((adds line).0 inside) [ inl none ↦ absurd (Contains-nil line none) | inr is ↦ is ]
+
 -- ---- lines that stand for entries
 
 module _ (claims : List Claim) (lines : List (List ℕ)) (its : List Entry) (places : List ℕ)
@@ -93,12 +97,9 @@ module _ (claims : List Claim) (lines : List (List ℕ)) (its : List Entry) (pla
 
   module _ (links : List ℕ) (among : (place : ℕ) → Contains links place → Contains places place)
       (equalities : (place : ℕ) → Contains links place → IsEquality its place) (linked : List ℕ) (adds : AddsNew [] (lines_at lines links) linked) where
-    from_links : (line : ℕ) → Contains linked line → Contains (lines_at lines links) line
-    from_links line inside = elim ((adds line).0 inside) [ inl none ↦ absurd (Contains-nil line none) | inr is ↦ is ]
-
     pub are_equalities : AreEqualities claims linked
     are_equalities line inside =
-        let (place, place_inside, own_inside) = Contains-flat_from (λ place. own_lines (slice_get lines place)) links line (from_links line inside) in
+        let (place, place_inside, own_inside) = Contains-flat_from (λ place. own_lines (slice_get lines place)) links line (from_links (lines_at lines links) linked adds line inside) in
         let (left, right, claims_it) = equalities place place_inside in
         let (own, at, (are, by)) = stands place (among place place_inside) (Same left right) claims_it in
         are line (subst (λ (it : List ℕ). Contains it line) (ap own_lines at) own_inside)

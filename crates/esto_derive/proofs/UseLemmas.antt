@@ -22,7 +22,7 @@ use Rattle.esto_world_laws.specs.declared.entry.Reason.TheVariants.{Step, Equal}
 use Rattle.esto_cert.specs.Certificates.{made_at}
 use Rattle.esto_derive.specs.Writing.{terms_at}
 use Rattle.esto_derive.proofs.LoopLemmas.{terms_stated}
-use Rattle.esto_derive.proofs.WriteLemmas.{IsStep, step_of, long_enough, facts_are, named_before, stated_in_all}
+use Rattle.esto_derive.proofs.WriteLemmas.{IsStep, step_of, long_enough, facts_are, named_before, stated_in_all, AreThere}
 
 in_drop : (count : ℕ) (xs : List ℕ) (x : ℕ) → Contains (drop count xs) x → Contains xs x
 in_drop zero xs x inside = inside
@@ -62,7 +62,7 @@ module _ (entries : List Entry) (rules : List Constraint) (lines : List (List �
         pub facts_below : (place : ℕ) → Contains facts place → place < length lines
         facts_below place inside = place_below place (Contains-take_in places (length body) place (subst (λ (it : List ℕ). Contains it place) facts_is inside))
 
-        pub facts_there : (place : ℕ) → Contains facts place → place < length entries
+        pub facts_there : AreThere entries facts
         facts_there place inside = omega (arith, facts_below place inside, lines_fewer)
 
         stated : AllZip (λ (place : ℕ) (fact : Fact Term). Claims entries place (Stated fact)) facts step.2.chosen

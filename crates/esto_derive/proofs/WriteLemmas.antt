@@ -17,7 +17,7 @@ use Rattle.esto_semantics.specs.declared.fact.Fact.{Fact}
 use Rattle.esto_query.specs.declared.expanded.ExpandedFact.{ExpandedFact}
 use Rattle.esto_world_laws.proofs.LinkLemmas.{Linked-then, Linked-back}
 use Rattle.esto_world_laws.specs.Derived.{Claims, IsNamed, IsUnion, IsEquality, IsChain, FollowsBy, Follows, AreDerived}
-use Rattle.esto_world_laws.specs.Matches.{IsLike, Fits, AreChosen, match_map}
+use Rattle.esto_world_laws.specs.Matches.{IsLike, Fits, match_map}
 use Rattle.esto_world_laws.specs.Worlds.{Linked, here}
 use Rattle.esto_world_laws.specs.declared.entry.Claim.{Claim}
 use Rattle.esto_world_laws.specs.declared.entry.Claim.TheVariants.{Fact as Stated, Same}
@@ -37,19 +37,18 @@ use Rattle.esto_derive.proofs.ReasonLemmas.{behind_equal, fact_has_line}
 use Rattle.esto_derive.proofs.StateLemmas.{line_more, state_push}
 use Rattle.esto_cert.proofs.LinkLemmas.{Linked-said}
 use Rattle.esto_cert.proofs.NumberLemmas.{numbered_next}
+use Rattle.esto_cert.proofs.MatchLemmas.{are_like}
 use Rattle.esto_derive.proofs.StepLemmas.{are_equalities, lines_link, matches, eqs, facts_fit, links_fit, facts_some}
 
 -- ---- what a step names
 
+-- each place is one of an entry
+abbrev pub AreThere : List Entry → List ℕ → Type 0
+AreThere entries places = (place : ℕ) → Contains places place → place < length entries
+
 -- what an entry before a place claims
 pub claims_in_all : (entries : List Entry) (count place : ℕ) (claim : Claim) → Claims (take count entries) place claim → Claims entries place claim
 claims_in_all entries count place claim (entry, at, is) = (entry, taken_at entries count place entry at, is)
-
-pub like_chosen : (Holds : Claim → Type 0) (body chosen : List (Fact Term)) → AreChosen Holds body chosen → AllZip IsLike body chosen
-like_chosen Holds body chosen = zip_weaker
-    (λ (atom : Fact Term) (fact : Fact Term). Holds (Stated fact) × (fact.relation ≡ atom.relation)
-    × (length fact.terms ≡ length atom.terms)) IsLike body chosen
-    (λ atom fact inside are. (are.1, are.2))
 
 -- A rule's step: what the entries at the places, among the first few, make of a rule.
 abbrev pub IsStep : List Entry → List Rule → ℕ → ℕ → List ℕ → Claim → List Bool → Type 0
@@ -70,7 +69,7 @@ module _ (entries : List Entry) (rules : List Rule) (count number : ℕ) (places
 
   few_facts : length by.facts ≡ length (body_of step.0)
   few_facts = zip_length (λ (place : ℕ) (fact : Fact Term). Claims (take count entries) place (Stated fact)) by.facts by.chosen by.stated
-      ∙ sym (zip_length IsLike (body_of step.0) by.chosen (like_chosen (IsNamed (take count entries) places) (body_of step.0) by.chosen by.matches.0))
+      ∙ sym (zip_length IsLike (body_of step.0) by.chosen (are_like (IsNamed (take count entries) places) (body_of step.0) by.chosen by.matches.0))
 
   pub long_enough : length (body_of step.0) ≤ length places
   long_enough = omega (arith, few_facts, ap length by.in_order, length-append by.facts by.links)
@@ -100,7 +99,7 @@ module _ (entries : List Entry) (rules : List Rule) (count number : ℕ) (places
       let its = by.equalities place inside in (its.0, its.1, claims_in_all entries count place (Same its.0 its.1) its.2)
 
   pub alike : AllZip IsLike (body_of step.0) by.chosen
-  alike = like_chosen (IsNamed (take count entries) places) (body_of step.0) by.chosen by.matches.0
+  alike = are_like (IsNamed (take count entries) places) (body_of step.0) by.chosen by.matches.0
 
   -- an equality that is named is named among the links
   by_links : (s t : Term) → IsNamed (take count entries) places (Same s t) → IsNamed entries by.links (Same s t)
