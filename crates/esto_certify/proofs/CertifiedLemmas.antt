@@ -1,9 +1,8 @@
 -- Each set of a printed plan's atoms that is safe, and whose candidate is contained in the query, has a certificate.
-use Rattle.std.proofs.Common.{◌≡◌, ℕ, ◌<◌, Bool, List, length, slice_index, Some, None, slice_get, refl, sym, subst, arith}
+use Rattle.std.proofs.Common.{◌≡◌, ℕ, ◌<◌, Bool, List, length, slice_index, Some, None, slice_get, refl, arith, sym, subst}
 use Rattle.esto_constraint.specs.Graphs.{IsWithin, AreRanks}
 use Rattle.esto_constraint.specs.Relations.{IsEdge}
 use Rattle.esto_catalog.specs.Determined.{CataloguesAreSound}
-use Rattle.esto_catalog.specs.Soundness.{IsSoundCatalogue}
 use Rattle.esto_catalog.specs.declared.catalogue.Catalogue.{Catalogue}
 use Rattle.esto_cert.specs.Complete.{ContainedSetsHaveCertificates, HasAnswer}
 use Rattle.esto_constraint.proofs.RankLemmas.{depth_of, depth-small, ranks-RanksRise, ranks-small}
@@ -34,22 +33,17 @@ RanksAreSmall =
     (rules : List Rule) (count : ℕ) (ranks : List ℕ) → IsWithin count (IsEdge rules) → AreRanks (IsEdge rules) count ranks
     → (relation : ℕ) → relation < count → slice_index ranks relation < count
 
+-- a catalogue's rules are over relations that its ranks are of
+module _ (catalogues : CataloguesAreSound) (catalogue : Catalogue) where
+  pub rules_within : IsWithin (length catalogue.ranks) (IsEdge (rules_of catalogue.rules))
+  rules_within = subst (λ it. IsWithin it (IsEdge (rules_of catalogue.rules))) (sym (catalogues catalogue).ranks_are.for_each) (catalogues catalogue).within
+
+  pub rules_ranked : AreRanks (IsEdge (rules_of catalogue.rules)) (length catalogue.ranks) catalogue.ranks
+  rules_ranked = subst (λ it. AreRanks (IsEdge (rules_of catalogue.rules)) it catalogue.ranks) (sym (catalogues catalogue).ranks_are.for_each)
+      (catalogues catalogue).ranks_are
+
 module _ (have : ContainedSetsHaveCertificates) (catalogues : CataloguesAreSound) (rise : RanksRiseAlong) (small : RanksAreSmall) (form : PlanHasForm)
     (over : PlanIsOver) (universal : PlanIsUniversal) (satisfiable : PlanTellsAnswers) (equivalent : ContainedCandidateIsEquivalent) where
-  module _ (catalogue : Catalogue) where
-    abbrev rules : List Rule
-    rules = rules_of catalogue.rules
-
-    sound : IsSoundCatalogue catalogue.schema catalogue.words catalogue.datasets catalogue.fragments catalogue.stores catalogue.rules catalogue.given
-        catalogue.ranks
-    sound = catalogues catalogue
-
-    within : IsWithin (length catalogue.ranks) (IsEdge rules)
-    within = subst (λ it. IsWithin it (IsEdge rules)) (sym sound.ranks_are.for_each) sound.within
-
-    ranks : AreRanks (IsEdge rules) (length catalogue.ranks) catalogue.ranks
-    ranks = subst (λ it. AreRanks (IsEdge rules) it catalogue.ranks) (sym sound.ranks_are.for_each) sound.ranks_are
-
   -- the candidate of a set that is contained in a satisfiable query has an answer, since it contains the query
   has_answer : (catalogue : Catalogue) (query : Query) (plan : Plan) → IsPlanned catalogue query plan → (set : List Bool)
       → IsSafelyContained (rules_of catalogue.rules) (views_of catalogue.fragments) (query_of query) (plan_query plan) set
@@ -63,10 +57,12 @@ module _ (have : ContainedSetsHaveCertificates) (catalogues : CataloguesAreSound
   pub contained_have_one : ContainedSetsHaveOne
   contained_have_one catalogue query plan planned set is =
       have plan catalogue.fragments set catalogue.rules query (slice_index catalogue.ranks) (depth_of catalogue.ranks) (over catalogue query plan planned)
-      (ranks-RanksRise (rules catalogue) catalogue.ranks
-      (rise (rules catalogue) (length catalogue.ranks) catalogue.ranks (within catalogue) (ranks catalogue)))
-      (ranks-small catalogue.ranks (small (rules catalogue) (length catalogue.ranks) catalogue.ranks (within catalogue) (ranks catalogue)))
-      (depth-small catalogue.ranks (length catalogue.ranks) refl (omega (arith, (sound catalogue).schema_is.room, (sound catalogue).ranks_are.for_each)))
+      (ranks-RanksRise (rules_of catalogue.rules) catalogue.ranks
+      (rise (rules_of catalogue.rules) (length catalogue.ranks) catalogue.ranks (rules_within catalogues catalogue) (rules_ranked catalogues catalogue)))
+      (ranks-small catalogue.ranks
+      (small (rules_of catalogue.rules) (length catalogue.ranks) catalogue.ranks (rules_within catalogues catalogue) (rules_ranked catalogues catalogue)))
+      (depth-small catalogue.ranks (length catalogue.ranks) refl
+      (omega (arith, (catalogues catalogue).schema_is.room, (catalogues catalogue).ranks_are.for_each)))
       (has_answer catalogue query plan planned set is) is
 
   pub listed_have_one : ItemIsListed → ListedSetsHaveOne

@@ -13,7 +13,7 @@ use Rattle.esto_bench.proofs.PlanLemmas.{some_listed}
 use Rattle.esto_bench.proofs.ViewLemmas.{satisfied}
 use Rattle.esto_bench.proofs.CatalogueLemmas.{variable_of, variables_apart}
 use Rattle.esto_constraint.proofs.RankLemmas.{depth_of, depth-small}
-use Rattle.esto_chase_laws.specs.Runs.{Step, IsEnd, IsRun, IsStart, start_of}
+use Rattle.esto_chase_laws.specs.Runs.{Step, IsEnd, IsRun, start_of}
 use Rattle.esto_list.specs.Items.{totals_of}
 use Rattle.esto_list.specs.declared.listing.Listed.{Listed as Item}
 use Rattle.esto_query.specs.declared.query.Name.TheVariants.{Hidden}
@@ -39,7 +39,7 @@ use Rattle.esto_outcome_laws.specs.Laws.{BelowLaws, BenchLaws}
 use Rattle.esto_reading_laws.proofs.DecisionLemmas.{same_list}
 use Rattle.esto_outcome_laws.proofs.ListLemmas.{items_exist}
 use Rattle.esto_outcome_laws.proofs.PlanLemmas.{stated_exists}
-use Rattle.esto_outcome_laws.proofs.RewritingLemmas.{Chases, IsPlanKnown, listed_sets_exist}
+use Rattle.esto_outcome_laws.proofs.RewritingLemmas.{Chases, IsPlanKnown, listed_sets_exist, RunsEnd}
 use Rattle.esto_outcome_laws.proofs.TextLemmas.{database_answers, decided_value}
 
 -- the things of a list, each once
@@ -79,7 +79,7 @@ made_view_is relation =
     (view_sound relation (made_view relation).head (made_view relation).body (Hidden ∷ Hidden ∷ []) refl refl refl).query
 
 module _ (laws : BelowLaws) (bench : BenchLaws) (size : ℕ) (some : 0 < size) where
-  ends : (start : ConjunctiveQuery) → IsStart start → (trace : List Step) × (end : ConjunctiveQuery) × IsRun [] start trace end × IsEnd [] end
+  ends : RunsEnd []
   ends start is =
       laws.chase.ends [] start (λ _. 0) (depth_of []) no_rules is (λ body head inside. absurd (Contains-nil _ inside)) (λ relation. omega arith)
       (depth-small [] 0 refl (omega arith))

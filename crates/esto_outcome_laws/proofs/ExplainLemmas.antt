@@ -21,13 +21,14 @@ use Rattle.esto_outcome_laws.specs.Ends.{Ends, EndsOrLacks}
 use Rattle.esto_outcome_laws.specs.Laws.{BelowLaws, ReadingLaws}
 use Rattle.esto_outcome_laws.proofs.CourseLemmas.{ends_judged, ends_then, gives_ends, judges_accepted, judges_accepts}
 use Rattle.esto_outcome_laws.proofs.OpeningLemmas.{catalogue_opens, query_opens}
-use Rattle.esto_outcome_laws.proofs.RunLemmas.{chooses_ends, items_exist, plan_of, plans_ends}
+use Rattle.esto_outcome_laws.proofs.RunLemmas.{chooses_ends, plan_of, plans_ends}
+use Rattle.esto_outcome_laws.proofs.PlannedLemmas.{list_exists}
 
 module _ (laws : BelowLaws) (place_is : PlaceIsWithin) (have : ListedSetsHaveOne) (catalogue : Catalogue) (query : Query) (number : ℕ) where
   plan_ends : {lack : Type 0} (plan : Plan) → IsPlanned catalogue query plan → Ends lack (explains_plan catalogue query number plan)
   plan_ends plan planned =
       ends_judged (IsListOf catalogue query plan) (λ _. ⊥) (λ items. and_then (chooses items (Some number)) (after items))
-      (items_exist laws catalogue query plan planned) (λ items list.
+      (list_exists laws.keeps laws.chase catalogue laws.lists query plan planned) (λ items list.
       ends_then (chooses items (Some number)) (after items) (chooses_ends laws.lists.picks items (Some number)) (λ place goes.
       ends_judged (λ item. slice_get items place ≡ Some item) (λ _. ⊥) (certifies_item catalogue query plan)
       (thing_at items place (place_is items (Some number) place (placed items place goes)))

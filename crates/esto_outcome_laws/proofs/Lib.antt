@@ -16,7 +16,6 @@ pub mod AnswerCourse
 pub mod FillLemmas
 pub mod AuditLemmas
 pub mod ReasoningLemmas
-pub mod LinkLemmas
 pub mod VerdictLemmas
 pub mod VerifyLemmas
 pub mod BenchLemmas

@@ -1,12 +1,10 @@
 -- A query over a catalogue has a printed plan, or its run clashes; a printed plan has its list.
-use Rattle.std.proofs.Common.{◌≡◌, ◌⊎◌, inl, inr, ℕ, Bool, true, false, List, length, Some, slice_get, slice_index, Contains, refl, sym, subst}
+use Rattle.std.proofs.Common.{◌≡◌, ◌⊎◌, inl, inr, ℕ, Bool, true, false, List, length, Some, slice_get, slice_index, refl, sym, subst}
 use Rattle.std.proofs.Common.{arith}
-use Rattle.esto_constraint.specs.Graphs.{IsWithin, AreRanks}
-use Rattle.esto_constraint.specs.Relations.{IsEdge}
 use Rattle.esto_catalog.specs.Soundness.{IsSoundCatalogue}
 use Rattle.esto_catalog.specs.declared.catalogue.Catalogue.{Catalogue}
 use Rattle.esto_constraint.proofs.RankLemmas.{depth_of, depth-small, ranks-RanksRise, ranks-small, rules-AreRules}
-use Rattle.esto_chase_laws.specs.Runs.{Step, IsEnd, IsRun, IsStart, start_of}
+use Rattle.esto_chase_laws.specs.Runs.{Step, IsEnd, IsRun, start_of}
 use Rattle.esto_chase_laws.specs.declared.clash.Clash.{Clash}
 use Rattle.esto_constraint.specs.Constraints.{rules_of}
 use Rattle.esto_planning.specs.Printed.{IsPrintedOf}
@@ -15,13 +13,11 @@ use Rattle.esto_planning.specs.Listing.{IsClash, IsListOf, IsPlanned}
 use Rattle.esto_query.specs.Making.{query_of}
 use Rattle.esto_query.specs.declared.query.Query.{Query}
 use Rattle.esto_semantics.specs.Listed.{AreListed}
-use Rattle.esto_semantics.specs.Maps.{IsFlat}
 use Rattle.esto_semantics.specs.Queries.{ConjunctiveQuery, IsQuery}
 use Rattle.esto_semantics.specs.Rules.{Rule, AreRules}
 use Rattle.esto_semantics.specs.Sets.{AreListedBy}
 use Rattle.esto_disjuncts.specs.Members.{IsListIn}
 use Rattle.esto_union.specs.Unions.{IsRewritingIn, queries_of}
-use Rattle.esto_term.specs.declared.term.Term.{Term}
 use Rattle.esto_term.proofs.ListLemmas.{Contains-map_from, map_at-from}
 use Rattle.esto_universal.proofs.PlannedLemmas.{head_stays}
 use Rattle.esto_views.specs.Fragments.{patterns_of, views_of, weights_of}
@@ -29,10 +25,11 @@ use Rattle.esto_views.specs.Plans.{plan_query}
 use Rattle.esto_views.specs.declared.fragments.FragmentDef.{FragmentDef}
 use Rattle.esto_views.specs.declared.plan.Plan.{Plan}
 use Rattle.esto_views.proofs.FlatLemmas.{named-flat}
+use Rattle.esto_certify.proofs.CertifiedLemmas.{rules_within, rules_ranked}
 use Rattle.esto_outcome_laws.specs.Laws.{KeptLaws, ChaseLaws, ListLaws}
 use Rattle.esto_outcome_laws.proofs.ListLemmas.{items_exist}
 use Rattle.esto_outcome_laws.proofs.PlanLemmas.{cored_exists, stated_exists}
-use Rattle.esto_outcome_laws.proofs.RewritingLemmas.{Chases, IsPlanKnown, listed_sets_exist, union_sets_exist}
+use Rattle.esto_outcome_laws.proofs.RewritingLemmas.{Chases, IsPlanKnown, listed_sets_exist, union_sets_exist, RunsEnd}
 
 module _ (keeps : KeptLaws) (chase : ChaseLaws) (catalogue : Catalogue) where
   sound : IsSoundCatalogue catalogue.schema catalogue.words catalogue.datasets catalogue.fragments catalogue.stores catalogue.rules catalogue.given
@@ -53,17 +50,13 @@ module _ (keeps : KeptLaws) (chase : ChaseLaws) (catalogue : Catalogue) where
       let source = map_at-from (λ (it : FragmentDef). query_of it.view) catalogue.fragments number view at in
       subst IsQuery source.2 (keeps.queries source.0.view).query
 
-  within : IsWithin (length catalogue.ranks) (IsEdge rules)
-  within = subst (λ it. IsWithin it (IsEdge rules)) (sym sound.ranks_are.for_each) sound.within
-
-  ranks : AreRanks (IsEdge rules) (length catalogue.ranks) catalogue.ranks
-  ranks = subst (λ it. AreRanks (IsEdge rules) it catalogue.ranks) (sym sound.ranks_are.for_each) sound.ranks_are
-
-  ends : (start : ConjunctiveQuery) → IsStart start → (trace : List Step) × (end : ConjunctiveQuery) × IsRun rules start trace end × IsEnd rules end
+  ends : RunsEnd rules
   ends start is =
       chase.ends rules start (slice_index catalogue.ranks) (depth_of catalogue.ranks) are_rules is
-      (ranks-RanksRise rules catalogue.ranks (chase.rise rules (length catalogue.ranks) catalogue.ranks within ranks))
-      (ranks-small catalogue.ranks (chase.small rules (length catalogue.ranks) catalogue.ranks within ranks))
+      (ranks-RanksRise rules catalogue.ranks
+      (chase.rise rules (length catalogue.ranks) catalogue.ranks (rules_within keeps.catalogues catalogue) (rules_ranked keeps.catalogues catalogue)))
+      (ranks-small catalogue.ranks
+      (chase.small rules (length catalogue.ranks) catalogue.ranks (rules_within keeps.catalogues catalogue) (rules_ranked keeps.catalogues catalogue)))
       (depth-small catalogue.ranks (length catalogue.ranks) refl (omega (arith, sound.schema_is.room, sound.ranks_are.for_each)))
 
   pub chases : Chases rules
@@ -101,13 +94,10 @@ module _ (keeps : KeptLaws) (chase : ChaseLaws) (catalogue : Catalogue) where
   -- ---- its list
 
   module _ (lists : ListLaws) (query : Query) (plan : Plan) (planned : IsPlanned catalogue query plan) where
-    pub plan_head_flat : (term : Term) → Contains plan.head term → IsFlat term
-    plan_head_flat term inside = named-flat plan term ((keeps.plans plan).named_head term inside)
-
     plan_known : IsPlanKnown views (plan_query plan)
     plan_known = record {
       flat_body = (lists.form catalogue query plan planned).flat_body;
-      flat_head = plan_head_flat;
+      flat_head = λ term inside. named-flat plan term ((keeps.plans plan).named_head term inside);
       fits = keeps.fit plan catalogue.fragments (lists.over catalogue query plan planned);
     }
 

@@ -108,10 +108,14 @@ decided_among P xs decide = by (kept P xs decide)
 
 -- ---- a query over fragments is contained in a query, or not
 
+-- each run from a start comes to an end
+abbrev pub RunsEnd : List Rule → Type 0
+RunsEnd rules = (start : ConjunctiveQuery) → IsStart start → (trace : List Step) × (end : ConjunctiveQuery) × IsRun rules start trace end × IsEnd rules end
+
 -- what is known of a chase under the rules
 pub record Chases (rules : List Rule) : Type 0 where
   pub are_rules : AreRules rules
-  pub ends : (start : ConjunctiveQuery) → IsStart start → (trace : List Step) × (end : ConjunctiveQuery) × IsRun rules start trace end × IsEnd rules end
+  pub ends : RunsEnd rules
   pub universal : StatesAreUniversal
   pub nothing : ClashesReceiveNothing
   pub begin : StartsHaveTheBody

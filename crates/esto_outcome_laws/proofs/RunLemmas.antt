@@ -19,7 +19,7 @@ use Rattle.esto_opening.specs.declared.status.Status.TheVariants.{BadFragment, N
 use Rattle.esto_opening.proofs.UnionLemmas.{itself}
 use Rattle.esto_planning.specs.Choice.{HasNoPlace, IsItemOf, IsPlace}
 use Rattle.esto_planning.specs.Choice.HasNoPlace.{is_empty, is_above}
-use Rattle.esto_planning.specs.Listing.{IsClash, IsListing, IsListOf, IsPlanned}
+use Rattle.esto_planning.specs.Listing.{IsClash, IsListing, IsPlanned}
 use Rattle.esto_planning.specs.Planning.{chooses, ends_query, plans_query}
 use Rattle.esto_ports.specs.Files.{Files}
 use Rattle.esto_ports.specs.declared.file_fault.FileFault.{FileFault}
@@ -140,12 +140,9 @@ module _ (laws : BelowLaws) (catalogue : Catalogue) (query : Query) where
   module _ (plan : Plan) (planned : IsPlanned catalogue query plan) where
     -- ---- its list
 
-    pub items_exist : (items : List Listed) × IsListOf catalogue query plan items
-    items_exist = list_exists laws.keeps laws.chase catalogue laws.lists query plan planned
-
     pub listing_exists : (text : List ℕ) × IsListing catalogue query plan text
     listing_exists =
-        let items = items_exist in
+        let items = list_exists laws.keeps laws.chase catalogue laws.lists query plan planned in
         let text = text_exists laws.lists.picks catalogue.fragments plan items.0 in
         (text.0, record { items = items.0; list = items.1; printed = text.1 })
 

@@ -12,7 +12,7 @@ use Rattle.esto_cert.specs.declared.judging.Judged.TheVariants.{Claims, Ends, Re
 use Rattle.esto_cert.specs.declared.line.Line.{Line}
 use Rattle.esto_cert.specs.declared.line.Line.TheVariants.{Expanded, Step, Match}
 use Rattle.esto_cert.specs.declared.linking.Equality.{Equality}
-use Rattle.esto_outcome_laws.proofs.LinkLemmas.{tells_more, tells_nothing}
+use Rattle.esto_cert.proofs.LinkLemmas.{tells_more, tells_nothing}
 use Rattle.esto_semantics.proofs.TermLemmas.{decided_term}
 use Rattle.esto_semantics.specs.Facts.{terms_of}
 use Rattle.esto_semantics.specs.Rules.{Rule, body_of}
@@ -24,6 +24,7 @@ use Rattle.esto_world_laws.specs.Matches.{IsMatch, match_map, taken}
 use Rattle.esto_world_laws.specs.Worlds.{Linked}
 use Rattle.esto_world_laws.specs.declared.entry.Claim.{Claim}
 use Rattle.esto_world_laws.specs.declared.entry.Claim.TheVariants.{Fact as Stated}
+use Rattle.esto_reading_laws.proofs.DecisionLemmas.{decided_three}
 
 -- ---- which terms are linked
 
@@ -50,12 +51,6 @@ zip_decided R (x ∷ xs) [] decide = inr (λ all. all)
 zip_decided R (x ∷ xs) (y ∷ ys) decide =
     decided_both (decide x y (Contains-head x xs) (Contains-head y ys))
     (zip_decided R xs ys (λ one other inside within. decide one other (Contains-rest x xs one inside) (Contains-rest y ys other within)))
-
-decided_three : {P Q R : Type 0} → Decided P → Decided Q → Decided R → Decided (P × Q × R)
-decided_three (inl p) (inl q) (inl r) = inl (p, q, r)
-decided_three (inr not) q r = inr (λ all. not all.0)
-decided_three (inl p) (inr not) r = inr (λ all. not all.1)
-decided_three (inl p) (inl q) (inr not) = inr (λ all. not all.2)
 
 -- ---- matches
 

@@ -1,8 +1,10 @@
-use Rattle.esto_outcome_laws.proofs.RunLemmas.{chooses_ends, items_exist, listing_exists}
+use Rattle.esto_outcome_laws.proofs.RunLemmas.{chooses_ends, listing_exists}
 use Rattle.esto_outcome_laws.proofs.steps.plans_have_lists.Goals as goal
+use Rattle.esto_outcome_laws.proofs.PlannedLemmas.{list_exists}
 
 pub returns-clause-list : goal.returns-clause-list
-returns-clause-list c = λ catalogue query plan planned. items_exist c.laws_below_hold.ensures catalogue query plan planned
+returns-clause-list c = λ catalogue query plan planned.
+    let laws = c.laws_below_hold.ensures in list_exists laws.keeps laws.chase catalogue laws.lists query plan planned
 
 pub returns-clause-text : goal.returns-clause-text
 returns-clause-text c = λ catalogue query plan planned. listing_exists c.laws_below_hold.ensures catalogue query plan planned
