@@ -85,7 +85,7 @@ rejected_apart said number count line is = (
   (λ tells. let h : status.Rejected line ≡ status.Done = sym is ∙ tells in cc),
 )
 
-above_one : (number count other least : ℕ) → status.NoSuchNumber number count ≡ status.NoSuchNumber other least → (number ≡ other) × (count ≡ least)
+pub above_one : (number count other least : ℕ) → status.NoSuchNumber number count ≡ status.NoSuchNumber other least → (number ≡ other) × (count ≡ least)
 above_one number count other least same = (cc, cc)
 
 line_one : (line other : ℕ) → status.Rejected line ≡ status.Rejected other → line ≡ other

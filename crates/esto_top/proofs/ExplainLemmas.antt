@@ -35,11 +35,9 @@ use Rattle.esto_top.proofs.ExplainWords.{explain_words}
 use Rattle.esto_top.proofs.HeadlineLemmas.{empty-without}
 use Rattle.esto_top.proofs.MarkLemmas.{lines_within}
 use Rattle.esto_top.proofs.SayLemmas.{catalogue_opens, query_opens}
+use Rattle.esto_top.proofs.CertificateLemmas.{above_one}
 
 -- ---- statuses apart
-
-above_one : (asked count number other : ℕ) → status.NoSuchNumber asked count ≡ status.NoSuchNumber number other → (asked ≡ number) × (count ≡ other)
-above_one asked count number other same = (cc, cc)
 
 clash_done : (clash : Clash) → status.Unsatisfiable clash ≡ status.Done → ⊥
 clash_done clash same = cc
