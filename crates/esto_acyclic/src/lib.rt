@@ -5,4 +5,5 @@
 mod graph;
 mod relations;
 
+pub use esto_constraint::{Cycle, Ranks};
 pub use relations::{judge, judgements_are_exact};

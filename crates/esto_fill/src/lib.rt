@@ -21,6 +21,7 @@ mod wanted;
 pub use answering::{answer, answer_union};
 pub use auditing::{TextRowsList, audit};
 pub use datasets::{DatasetBytes, LoadError, LoadList, dataset_facts, load_dataset};
+pub use esto_ports::Difference;
 pub use filled::{FillError, fill};
 pub use laws::{
     agreeing_answers_are_one, answers_rest_on_their_datasets, answers_rest_on_wanted_facts,

@@ -16,6 +16,7 @@ mod renaming;
 mod spread;
 
 pub use atoms::plan_facts;
+pub use esto_query::{ExpandedFact, ExpandedFacts};
 pub use expansion::{expand, plans_fit_views};
 pub use fragments::{Access, AccessList, FragmentDef, FragmentDefs, rows_of_view};
 pub use order::Order;
