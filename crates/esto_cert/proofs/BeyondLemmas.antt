@@ -14,7 +14,7 @@ use Rattle.esto_world_laws.specs.declared.entry.Claim.TheVariants.{Fact as State
 use Rattle.esto_cert.specs.Certificates.{Case, MayClaim, MayEnd, equality_of, equalities_at, fact_of, facts_at, made_at, numbered}
 use Rattle.esto_cert.specs.Judging.{AreFew, IsJudgedText}
 use Rattle.esto_cert.specs.Lines.{with_item, expanded_of, match_of, step_of}
-use Rattle.esto_cert.specs.Reading.{StandsFor, all_within, head_of, line_within, nearest, within}
+use Rattle.esto_cert.specs.Reading.{StandsFor, all_within, head_atoms, line_within, nearest, within}
 use Rattle.esto_cert.specs.declared.judging.Judged.TheVariants.{Refused}
 use Rattle.esto_cert.specs.declared.line.Line.{Line}
 use Rattle.esto_cert.specs.declared.line.Line.TheVariants.{Expanded, Step, Match}
@@ -87,7 +87,7 @@ near_is said place = by (nat_le said greatest_u64)
     by false is apart = absurd (apart (sym is))
 
 -- at the greatest of 64 bits, and above, nothing stands in a shorter head
-pub none_made : (said number : ℕ) (rule : Rule) (m : Term → Term) → nearest said ≡ greatest_u64 → length (head_of rule) < greatest_u64
+pub none_made : (said number : ℕ) (rule : Rule) (m : Term → Term) → nearest said ≡ greatest_u64 → length (head_atoms rule) < greatest_u64
     → None ≡ made_at said number rule m
 none_made said number rule m near short = at rule short
   where
@@ -98,7 +98,7 @@ none_made said number rule m near short = at rule short
         by true tested is = omega (arith, is)
         by false tested is = grind (arith, nat_tests, tested)
 
-    at : (its : Rule) → length (head_of its) < greatest_u64 → None ≡ made_at said number its m
+    at : (its : Rule) → length (head_atoms its) < greatest_u64 → None ≡ made_at said number its m
     at (denial body) few = refl
     at (equality body left right) few = ap (λ (it : Bool). cond it (Some (Same (m left) (m right))) None) (sym some)
       where

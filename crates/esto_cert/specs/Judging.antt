@@ -33,7 +33,7 @@ case_of given =
       targets = given.targets.now;
     }
 
--- Each expanded fact is of an atom that has a place in the set, and has itself one among as many as the expanded facts are.
+-- Each expanded fact is of an atom that has a place in the set, and its place in the view's body is below the number of expanded facts.
 abbrev pub AreNumbersOf : List Bool → List ExpandedFact → Type 0
 AreNumbersOf set expanded = (fact : ExpandedFact) → Contains expanded fact → (fact.atom < length set) × (fact.place < length expanded)
 

@@ -9,10 +9,10 @@ use Rattle.esto_cert.specs.declared.line.Line.{Line}
 use Rattle.esto_cert.specs.declared.line.Line.TheVariants.{Expanded, Step, Match}
 
 -- The atoms of a tuple rule's head; of any other rule none.
-abbrev pub head_of : Rule → List (Fact Term)
-head_of (tuple body head) = head
-head_of (equality body left right) = []
-head_of (denial body) = []
+abbrev pub head_atoms : Rule → List (Fact Term)
+head_atoms (tuple body head) = head
+head_atoms (equality body left right) = []
+head_atoms (denial body) = []
 
 -- The number, and for all that are above the numbers of 64 bits the first of these.
 abbrev pub capped : ℕ → ℕ

@@ -8,7 +8,7 @@ ghost use Rattle.esto_world_laws.specs.declared.entry.Claim.{Claim};
 ghost use Rattle.esto_cert.specs.Certificates.{made_at, IsNamed};
 ghost use Rattle.esto_cert.specs.Judging.{case_of, AreFew, AreNumbersOf, IsJudged, IsJudgedText};
 ghost use Rattle.esto_cert.specs.Lines.{line_of};
-ghost use Rattle.esto_cert.specs.Reading.{head_of, nearest, StandsFor};
+ghost use Rattle.esto_cert.specs.Reading.{head_atoms, nearest, StandsFor};
 ghost use Rattle.esto_cert.specs.declared.line.Line.{Line};
 ghost use Rattle.esto_cert.specs.declared.line.Line.TheVariants.{Expanded, Step, Match};
 
@@ -113,7 +113,7 @@ pub fn made_at(
 
 /// How many atoms the head of a rule has.
 fn head_count(rule: &Constraint) -> usize
-    ensures { result ≡ length (head_of (rule_of rule.now)) }
+    ensures { result ≡ length (head_atoms (rule_of rule.now)) }
 {
     match rule {
         Constraint::Tuple(tuple) => tuple.head.len(),
@@ -122,7 +122,8 @@ fn head_count(rule: &Constraint) -> usize
     }
 }
 
-/// What the rule makes at the place that was said, where this is the nearest that 64 bits hold.
+/// What the rule makes at the place that was said, where this is the nearest that 64 bits hold. A rule whose head has as
+/// many atoms as 64 bits count is answered as want of memory.
 fn made_near(
     alloc: Global,
     place: u64,
