@@ -41,25 +41,12 @@ use Rattle.esto_data.specs.DataLaws.{DataLaws}
 use Rattle.esto_data.proofs.AlikeLemmas.{fragments_long}
 use Rattle.esto_data.proofs.DatasetLemmas.{sources_there}
 use Rattle.esto_data.proofs.FragmentLemmas.{each_opened, opened_within}
-use Rattle.esto_data.proofs.LeadLemmas.{AreLoaded, AreOpenedFiles, CanOpen, are_loaded, loads_never}
+use Rattle.esto_data.proofs.LeadLemmas.{AreLoaded, AreOpenedFiles, CanOpen, are_loaded, entries_apart, loads_never}
 use Rattle.esto_data.proofs.LoadLemmas.{dataset_agree}
 use Rattle.esto_data.proofs.MovedLemmas.{over_this}
 use Rattle.esto_data.proofs.UnionLemmas.{one_union, same_queries, same_union, same_union_text, texts_moved}
 
 -- ---- the files of some of the datasets
-
--- no two entries are of one dataset where the numbers rise
-entries_apart : (numbers : List ℕ) (entries : List DatasetBytes) → map (λ (entry : DatasetBytes). entry.dataset) entries ≡ numbers → AllPairs ◌<◌ numbers
-    → AreApart entries
-entries_apart numbers entries is rising i j d less within same =
-    let within_numbers : j < length numbers = omega (arith, within, length-map entries (λ (entry : DatasetBytes). entry.dataset), ap length is) in
-    let below = rising i j d.dataset less within_numbers in
-    let first : get_or numbers i d.dataset ≡ (get_or entries i d).dataset =
-    ap (λ (it : List ℕ). get_or it i d.dataset) (sym is)
-    ∙ get_or-map (λ (entry : DatasetBytes). entry.dataset) entries i d d.dataset (omega (arith, less, within)) in
-    let second : get_or numbers j d.dataset ≡ (get_or entries j d).dataset =
-    ap (λ (it : List ℕ). get_or it j d.dataset) (sym is) ∙ get_or-map (λ (entry : DatasetBytes). entry.dataset) entries j d d.dataset within in
-    omega (arith, below, first, second, same)
 
 module _ (files : Files) (datasets : List Dataset) where
   -- the entry of a number that is among those that were opened

@@ -11,8 +11,9 @@ use Rattle.esto_course.specs.Course.{Course, IsQuiet, Stops, judges, demands, gi
 use Rattle.esto_course.specs.Course.Stops.{refused}
 use Rattle.esto_course.proofs.Asking.{first_way_asks, quiet_demands, quiet_judges, quiet_then}
 use Rattle.esto_course.proofs.Steps.{Leads, first_stops, then_stops, then_goes, gives_goes, caused_more, each_next, each_stops, each_goes}
-use Rattle.esto_fill.specs.Files.{AreFactsFrom, FindsFault, IsLoadedFrom, dataset_fault}
+use Rattle.esto_fill.specs.Files.{AreFactsFrom, FindsFault, HaveRisingNames, IsLoadedFrom, dataset_fault}
 use Rattle.esto_fill.proofs.FileLemmas.{facts_flat}
+use Rattle.esto_fill.proofs.LawfulLemmas.{documents_are_lawful}
 use Rattle.esto_fill.specs.declared.datasets.DatasetBytes.{DatasetBytes}
 use Rattle.esto_fill.specs.declared.loaded.Loaded.{Loaded}
 use Rattle.esto_fill.specs.declared.wanted.Wanted.{Wanted}
@@ -27,7 +28,7 @@ use Rattle.esto_term.proofs.PlaceLemmas.{item_at, earlier_or_last}
 use Rattle.esto_term.specs.declared.term.Term.{Term}
 use Rattle.esto_opening.specs.Answers.{IsWant, IsCaused}
 use Rattle.esto_opening.specs.Asked.{AsksIn}
-use Rattle.esto_data.specs.Datasets.{AddsNeeded, AreFactsOfFiles, AreNeeded, IsSourceAt, Loads, LoadsAsking, LoadsFiles, LoadsMore, LoadsNext, ReadsData}
+use Rattle.esto_data.specs.Datasets.{AddsNeeded, AreFactsOfFiles, AreLawful, AreNeeded, IsSourceAt, Loads, LoadsAsking, LoadsFiles, LoadsMore, LoadsNext, ReadsData}
 use Rattle.esto_data.specs.Datasets.{Source, demands_file, demands_files, loads, loads_files, loads_next, opens_dataset, reads_data}
 use Rattle.esto_opening.specs.Fetch.{fetches}
 use Rattle.esto_data.specs.declared.datasets.TheConstants.{DATASET_LIMIT}
@@ -37,6 +38,7 @@ use Rattle.esto_opening.proofs.AskedSteps.{early_want, exit_asks, later_asks, qu
 use Rattle.esto_opening.proofs.FileSteps.{opened_asks, opened_goes, unfetched_asks, unfetched_stops, unread_asks, unread_stops}
 use Rattle.esto_opening.proofs.LoopSteps.{IsAlong, along_end_asks, along_ends, along_goes, along_starts, along_stop_asks, along_stops, kept_asks, quiet_each}
 use Rattle.esto_opening.proofs.Steps.{caused_weaker}
+use Rattle.esto_data.proofs.LeadLemmas.{loaded_apart}
 
 -- ---- the content of one file
 
@@ -113,7 +115,7 @@ pub record SoFarLoaded (files : Option Files) (datasets : List Dataset) (wanted 
 module _ (files : Option Files) (datasets : List Dataset) (wanted : Wanted) (numbers : List ℕ) (before : Option (List (List ℕ))) where
   pub loading_starts : (loaded : Loaded) → loaded.facts ≡ [] → loaded.next ≡ 0 → SoFarLoaded files datasets wanted numbers before 0 loaded before
   loading_starts loaded facts next =
-      record { contents = []; along = along_starts (loads_next files datasets) numbers [] before; are = ([], (refl, next), leaves_none wanted loaded.facts facts) }
+      record { contents = []; along = along_starts (loads_next files datasets) numbers [] before; are = ([], (refl, next), leaves_none wanted loaded.facts facts, λ file dataset inside. absurd (Contains-nil file inside)) }
 
   module _ (index : ℕ) (loaded : Loaded) (now : Option (List (List ℕ))) (so_far : SoFarLoaded files datasets wanted numbers before index loaded now) where
     module _ (number : ℕ) (below : index < length numbers) (is : number ≡ get_or numbers index number) where
@@ -235,24 +237,34 @@ module _ (files : Option Files) (datasets : List Dataset) (Needs : Dataset → T
 
   -- a dataset has no file
   pub demand_exit : (rose : Type 0) (error : Status) (result : Result Loaded Status) → IsErrAnd result (λ handed. handed ≡ error)
-      → Stops IsWant (IsCaused ⊥) (demands_files datasets numbers) error → Loads wanted (loads files datasets Needs) rose result
+      → Stops IsWant (IsCaused ⊥) (demands_files datasets numbers) error → Loads datasets wanted (loads files datasets Needs) rose result
   unfolding judges
   demand_exit rose error (Ok _) handed stops = absurd handed
   demand_exit rose error (Err handed_on) handed stops =
       rw handed (then_stops (judges (AreNeeded datasets Needs) (λ _. ⊥)) _ numbers needed
       (first_stops _ _ (caused_more _ error (caused_weaker (λ none. absurd none)) stops)))
 
+  -- the facts meet the laws, since no dataset has two files
+  meet_laws : (contents : List DatasetBytes) → (loads_files files datasets numbers).goes contents → (facts : List (Fact Term)) (next : ℕ)
+      → AreFactsFrom datasets 0 contents facts next → HaveRisingNames datasets contents → AreLawful datasets facts
+  meet_laws contents goes facts next are rising = record {
+    flat = facts_flat datasets 0 contents facts next are;
+    met = λ rules laws. documents_are_lawful datasets contents 0 facts next rules
+        (loaded_apart files datasets numbers contents goes needed.rising) rising are laws;
+  }
+
   -- all have one, and the files are opened
   pub loads_by : (demands_files datasets numbers).goes tt → (rose : Type 0) (before after : Option (List (List ℕ)))
       (result : Result Loaded Status) → LoadsFiles files datasets wanted numbers rose before after result
-      → Loads wanted (loads files datasets Needs) rose result
+      → Loads datasets wanted (loads files datasets Needs) rose result
   unfolding judges
-  loads_by have rose before after (Ok loaded) (contents, goes, (facts, are, some), asked) = (
+  loads_by have rose before after (Ok loaded) (contents, goes, (facts, are, some, rising), asked) = (
     facts,
     then_goes (judges (AreNeeded datasets Needs) (λ _. ⊥)) _ numbers facts needed
         (then_goes (demands_files datasets numbers) _ tt facts have
         (then_goes (loads_files files datasets numbers) _ contents facts goes (facts_go datasets contents facts loaded.next are))),
     some,
+    meet_laws contents goes facts loaded.next are rising,
   )
   loads_by have rose before after (Err refusal) (stops, asked) =
       then_stops (judges (AreNeeded datasets Needs) (λ _. ⊥)) _ numbers needed
@@ -282,7 +294,7 @@ module _ (files : Option Files) (datasets : List Dataset) (Needs : Dataset → T
   -- what is asked for where a dataset has no file, and where all have one
   pub demand_exit_asks : (told : Option (List (List ℕ))) (error : Status) (result : Result Loaded Status) → IsErrAnd result (λ handed. handed ≡ error)
       → Stops IsWant (IsCaused ⊥) (demands_files datasets numbers) error
-      → LoadsAsking told told wanted (loads files datasets Needs) result
+      → LoadsAsking told told datasets wanted (loads files datasets Needs) result
   demand_exit_asks told error (Ok _) handed stops = absurd handed
   demand_exit_asks told error (Err handed_on) handed stops =
       rw handed (found_asks (exit_asks (demands_files datasets numbers) then_loads
@@ -290,13 +302,14 @@ module _ (files : Option Files) (datasets : List Dataset) (Needs : Dataset → T
 
   pub loads_by_asks : (demands_files datasets numbers).goes tt → (rose : Type 0) (before after : Option (List (List ℕ)))
       (result : Result Loaded Status) → LoadsFiles files datasets wanted numbers rose before after result
-      → LoadsAsking before after wanted (loads files datasets Needs) result
-  loads_by_asks have rose before after (Ok loaded) (contents, goes, (facts, are, some), asked) = (
+      → LoadsAsking before after datasets wanted (loads files datasets Needs) result
+  loads_by_asks have rose before after (Ok loaded) (contents, goes, (facts, are, some, rising), asked) = (
     facts,
     have_asks have (later_asks (loads_files files datasets numbers) (λ it. judges (AreFactsOfFiles datasets it) (λ _. ⊥)) asked
         (quiet_asks (judges (AreFactsOfFiles datasets contents) (λ _. ⊥)) after (Ok facts) (quiet_judges _ _)
         (facts_go datasets contents facts loaded.next are))),
     some,
+    meet_laws contents goes facts loaded.next are rising,
   )
   loads_by_asks have rose before after (Err refusal) (stops, asked) =
       have_asks have (exit_asks (loads_files files datasets numbers) (λ it. judges (AreFactsOfFiles datasets it) (λ _. ⊥)) asked)
@@ -304,7 +317,7 @@ module _ (files : Option Files) (datasets : List Dataset) (Needs : Dataset → T
 -- want of memory, before anything is asked for
 pub wanting_asks : (files : Option Files) (datasets : List Dataset) (Needs : Dataset → Type 0) (wanted : Wanted) (told : Option (List (List ℕ))) (result : Result Loaded Status)
     → IsErrAnd result (λ handed. handed ≡ OutOfMemory)
-    → LoadsAsking told told wanted (loads files datasets Needs) result
+    → LoadsAsking told told datasets wanted (loads files datasets Needs) result
 wanting_asks files datasets Needs wanted told (Ok _) handed = absurd handed
 wanting_asks files datasets Needs wanted told (Err handed_on) handed =
     rw handed (early_want (loads files datasets Needs) told (first_way_asks (judges (AreNeeded datasets Needs) (λ _. ⊥)) _ [] (quiet_judges _ _).underway))

@@ -1,11 +1,13 @@
 -- The files of the datasets that are needed, each opened, and their facts.
 use Rattle.std.proofs.Common.{◌≡◌, ℕ, suc, List, [], ◌∷◌, ◌++◌, map, slice_get, Contains, Option, Some, refl, sym, ap, subst, ◌∙◌, append_assoc, append-nil}
 use Rattle.std.proofs.Common.{inl, inr}
-use Rattle.std.specs.Prelude.{IsSome}
+use Rattle.std.specs.Prelude.{AllPairs, IsSome}
+use Rattle.std.proofs.Common.{◌<◌, get_or, length, arith}
+use Rattle.std.proofs.lemmas.List.{get_or-map, length-map}
 use Rattle.std.proofs.lemmas.Option.{same_Some, none-some}
 use Rattle.esto_catalog.specs.declared.dataset.Dataset.{Dataset}
 use Rattle.esto_course.specs.Course.{judges, demands, gives, and_then, each}
-use Rattle.esto_fill.specs.Files.{AreFactsFrom}
+use Rattle.esto_fill.specs.Files.{AreApart, AreFactsFrom}
 use Rattle.esto_fill.specs.Laws.{FactsAreOne}
 use Rattle.esto_fill.specs.declared.datasets.DatasetBytes.{DatasetBytes}
 use Rattle.esto_ports.specs.Files.{Files}
@@ -17,12 +19,25 @@ use Rattle.esto_opening.specs.Calm.{Leads}
 use Rattle.esto_opening.specs.Fetch.{fetches}
 use Rattle.esto_opening.specs.declared.status.Status.{Status}
 use Rattle.esto_opening.proofs.LeadLemmas.{then-leads, leads-more, gives-leads, judges-leads, fetches-leads}
-use Rattle.esto_data.specs.Datasets.{AreFactsOfFiles, AreNeeded, IsSourceAt, Source, demands_file, loads, loads_next, opens_dataset, reads_data}
+use Rattle.esto_data.specs.Datasets.{AreFactsOfFiles, AreNeeded, IsSourceAt, Source, demands_file, loads, loads_files, loads_next, opens_dataset, reads_data}
 use Rattle.esto_data.specs.Exact.{HoldFacts, IsReadableDataset, files_of}
 use Rattle.esto_data.specs.declared.datasets.TheConstants.{DATASET_LIMIT}
 use Rattle.esto_data.proofs.LoadLemmas.{needed_one}
 
 -- ---- what was opened
+
+-- no two entries are of one dataset where the numbers rise
+pub entries_apart : (numbers : List ℕ) (entries : List DatasetBytes) → map (λ (entry : DatasetBytes). entry.dataset) entries ≡ numbers → AllPairs ◌<◌ numbers
+    → AreApart entries
+entries_apart numbers entries is rising i j d less within same =
+    let within_numbers : j < length numbers = omega (arith, within, length-map entries (λ (entry : DatasetBytes). entry.dataset), ap length is) in
+    let below = rising i j d.dataset less within_numbers in
+    let first : get_or numbers i d.dataset ≡ (get_or entries i d).dataset =
+    ap (λ (it : List ℕ). get_or it i d.dataset) (sym is)
+    ∙ get_or-map (λ (entry : DatasetBytes). entry.dataset) entries i d d.dataset (omega (arith, less, within)) in
+    let second : get_or numbers j d.dataset ≡ (get_or entries j d).dataset =
+    ap (λ (it : List ℕ). get_or it j d.dataset) (sym is) ∙ get_or-map (λ (entry : DatasetBytes). entry.dataset) entries j d d.dataset within in
+    omega (arith, below, first, second, same)
 
 -- each of the files is that of the dataset of one of the numbers, in order, and was opened
 pub record AreOpenedFiles (files : Option Files) (datasets : List Dataset) (numbers : List ℕ) (entries : List DatasetBytes) : Type 0 where
@@ -61,6 +76,13 @@ module _ (files : Option Files) (datasets : List Dataset) where
         found.1 ∙ ap (λ (it : List DatasetBytes). it ++ found.0) next_is ∙ append_assoc so_far (entry ∷ []) found.0,
         one_more number bytes rest found.0 opens found.2,
       )
+
+  -- no two of the files that are opened are of one dataset where the numbers rise
+  pub loaded_apart : (numbers : List ℕ) (entries : List DatasetBytes) → (loads_files files datasets numbers).goes entries → AllPairs ◌<◌ numbers
+      → AreApart entries
+  loaded_apart numbers entries goes rising =
+      let found = opened_from numbers 0 [] entries goes in
+      entries_apart numbers entries (ap (map (λ (entry : DatasetBytes). entry.dataset)) found.1 ∙ found.2.numbers_are) rising
 
   pub are_loaded : (Needs : Dataset → Type 0) (facts : List (Fact Term)) → (loads files datasets Needs).goes facts → AreLoaded files datasets Needs facts
   unfolding and_then judges

@@ -1,21 +1,25 @@
 -- What is said over the facts that are left, said over all facts.
-use Rattle.std.proofs.Common.{◌≡◌, ◌↔◌, inl, inr, ℕ, List, [], ◌∷◌, length, map, Contains, Option, Result, Ok, Err, sym, ◌∙◌, subst}
+use Rattle.std.proofs.Common.{◌≡◌, ◌↔◌, inl, inr, ℕ, List, [], ◌∷◌, length, map, Contains, Result, Ok, Err, sym, ◌∙◌, subst}
+use Rattle.esto_catalog.specs.declared.catalogue.Catalogue.{Catalogue}
 use Rattle.esto_catalog.specs.declared.catalogue.Shape.{Shape}
+use Rattle.esto_constraint.specs.Constraints.{rules_of}
 use Rattle.esto_course.specs.Course.{Course, and_then, gives, judges}
 use Rattle.esto_course.specs.Course.Stops.{is_free, refused}
 use Rattle.esto_fill.specs.Databases.{database_of}
 use Rattle.esto_fill.specs.Filled.{Fills, IsOpenedAs}
 use Rattle.esto_ports.specs.Marks.{without_mark}
 use Rattle.esto_fill.specs.Laws.{AnswersRestOnWantedFacts}
-use Rattle.esto_fill.specs.Texts.{AreTextsOf, IsFirstNodeColumn}
+use Rattle.esto_fill.specs.Texts.{AreTextsOf, AreTextViews, HaveTextsOnly, IsFirstNodeColumn, IsFirstNodeView}
+use Rattle.esto_fill.specs.Trials.{IsEnoughFor, IsTrialOf}
 use Rattle.esto_fill.specs.Wanted.{Leaves}
-use Rattle.esto_fill.proofs.WantedLemmas.{has_asked}
+use Rattle.esto_fill.proofs.TrialLemmas.{view_same}
+use Rattle.esto_fill.proofs.WantedLemmas.{has_asked, leaves_drop}
 use Rattle.esto_fill.specs.declared.filled.FillError.{FillError}
 use Rattle.esto_fill.specs.declared.filled.FillError.TheVariants as filled
-use Rattle.esto_fill.specs.declared.loaded.Loaded.{Loaded}
-use Rattle.esto_fill.specs.declared.wanted.Wanted.TheVariants.{Every, Asked}
+use Rattle.esto_fill.specs.declared.trial.Trial.{Trial}
+use Rattle.esto_fill.specs.declared.wanted.Wanted.{Wanted}
+use Rattle.esto_fill.specs.declared.wanted.Wanted.TheVariants.{Asked}
 use Rattle.esto_opening.specs.Answers.{Answers}
-use Rattle.esto_opening.specs.Asked.{AsksIn}
 use Rattle.esto_fragments.specs.Fragments.{Stored}
 use Rattle.esto_fragments.specs.Texts.{union_rows_text}
 use Rattle.esto_opening.specs.declared.reply.Reply.{Reply}
@@ -25,13 +29,16 @@ use Rattle.esto_opening.specs.declared.status.Status.TheVariants as status
 use Rattle.esto_query.specs.Making.{query_of}
 use Rattle.esto_query.specs.declared.query.Query.{Query}
 use Rattle.esto_semantics.specs.Queries.{ConjunctiveQuery, IsAnswer}
+use Rattle.esto_semantics.specs.Rules.{Rule}
 use Rattle.esto_semantics.specs.declared.fact.Fact.{Fact}
 use Rattle.esto_semantics.specs.declared.fact.Value.{Value}
 use Rattle.esto_semantics.specs.declared.fact.Value.TheVariants.{Text}
 use Rattle.esto_term.specs.declared.term.Term.{Term}
-use Rattle.esto_term.proofs.ListLemmas.{Contains-head, Contains-map, Contains-map_from}
+use Rattle.esto_term.proofs.ListLemmas.{Contains-at, Contains-head, Contains-map, Contains-map_from}
+use Rattle.esto_views.specs.Fragments.{views_of}
 use Rattle.esto_data.specs.Answer.{IsUnionAnswerOfFacts, answers_facts}
-use Rattle.esto_data.specs.Datasets.{LoadsAsking, named_by}
+use Rattle.esto_data.specs.Audit.{judges_views}
+use Rattle.esto_data.specs.Datasets.{AreLawful, named_by}
 use Rattle.esto_data.specs.Fill.{IsFilled, IsRowOfView, fill_status, fills_file}
 
 -- ---- sets of rows that have the same rows
@@ -143,12 +150,46 @@ module _ (law : AnswersRestOnWantedFacts) (stored : Stored) (facts some : List (
 
 -- ---- `audit`
 
--- where all facts are wanted, all are loaded
-pub loads_all : (course : Course Status (List (Fact Term))) (loaded : Loaded)
-    → (facts : List (Fact Term)) × course.goes facts × (loaded.facts ≡ facts) → course.goes loaded.facts
-loads_all course loaded (facts, goes, some) = subst (λ those. course.goes those) (sym some) goes
+-- what is left of the facts is enough for the trial
+pub enough_left : (catalogue : Catalogue) (trial : Trial) → IsTrialOf catalogue trial → (facts some : List (Fact Term))
+    → Leaves trial.wanted facts some → AreLawful catalogue.datasets facts → IsEnoughFor catalogue (rules_of trial.laws) facts some
+enough_left catalogue trial are facts some leaves lawful = record {
+  flat = lawful.flat;
+  met = lawful.met (rules_of trial.laws) are.laws;
+  bodies = are.wants.0;
+  covers = are.wants.2;
+  drops = leaves_drop are.wants.0 facts some (subst (λ (it : Wanted). Leaves it facts some) are.wants.1 leaves);
+}
 
-pub loads_all_asks : {before after : Option (List (List ℕ))} (course : Course Status (List (Fact Term))) (loaded : Loaded)
-    → LoadsAsking before after Every course (Ok loaded) → AsksIn before after course (Ok loaded.facts)
-loads_all_asks {before = before} {after = after} course loaded (facts, asks, some) =
-    subst (λ those. AsksIn before after course (Ok those)) (sym some) asks
+module _ (catalogue : Catalogue) (laws : List Rule) (facts some : List (Fact Term)) (enough : IsEnoughFor catalogue laws facts some) where
+  abbrev its_views : List ConjunctiveQuery
+  its_views = views_of catalogue.fragments
+
+  same_in : (view : ConjunctiveQuery) → Contains its_views view → (values : List Value)
+      → IsAnswer view (database_of some) values ↔ IsAnswer view (database_of facts) values
+  same_in = view_same (rules_of catalogue.rules) laws its_views facts some enough
+
+  texts_in : (view : ConjunctiveQuery) → Contains its_views view → HaveTextsOnly (IsAnswer view (database_of some))
+      → HaveTextsOnly (IsAnswer view (database_of facts))
+  texts_in view inside texts values answer = texts values ((same_in view inside values).1 answer)
+
+  -- what is judged of the views over what is left is so over all facts
+  pub judged_all : (result : Result (Unit {0}) Status) → Answers (judges_views catalogue some) ⊥ result → Answers (judges_views catalogue facts) ⊥ result
+  judged_all result answers =
+      judged_more (λ _. AreTextViews its_views (database_of some)) (λ _. AreTextViews its_views (database_of facts))
+      (λ refusal. (column : ℕ) × IsFirstNodeView its_views (database_of some) column × (refusal ≡ status.NodeInRow column))
+      (λ refusal. (column : ℕ) × IsFirstNodeView its_views (database_of facts) column × (refusal ≡ status.NodeInRow column))
+      (λ value texts view inside. texts_in view inside (texts view inside))
+      (λ said (column, first, tells). (
+        column,
+        record {
+          number = first.number;
+          view = first.view;
+          there = first.there;
+          first = first_alike (IsAnswer first.view (database_of some)) (IsAnswer first.view (database_of facts))
+              (same_in first.view (Contains-at its_views first.number first.view first.there)) column first.first;
+          before = λ earlier other less at. texts_in other (Contains-at its_views earlier other at) (first.before earlier other less at);
+        },
+        tells,
+      ))
+      result answers

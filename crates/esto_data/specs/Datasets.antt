@@ -6,6 +6,8 @@ use Rattle.esto_catalog.specs.declared.dataset.Dataset.{Dataset}
 use Rattle.esto_course.specs.Course.{Course, Stops, judges, demands, gives, and_then, each}
 use Rattle.esto_fill.specs.Files.{AreFactsFrom, IsLoadedFrom, dataset_fault}
 use Rattle.esto_fill.specs.declared.datasets.DatasetBytes.{DatasetBytes}
+use Rattle.esto_semantics.specs.Rules.{AreMet}
+use Rattle.esto_fill.specs.Lawful.{AreLaws}
 use Rattle.esto_fill.specs.Wanted.{Leaves}
 use Rattle.esto_fill.specs.declared.loaded.Loaded.{Loaded}
 use Rattle.esto_fill.specs.declared.wanted.Wanted.{Wanted}
@@ -16,6 +18,7 @@ use Rattle.esto_ports.specs.Files.{Files}
 use Rattle.esto_ports.specs.declared.file_fault.FileFault.{FileFault}
 use Rattle.esto_semantics.specs.Maps.{AreFlat}
 use Rattle.esto_semantics.specs.Queries.{ConjunctiveQuery}
+use Rattle.esto_semantics.specs.Rules.{Rule}
 use Rattle.esto_semantics.specs.declared.fact.Fact.{Fact}
 use Rattle.esto_term.specs.declared.term.Term.{Term}
 use Rattle.esto_opening.specs.Answers.{IsWant, IsCaused}
@@ -117,16 +120,22 @@ named_by queries = Asked (map (λ query. (query_of query).body) queries)
 abbrev pub AddsNeeded : Type 0 → ℕ → List ℕ → List ℕ → Type 0
 AddsNeeded Needed number old new = (Needed × (new ≡ old ++ number ∷ [])) ⊎ (¬ Needed × (new ≡ old))
 
--- What is loaded is what is left of facts with which the course goes on; or it stops.
-abbrev pub Loads : Wanted → Course Status (List (Fact Term)) → Type 0 → Result Loaded Status → Type 0
-Loads wanted course rose (Ok loaded) = (facts : List (Fact Term)) × course.goes facts × Leaves wanted facts loaded.facts
-Loads wanted course rose (Err refusal) = Stops IsWant (IsCaused rose) course refusal
+-- The facts are over constants and plain terms, and meet rules that those of the datasets' files meet by law.
+pub record AreLawful (datasets : List Dataset) (facts : List (Fact Term)) : Type 0 where
+  pub flat : AreFlat facts
+  pub met : (rules : List Rule) → AreLaws datasets rules → AreMet facts rules
+
+-- What is loaded is what is left of facts with which the course goes on, and which meet the laws; or it stops.
+abbrev pub Loads : List Dataset → Wanted → Course Status (List (Fact Term)) → Type 0 → Result Loaded Status → Type 0
+Loads datasets wanted course rose (Ok loaded) =
+    (facts : List (Fact Term)) × course.goes facts × Leaves wanted facts loaded.facts × AreLawful datasets facts
+Loads datasets wanted course rose (Err refusal) = Stops IsWant (IsCaused rose) course refusal
 
 -- To the names that were asked for came those for which the course asked, up to the facts of which some are loaded or to its stop.
-abbrev pub LoadsAsking : Option (List (List ℕ)) → Option (List (List ℕ)) → Wanted → Course Status (List (Fact Term)) → Result Loaded Status → Type 0
-LoadsAsking before after wanted course (Ok loaded) =
-    (facts : List (Fact Term)) × AsksIn before after course (Ok facts) × Leaves wanted facts loaded.facts
-LoadsAsking before after wanted course (Err refusal) = AsksIn before after course (Err refusal)
+abbrev pub LoadsAsking : Option (List (List ℕ)) → Option (List (List ℕ)) → List Dataset → Wanted → Course Status (List (Fact Term)) → Result Loaded Status → Type 0
+LoadsAsking before after datasets wanted course (Ok loaded) =
+    (facts : List (Fact Term)) × AsksIn before after course (Ok facts) × Leaves wanted facts loaded.facts × AreLawful datasets facts
+LoadsAsking before after datasets wanted course (Err refusal) = AsksIn before after course (Err refusal)
 
 -- After what was loaded come the facts of the file of the dataset of the number, with these bytes, as far as they are wanted.
 abbrev pub LoadsMore : List Dataset → Wanted → ℕ → List ℕ → Loaded → Loaded → Type 0

@@ -1,12 +1,15 @@
 //! The command `audit`.
 ghost use Rattle.std.specs.Prelude.{◌≡◌, ◌↔◌, ◌<◌, ◌≤◌, ℕ, List, length, IfOk};
+ghost use Rattle.esto_constraint.specs.Constraints.{rules_of};
 ghost use Rattle.esto_fragments.specs.Fragments.{Stored, IsStoredAt};
 ghost use Rattle.esto_fill.specs.Databases.{database_of};
 ghost use Rattle.esto_fill.specs.Texts.{AreTextViews};
+ghost use Rattle.esto_fill.specs.Trials.{IsEnoughFor, IsTrialOf};
 ghost use Rattle.esto_steps.specs.Rows.{IsRowOf, held_by};
 ghost use Rattle.esto_ports.specs.Faults.{Rises};
 ghost use Rattle.esto_run.specs.Stores.{IsFileRow};
 ghost use Rattle.esto_semantics.specs.declared.fact.Fact.{Fact};
+ghost use Rattle.esto_term.specs.declared.term.Term.{Term};
 ghost use Rattle.esto_views.specs.Fragments.{views_of};
 ghost use Rattle.esto_opening.specs.Answers.{Answers};
 ghost use Rattle.esto_opening.specs.Asked.{AsksIn};
@@ -14,7 +17,10 @@ ghost use Rattle.esto_data.specs.Audit.{OpensNextRows, OpensRows, ReadsRows, aud
 
 use crate::datasets::load_all;
 use esto_catalog::{Catalogue, catalogues_are_sound};
-use esto_fill::{AnswerError, Loaded, TextRowsList, audit_views, audits_are_over_files};
+use esto_fill::{
+    AnswerError, Loaded, TextRowsList, Trial, audit_tried, audit_views, audits_are_over_files,
+    trial_of,
+};
 use esto_fragments::FRAGMENT_LIMIT;
 use esto_opening::{Reply, Status, fetch, open_catalogue};
 use esto_ports::{FileError, Shelf};
@@ -95,10 +101,12 @@ fn open_all_rows<S: Shelf>(
     Ok(rows)
 }
 
-// The facts meet the rules, and the rows of the fragments are those of their views; or the status of the first difference.
+// Facts of which what is loaded is enough meet the rules, and the rows of the fragments are those of their views; or the
+// status of the first difference.
 fn compare(
     alloc: Global,
     catalogue: &Catalogue,
+    trial: &Trial,
     loaded: &Loaded,
     rows: &TextRowsList,
 ) -> Result<(), Status>
@@ -107,10 +115,12 @@ fn compare(
         (database_of loaded.now.facts) }
     ensures { (contents : ℕ → List ℕ) → ((fact : Fact (List ℕ)) → IsRowOf (held_by rows.now) fact
         ↔ IsFileRow catalogue.now.stores contents fact)
-        → Answers (compares catalogue.now loaded.now.facts contents) ⊥ result }
+        → (facts : List (Fact Term))
+        → IsEnoughFor catalogue.now (rules_of trial.now.laws) facts loaded.now.facts
+        → Answers (compares catalogue.now facts contents) ⊥ result }
 {
     audits_are_over_files();
-    match esto_fill::audit(alloc, catalogue, loaded, rows)? {
+    match audit_tried(alloc, catalogue, &trial.laws, loaded, rows)? {
         None => Ok(()),
         Some(difference) => Err(Status::Differs(difference)),
     }
@@ -126,28 +136,52 @@ fn audit_text(alloc: Global, catalogue: &Catalogue) -> Result<Bytes, OutOfMemory
     Ok(Bytes::from_string(text))
 }
 
-// Judges the views over the facts, opens the files of all fragments, and compares both.
+// Judges the views over facts of which what is loaded is enough, opens the files of all fragments, and compares both.
 fn audit_facts<S: Shelf>(
     alloc: Global,
     shelf: &mut S,
     catalogue: &Catalogue,
+    trial: &Trial,
     loaded: &Loaded,
 ) -> Result<Reply, Status>
-    ensures answer { Answers (audits_facts (S.files shelf.old) catalogue.now loaded.now.facts)
+    ensures answer { (facts : List (Fact Term))
+        → IsEnoughFor catalogue.now (rules_of trial.now.laws) facts loaded.now.facts
+        → Answers (audits_facts (S.files shelf.old) catalogue.now facts)
         (Rises S.faults shelf.old shelf.new) result }
-    ensures asked { AsksIn (S.asked shelf.old) (S.asked shelf.new)
-        (audits_facts (S.files shelf.old) catalogue.now loaded.now.facts) result }
+    ensures asked { (facts : List (Fact Term))
+        → IsEnoughFor catalogue.now (rules_of trial.now.laws) facts loaded.now.facts
+        → AsksIn (S.asked shelf.old) (S.asked shelf.new)
+        (audits_facts (S.files shelf.old) catalogue.now facts) result }
     ensures files { S.files shelf.new ≡ S.files shelf.old }
     ensures later { S.faults shelf.old ≤ S.faults shelf.new }
 {
     judge_views(alloc, catalogue, loaded)?;
     let rows = open_all_rows(alloc, shelf, catalogue)?;
-    compare(alloc, catalogue, loaded, &rows)?;
+    compare(alloc, catalogue, trial, loaded, &rows)?;
     let text = audit_text(alloc, catalogue)?;
     Ok(Reply::Done(text))
 }
 
-// Loads all datasets, and audits their facts.
+// Loads of all datasets what the trial wants, and audits their facts.
+fn audit_trial<S: Shelf>(
+    alloc: Global,
+    shelf: &mut S,
+    catalogue: &Catalogue,
+    trial: &Trial,
+) -> Result<Reply, Status>
+    requires { IsTrialOf catalogue.now trial.now }
+    ensures answer { Answers (audits_catalogue (S.files shelf.old) catalogue.now)
+        (Rises S.faults shelf.old shelf.new) result }
+    ensures asked { AsksIn (S.asked shelf.old) (S.asked shelf.new)
+        (audits_catalogue (S.files shelf.old) catalogue.now) result }
+    ensures files { S.files shelf.new ≡ S.files shelf.old }
+    ensures later { S.faults shelf.old ≤ S.faults shelf.new }
+{
+    let loaded = load_all(alloc, shelf, catalogue, &trial.wanted)?;
+    audit_facts(alloc, shelf, catalogue, trial, &loaded)
+}
+
+// Loads all datasets, as far as the audit rests on them, and audits their facts.
 fn audit_catalogue<S: Shelf>(
     alloc: Global,
     shelf: &mut S,
@@ -160,8 +194,8 @@ fn audit_catalogue<S: Shelf>(
     ensures files { S.files shelf.new ≡ S.files shelf.old }
     ensures later { S.faults shelf.old ≤ S.faults shelf.new }
 {
-    let loaded = load_all(alloc, shelf, catalogue)?;
-    audit_facts(alloc, shelf, catalogue, &loaded)
+    let trial = trial_of(alloc, catalogue)?;
+    audit_trial(alloc, shelf, catalogue, &trial)
 }
 
 /// Fetches and reads the catalogue, loads all datasets, opens the files of all fragments, and tells that the facts meet the

@@ -5,7 +5,7 @@ ghost use Rattle.esto_catalog.specs.declared.dataset.Dataset.{Dataset};
 ghost use Rattle.esto_ports.specs.Faults.{Rises};
 ghost use Rattle.esto_opening.specs.Answers.{Answers};
 ghost use Rattle.esto_data.specs.Datasets.{AddsNeeded, AreNeeded, IsAny, HasRelation, IsSourceAt, Loads, LoadsAsking, LoadsFiles, LoadsNext, Names, ReadsData};
-ghost use Rattle.esto_fill.specs.declared.wanted.Wanted.TheVariants.{Every, Asked};
+ghost use Rattle.esto_fill.specs.declared.wanted.Wanted.TheVariants.{Asked};
 ghost use Rattle.esto_data.specs.Datasets.{Source, demands_file, demands_files, loads};
 
 use esto_catalog::{Catalogue, Dataset, Datasets, relation_count};
@@ -174,10 +174,10 @@ pub fn load_named<S: Shelf>(
     catalogue: &Catalogue,
     body: &Atoms,
 ) -> Result<Loaded, Status>
-    ensures answer { Loads (Asked (body.now ∷ []))
+    ensures answer { Loads catalogue.now.datasets (Asked (body.now ∷ []))
         (loads (S.files shelf.old) catalogue.now.datasets (Names body.now))
         (Rises S.faults shelf.old shelf.new) result }
-    ensures asked { LoadsAsking (S.asked shelf.old) (S.asked shelf.new)
+    ensures asked { LoadsAsking (S.asked shelf.old) (S.asked shelf.new) catalogue.now.datasets
         (Asked (body.now ∷ []))
         (loads (S.files shelf.old) catalogue.now.datasets (Names body.now)) result }
     ensures files { S.files shelf.new ≡ S.files shelf.old }
@@ -189,20 +189,22 @@ pub fn load_named<S: Shelf>(
     load_files(alloc, shelf, catalogue, &wanted, &numbers)
 }
 
-/// Loads the facts of the files of all datasets, in order, in the same way.
+/// Loads, of the facts of the files of all datasets, in order, those that are wanted, in the same way.
 pub fn load_all<S: Shelf>(
     alloc: Global,
     shelf: &mut S,
     catalogue: &Catalogue,
+    wanted: &Wanted,
 ) -> Result<Loaded, Status>
-    ensures answer { Loads Every (loads (S.files shelf.old) catalogue.now.datasets IsAny)
+    ensures answer { Loads catalogue.now.datasets wanted.now
+        (loads (S.files shelf.old) catalogue.now.datasets IsAny)
         (Rises S.faults shelf.old shelf.new) result }
-    ensures asked { LoadsAsking (S.asked shelf.old) (S.asked shelf.new) Every
-        (loads (S.files shelf.old) catalogue.now.datasets IsAny) result }
+    ensures asked { LoadsAsking (S.asked shelf.old) (S.asked shelf.new) catalogue.now.datasets
+        wanted.now (loads (S.files shelf.old) catalogue.now.datasets IsAny) result }
     ensures files { S.files shelf.new ≡ S.files shelf.old }
     ensures later { S.faults shelf.old ≤ S.faults shelf.new }
 {
     let numbers = all_datasets(alloc, &catalogue.datasets)?;
     demand_files(alloc, &catalogue.datasets, &numbers)?;
-    load_files(alloc, shelf, catalogue, &Wanted::Every, &numbers)
+    load_files(alloc, shelf, catalogue, wanted, &numbers)
 }

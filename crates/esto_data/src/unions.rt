@@ -65,10 +65,11 @@ pub fn load_union<S: Shelf>(
     catalogue: &Catalogue,
     queries: &Queries,
 ) -> Result<Loaded, Status>
-    ensures answer { Loads (named_by queries.now) (loads (S.files shelf.old) catalogue.now.datasets
-        (OneNames (map query_of queries.now))) (Rises S.faults shelf.old shelf.new) result }
-    ensures asked { LoadsAsking (S.asked shelf.old) (S.asked shelf.new) (named_by queries.now)
-        (loads (S.files shelf.old) catalogue.now.datasets
+    ensures answer { Loads catalogue.now.datasets (named_by queries.now)
+        (loads (S.files shelf.old) catalogue.now.datasets (OneNames (map query_of queries.now)))
+        (Rises S.faults shelf.old shelf.new) result }
+    ensures asked { LoadsAsking (S.asked shelf.old) (S.asked shelf.new) catalogue.now.datasets
+        (named_by queries.now) (loads (S.files shelf.old) catalogue.now.datasets
         (OneNames (map query_of queries.now))) result }
     ensures files { S.files shelf.new ≡ S.files shelf.old }
     ensures later { S.faults shelf.old ≤ S.faults shelf.new }

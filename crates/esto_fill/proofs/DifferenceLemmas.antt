@@ -6,17 +6,14 @@ use Rattle.std.proofs.lemmas.Bool.{cases_order}
 use Rattle.std.proofs.lemmas.List.{get_or_past, length-map}
 use Rattle.std.proofs.lemmas.Option.{get_or_from_slice_get, same_Some, slice_get_cases, slice_get_within}
 use Rattle.esto_constraint.specs.Constraints.{rule_of, rules_of}
-use Rattle.esto_constraint.specs.EncodingRules.{written}
-use Rattle.esto_constraint.specs.Matches.{IsFirstBroken as IsFirstUnmet, LeastActiveIsLeast}
 use Rattle.esto_constraint.specs.declared.rule.Constraint.{Constraint}
 use Rattle.esto_steps.specs.Rows.{IsRowOf, held_by}
 use Rattle.esto_query.specs.Making.{query_of}
 use Rattle.esto_query.specs.Rows.{row_cmp}
-use Rattle.esto_query.specs.Valuations.{Assignment, map_of}
 use Rattle.esto_query.specs.declared.query.Name.{Name}
 use Rattle.esto_semantics.specs.Facts.{Database}
 use Rattle.esto_semantics.specs.Queries.{ConjunctiveQuery, IsAnswer}
-use Rattle.esto_semantics.specs.Rules.{Rule, IsRule, AreRules, body_of, Meets, AreMet}
+use Rattle.esto_semantics.specs.Rules.{Rule, IsRule, AreRules, Meets, AreMet}
 use Rattle.esto_semantics.specs.Standing.{Stands, RulesStand}
 use Rattle.esto_semantics.specs.Views.{IsViewRow}
 use Rattle.esto_semantics.specs.declared.fact.Fact.{Fact}
@@ -30,10 +27,9 @@ use Rattle.esto_term.proofs.PlaceLemmas.{Contains-take_in}
 use Rattle.esto_views.specs.Fragments.{views_of}
 use Rattle.esto_views.specs.declared.fragments.FragmentDef.{FragmentDef}
 use Rattle.esto_fill.specs.Databases.{value_of, database_of}
-use Rattle.esto_fill.specs.Differences.{AreOne, Audits, HoldViewRows, IsFirstBroken, IsInOne, IsLeastApart, IsOfView, at}
+use Rattle.esto_fill.specs.Differences.{AreOne, Audits, HoldViewRows, IsInOne, IsLeastApart, IsOfView, at}
 use Rattle.esto_fill.specs.Judging.{IsText, JudgesFragment, JudgesFragments, JudgesRules}
 use Rattle.esto_fill.specs.Placing.{IsApart, IsApartAt, IsImageOf, text_of}
-use Rattle.esto_fill.specs.Records.{IsRecordOf}
 use Rattle.esto_fill.specs.Texts.{AreTextViews, HaveTextsOnly}
 use Rattle.esto_fill.specs.declared.apart.Apart.TheVariants as apart
 use Rattle.esto_ports.specs.declared.difference.Difference.{Difference}
@@ -58,30 +54,6 @@ are_rules each rules rule inside = let from = Contains-map_from rule_of rules ru
 
 pub first_rules : (rules : List Rule) (count : ℕ) → AreRules rules → AreRules (take count rules)
 first_rules rules count are rule inside = are rule (Contains-take_in rules count rule inside)
-
-pub rule_broken : (stand : RulesStand) (least : LeastActiveIsLeast) (facts : List (Fact Term)) (stands : Stands facts value_of (database_of facts))
-    (rules : List Constraint) (are : AreRules (rules_of rules)) (place number : ℕ) (constraint : Constraint) (valuation : Assignment) (places : List ℕ)
-    (cells : Row) → number ≡ place + 1 → slice_get rules place ≡ Some constraint → IsFirstUnmet (rules_of rules) facts place valuation places
-    → IsRecordOf (written constraint) (body_of (rule_of constraint)) (map_of valuation) cells
-    → IsFirstBroken (rules_of rules) (map written rules) facts number cells
-rule_broken stand least facts stands rules are place number constraint valuation places cells counted there broken shown =
-    let same : rule_of constraint ≡ broken.rule = same_Some (rule_of constraint) broken.rule
-    (sym (map_at rule_of rules place constraint there) ∙ broken.there) in
-    let active = least broken.rule facts valuation places broken.active in
-    record {
-      place = place;
-      counted = omega (arith, counted);
-      rule = broken.rule;
-      there = broken.there;
-      own = written constraint;
-      named = map_at written rules place constraint there;
-      m = map_of valuation;
-      places = places;
-      active = active.0;
-      least = active.1;
-      before = met_meets stand facts stands (take place (rules_of rules)) (first_rules (rules_of rules) place are) broken.before;
-      shown = subst (λ rule. IsRecordOf (written constraint) (body_of rule) (map_of valuation) cells) same shown;
-    }
 
 -- ---- two sets of rows of texts, by lists of rows of constants
 
@@ -290,3 +262,16 @@ audited rules own names views facts rows None meets judged = record { meets = me
 audited rules own names views facts rows (Some (Broken number cells)) meets judged = absurd judged
 audited rules own names views facts rows (Some (Missing name row)) meets judged = (meets, judged)
 audited rules own names views facts rows (Some (Extra name row)) meets judged = (meets, judged)
+
+-- a rule is broken, or each is met and the fragments are judged
+pub audited_broken : (rules : List Rule) (own : List (List Name)) (names : List (List ℕ)) (views : List ConjunctiveQuery) (facts : List (Fact Term))
+    (Holds : Fact (List ℕ) → Type 0) (outcome : Option Difference) → is_some outcome ≡ true → JudgesRules rules own facts outcome
+    → Audits rules own names views facts Holds outcome
+audited_broken rules own names views facts Holds None some judged = absurd (cc)
+audited_broken rules own names views facts Holds (Some difference) some judged = audited_rule rules own names views facts Holds difference judged
+
+pub audited_apart : (rules : List Rule) (own : List (List Name)) (names : List (List ℕ)) (views : List ConjunctiveQuery) (facts : List (Fact Term))
+    (rows : List (List Row)) (broken outcome : Option Difference) → is_some broken ≡ false → JudgesRules rules own facts broken
+    → JudgesFragments names views (database_of facts) rows outcome → Audits rules own names views facts (IsRowOf (held_by rows)) outcome
+audited_apart rules own names views facts rows None outcome none meets judged = audited rules own names views facts rows outcome meets judged
+audited_apart rules own names views facts rows (Some difference) outcome none meets judged = absurd (cc)

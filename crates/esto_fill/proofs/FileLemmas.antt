@@ -5,7 +5,7 @@ use Rattle.std.proofs.Common.{sym, ap, ◌∙◌, subst, append_assoc, append-ni
 use Rattle.std.proofs.lemmas.List.{take_all}
 use Rattle.std.proofs.lemmas.List.Elements.{Contains-append_cases}
 use Rattle.std.specs.Prelude.{true, false, Result, Ok, Err}
-use Rattle.std.proofs.lemmas.Option.{slice_get_within}
+use Rattle.std.proofs.lemmas.Option.{same_Some, slice_get_within}
 use Rattle.esto_catalog.specs.declared.dataset.Dataset.{Dataset}
 use Rattle.esto_docmodel.specs.DocumentFacts.{DocFact, value, below, row_of, flat}
 use Rattle.esto_docmodel.specs.Encodings.{size, entering, belows, holding, facts_from, facts_of}
@@ -27,15 +27,12 @@ use Rattle.esto_semantics.proofs.FactLemmas.{Mentions-append}
 use Rattle.esto_term.specs.Kinds.{IsFlat}
 use Rattle.esto_term.specs.declared.term.Term.{Term}
 use Rattle.esto_term.specs.declared.term.Term.TheVariants.{Const, Plain}
-use Rattle.esto_term.proofs.ListLemmas.{Contains-nil, Contains-cases, Contains-map_from, HoldsBelow}
+use Rattle.esto_term.proofs.ListLemmas.{Contains-nil, Contains-cases, Contains-map_from, Contains-one, HoldsBelow}
 use Rattle.esto_term.proofs.PlaceLemmas.{take-item}
-use Rattle.esto_fill.specs.Files.{dataset_fault, nodes_in, AreFactsByModel, AreFactsOf, AreFactsFrom, AreReadable, AreWantedOf, GivesFacts, IsLoadedFrom}
+use Rattle.esto_fill.specs.Files.{dataset_fault, nodes_in, AreFactsByModel, AreFactsOf, AreFactsFrom, AreReadable, AreWantedOf, GivesFacts, HaveRisingNames, IsLoadedFrom, RiseByModel}
 use Rattle.esto_fill.specs.Wanted.{IsKeptFor, Leaves, is_wanted}
 use Rattle.esto_fill.specs.declared.wanted.Wanted.{Wanted}
 use Rattle.esto_fill.specs.declared.wanted.Wanted.TheVariants.{Every, Asked}
-use Rattle.esto_fill.specs.Lawful.{IsLawfulBy}
-use Rattle.esto_docmodel.specs.Rising.{IsRising}
-use Rattle.esto_docmodel.proofs.FactLemmas.{these_meet_rules}
 use Rattle.esto_fill.proofs.WantedLemmas.{AreOver, chosen, kept_leaves, leaves_append, leaves_flat}
 use Rattle.esto_fill.specs.declared.loaded.Loaded.{Loaded}
 use Rattle.esto_fill.specs.declared.datasets.DatasetBytes.{DatasetBytes}
@@ -171,7 +168,7 @@ module _ (dataset : Dataset) (wanted : Wanted) (bytes : List ℕ) (first : ℕ) 
       some = some_of;
       next = omega arith;
       flat = some_flat;
-      lawful = tt;
+      rising = tt;
     },
   )
 
@@ -185,14 +182,9 @@ module _ (dataset : Dataset) (wanted : Wanted) (bytes : List ℕ) (first : ℕ) 
       some = some_of;
       next = omega arith;
       flat = some_flat;
-      lawful = tt;
+      rising = tt;
     },
   )
-
-documents_lawful : (wanted : Wanted) (base first : ℕ) (forest : Forest) (facts : List (Fact Term)) → Leaves wanted (facts_of base first forest) facts
-    → IsRising forest → IsLawfulBy DataModel.Documents wanted base facts
-documents_lawful Every base first forest facts some rising = these_meet_rules base first forest facts some rising
-documents_lawful (Asked bodies) base first forest facts some rising = tt
 
 pub documents_give : (dataset : Dataset) (wanted : Wanted) (bytes : List ℕ) (first : ℕ) (relations : Kept) → IsKeptFor wanted dataset.base relations
     → (result : Result Encoded FileError)
@@ -208,7 +200,7 @@ documents_give dataset wanted bytes first relations kept (Ok encoded) (clear, ar
         some = some;
         next = are.next;
         flat = leaves_flat wanted _ encoded.facts some (documents_flat dataset.base first (documents (file_trees dataset.layout bytes)));
-        lawful = documents_lawful wanted dataset.base first (documents (file_trees dataset.layout bytes)) encoded.facts some are.rising;
+        rising = are.rising;
       },
     )
 documents_give dataset wanted bytes first relations kept (Err (content.Fault found)) fault = fault
@@ -252,7 +244,7 @@ module _ (datasets : List Dataset) (files : List DatasetBytes) where
 -- where all relations are wanted, all facts are loaded
 pub loaded_all : (datasets : List Dataset) (files : List DatasetBytes) (loaded : Loaded) → IsLoadedFrom datasets Every files loaded
     → AreFactsFrom datasets 0 files loaded.facts loaded.next
-loaded_all datasets files loaded (facts, are, some) =
+loaded_all datasets files loaded (facts, are, some, rising) =
     subst (λ those. AreFactsFrom datasets 0 files those loaded.next) (sym some) are
 
 -- all files are loaded, where the loop goes over a list that is theirs
@@ -269,10 +261,23 @@ pub load_more : (datasets : List Dataset) (wanted : Wanted) (files : List Datase
     (own : Encoded) (facts : List (Fact Term)) → IsLoadedFrom datasets wanted files old → slice_get datasets number ≡ Some dataset
     → AreWantedOf dataset.model dataset wanted bytes old.next own → facts ≡ old.facts ++ own.facts
     → (all : List (Fact Term)) × AreFactsFrom datasets 0 (files ++ record { dataset = number; bytes = bytes } ∷ []) all own.next
-    × Leaves wanted all facts
-load_more datasets wanted files number bytes dataset old own facts (before, were, some) there are whole = (
+    × Leaves wanted all facts × HaveRisingNames datasets (files ++ record { dataset = number; bytes = bytes } ∷ [])
+load_more datasets wanted files number bytes dataset old own facts (before, were, some, rising) there are whole = (
   before ++ are.facts,
   subst (AreFactsFrom datasets 0 (files ++ record { dataset = number; bytes = bytes } ∷ []) (before ++ are.facts)) (sym are.next)
       (file_more datasets 0 files before are.facts old.next (record { dataset = number; bytes = bytes }) dataset were there are.are),
   subst (Leaves wanted (before ++ are.facts)) (sym whole) (leaves_append wanted before old.facts are.facts own.facts some are.some),
+  λ file its inside at. elim (Contains-append_cases files (record { dataset = number; bytes = bytes } ∷ []) file inside) [
+    | inl early ↦ rising file its early at
+    | inr late ↦
+        let is : record { dataset = number; bytes = bytes } ≡ file = Contains-one (record { dataset = number; bytes = bytes }) file late in
+        last file its is at
+  ],
 )
+  where
+    last : (file : DatasetBytes) (its : Dataset) → record { dataset = number; bytes = bytes } ≡ file → slice_get datasets file.dataset ≡ Some its
+        → RiseByModel its.model its file.bytes
+    last file its is at =
+        let same : dataset ≡ its = same_Some dataset its (sym there ∙ ap (λ (it : DatasetBytes). slice_get datasets it.dataset) is ∙ at) in
+        subst (λ (it : Dataset). RiseByModel it.model it file.bytes) same
+        (subst (λ (it : DatasetBytes). RiseByModel dataset.model dataset it.bytes) is are.rising)

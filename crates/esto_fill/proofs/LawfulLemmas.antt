@@ -1,24 +1,29 @@
--- Facts that meet rules still meet them when facts of other relations come to them; and what is kept of facts that meet the rules of documents.
-use Rattle.std.proofs.Common.{◌≡◌, inl, inr, ℕ, ◌+◌, ◌<◌, ◌≤◌, List, [], ◌∷◌, ◌++◌, take, length, get_or, Contains, refl, sym, subst, arith}
-use Rattle.std.proofs.Math.Logic.{∥∥₁_elim}
-use Rattle.std.proofs.lemmas.List.{take_all}
+-- Facts that meet rules still meet them when facts of other relations come to them; and rules that the facts of documents meet by law.
+use Rattle.std.proofs.Common.{◌≡◌, ◌≢◌, inl, inr, ℕ, ◌+◌, ◌-◌, ◌<◌, List, [], ◌∷◌, ◌++◌, Some, slice_get, Contains, refl, sym, ◌∙◌, subst, arith}
+use Rattle.std.proofs.lemmas.Bool.{cases_order}
 use Rattle.std.proofs.lemmas.List.Elements.{Contains-append_cases, Contains-append_left, Contains-append_right}
+use Rattle.std.proofs.lemmas.Option.{same_Some}
+use Rattle.esto_catalog.specs.Datasets.{relation_count}
+use Rattle.esto_catalog.specs.declared.dataset.Dataset.{Dataset}
 use Rattle.esto_semantics.specs.DocumentRules.{atom, document_rules_2}
+use Rattle.esto_semantics.specs.Rules.{AreMet, IsMet}
+use Rattle.esto_docmodel.proofs.FactLemmas.{facts_meet_rules, these_meet_rules}
+use Rattle.esto_docmodel.specs.Forests.{none as no_forest}
+use Rattle.esto_docmodel.specs.Shapes.{documents}
+use Rattle.esto_docs.specs.Files.{file_trees}
 use Rattle.esto_read.specs.declared.words.DataModel.{DataModel}
-use Rattle.esto_semantics.specs.Facts.{Mentions, image}
-use Rattle.esto_semantics.specs.Rules.{Rule, tuple, equality, denial, AreMet, IsMet}
+use Rattle.esto_semantics.specs.Facts.{image}
+use Rattle.esto_semantics.specs.Rules.{Rule, tuple, equality, denial}
 use Rattle.esto_semantics.specs.declared.fact.Fact.{Fact}
-use Rattle.esto_semantics.proofs.FactLemmas.{image_agree, decided_fact}
-use Rattle.esto_semantics.proofs.TermLemmas.{decided_term}
-use Rattle.esto_term.proofs.ChoiceLemmas.{Decided}
+use Rattle.esto_term.proofs.ChoiceLemmas.{pairs_head, pairs_tail}
 use Rattle.esto_term.proofs.ListLemmas.{Contains-cases, Contains-head, Contains-nil, Contains-rest}
-use Rattle.esto_term.proofs.PlaceLemmas.{take-item}
-use Rattle.esto_term.proofs.DistinctLemmas.{decided_contains}
 use Rattle.esto_term.specs.declared.term.Term.{Term}
 use Rattle.esto_term.specs.declared.term.Term.TheVariants.{Plain}
-use Rattle.esto_fill.specs.Lawful.{AreLawful, AreOfBases, IsAmong, IsLawfulBy}
-use Rattle.esto_fill.specs.declared.wanted.Wanted.{Wanted}
-use Rattle.esto_fill.specs.declared.wanted.Wanted.TheVariants.{Every}
+use Rattle.esto_fill.specs.Files.{AreApart, AreFactsByModel, AreFactsFrom, AreFactsOf, HasRelation, HaveRisingNames, RiseByModel, nodes_in}
+use Rattle.esto_fill.specs.Lawful.{AreAlone, IsAlone, IsAmong, IsOf, KeepLaws}
+use Rattle.esto_fill.specs.Laws.{DocumentsAreLawful}
+use Rattle.esto_fill.specs.declared.datasets.DatasetBytes.{DatasetBytes}
+use Rattle.esto_fill.proofs.MovedLemmas.{fact_relation}
 
 -- ---- lists by their items
 
@@ -55,36 +60,11 @@ met_over facts others Of (equality body left right) over there back met m keeps 
 met_over facts others Of (denial body) over there back met m keeps sends =
     met m keeps (λ it inside. back (image m it) (sends it inside) (over it inside))
 
--- each term of the head is in the body
-abbrev IsFull : Rule → Type 0
-IsFull (tuple body head) = (it : Fact Term) → Contains head it → (term : Term) → Contains it.terms term → Mentions body term
-IsFull (equality body left right) = Unit {0}
-IsFull (denial body) = Unit {0}
-
--- ---- what is kept of a rule that is met
-
-known : {P : Type 0} → Decided P → ((P → ⊥) → ⊥) → P
-known (inl holds) kept = holds
-known (inr fails) kept = absurd (kept fails)
-
-met_known : (facts : List (Fact Term)) (rule : Rule) → IsFull rule → ((IsMet facts rule → ⊥) → ⊥) → IsMet facts rule
-met_known facts (tuple body head) full kept m keeps sends = (
-  m,
-  keeps,
-  (λ term mentioned. refl),
-  λ it inside.
-      known (decided_contains (decided_fact decided_term) facts (image m it)) (λ outside. kept (λ met.
-      let got = met m keeps sends in
-      outside (subst (Contains facts) (sym (image_agree m got.0 it (λ term at. got.2 term (full it inside term at)))) (got.3 it inside)))),
-)
-met_known facts (equality body left right) full kept m keeps sends = known (decided_term (m left) (m right)) (λ apart. kept (λ met. apart (met m keeps sends)))
-met_known facts (denial body) full kept m keeps sends = kept (λ met. met m keeps sends)
-
 -- ---- the rules of documents
 
 module _ (base : ℕ) where
   abbrev Fits : Rule → Type 0
-  Fits rule = IsOver (IsAmong base) rule × IsFull rule
+  Fits rule = IsOver (IsAmong base) rule
 
   one_atom : (k : ℕ) (variables : List ℕ) → k < 5 → Over (IsAmong base) (atom (base + k) variables ∷ [])
   one_atom k variables less = one_of (λ (it : Fact Term). IsAmong base it.relation) (atom (base + k) variables) [] (omega arith, omega (arith, less))
@@ -94,27 +74,6 @@ module _ (base : ℕ) where
   two_atoms k j variables others less too =
       one_of (λ (it : Fact Term). IsAmong base it.relation) (atom (base + k) variables) (atom (base + j) others ∷ []) (omega arith, omega (arith, less))
       (one_atom j others too)
-
-  -- the head's two terms are among the body's three, or its two
-  full_three : (k j : ℕ) → IsFull (tuple (atom (base + k) (0 ∷ 1 ∷ 2 ∷ []) ∷ []) (atom (base + j) (0 ∷ 2 ∷ []) ∷ []))
-  full_three k j it inside = one_of (λ (its : Fact Term). (term : Term) → Contains its.terms term
-      → Mentions (atom (base + k) (0 ∷ 1 ∷ 2 ∷ []) ∷ []) term) (atom (base + j) (0 ∷ 2 ∷ [])) []
-      (one_of (λ term. Mentions (atom (base + k) (0 ∷ 1 ∷ 2 ∷ []) ∷ []) term) (Plain 0) (Plain 2 ∷ [])
-      (atom (base + k) (0 ∷ 1 ∷ 2 ∷ []), Contains-head _ [], Contains-head (Plain 0) (Plain 1 ∷ Plain 2 ∷ []))
-      (one_of (λ term. Mentions (atom (base + k) (0 ∷ 1 ∷ 2 ∷ []) ∷ []) term) (Plain 2) [] (
-        atom (base + k) (0 ∷ 1 ∷ 2 ∷ []),
-        Contains-head _ [],
-        Contains-rest (Plain 0) (Plain 1 ∷ Plain 2 ∷ []) (Plain 2)
-            (Contains-rest (Plain 1) (Plain 2 ∷ []) (Plain 2) (Contains-head (Plain 2) [])),
-      )
-      (none_of (λ term. Mentions (atom (base + k) (0 ∷ 1 ∷ 2 ∷ []) ∷ []) term))))
-      (none_of (λ (its : Fact Term). (term : Term) → Contains its.terms term → Mentions (atom (base + k) (0 ∷ 1 ∷ 2 ∷ []) ∷ []) term)) it inside
-
-  full_two : (k j : ℕ) → IsFull (tuple (atom (base + k) (0 ∷ 1 ∷ []) ∷ []) (atom (base + j) (0 ∷ 1 ∷ []) ∷ []))
-  full_two k j it inside = one_of (λ (its : Fact Term). (term : Term) → Contains its.terms term
-      → Mentions (atom (base + k) (0 ∷ 1 ∷ []) ∷ []) term) (atom (base + j) (0 ∷ 1 ∷ [])) []
-      (λ term at. (atom (base + k) (0 ∷ 1 ∷ []), Contains-head _ [], at))
-      (none_of (λ (its : Fact Term). (term : Term) → Contains its.terms term → Mentions (atom (base + k) (0 ∷ 1 ∷ []) ∷ []) term)) it inside
 
   abbrev one_field : Rule
   one_field = equality (atom (base + 1) (0 ∷ 1 ∷ 2 ∷ []) ∷ atom (base + 1) (0 ∷ 1 ∷ 3 ∷ []) ∷ []) (Plain 2) (Plain 3)
@@ -141,14 +100,15 @@ module _ (base : ℕ) where
   no_root_below = denial (atom (base + 0) (0 ∷ []) ∷ atom (base + 4) (1 ∷ 0 ∷ []) ∷ [])
 
   fits : (rule : Rule) → Contains (document_rules_2 base) rule → Fits rule
-  fits = one_of Fits one_field (one_parent ∷ one_name ∷ one_array ∷ one_value ∷ field_below ∷ item_below ∷ no_root_below ∷ []) (two_atoms 1 1 (0 ∷ 1 ∷ 2 ∷ []) (0 ∷ 1 ∷ 3 ∷ []) (omega arith) (omega arith), tt)
-      (one_of Fits one_parent (one_name ∷ one_array ∷ one_value ∷ field_below ∷ item_below ∷ no_root_below ∷ []) (two_atoms 1 1 (0 ∷ 1 ∷ 2 ∷ []) (3 ∷ 4 ∷ 2 ∷ []) (omega arith) (omega arith), tt)
-      (one_of Fits one_name (one_array ∷ one_value ∷ field_below ∷ item_below ∷ no_root_below ∷ []) (two_atoms 1 1 (0 ∷ 1 ∷ 2 ∷ []) (3 ∷ 4 ∷ 2 ∷ []) (omega arith) (omega arith), tt)
-      (one_of Fits one_array (one_value ∷ field_below ∷ item_below ∷ no_root_below ∷ []) (two_atoms 2 2 (0 ∷ 1 ∷ []) (2 ∷ 1 ∷ []) (omega arith) (omega arith), tt)
-      (one_of Fits one_value (field_below ∷ item_below ∷ no_root_below ∷ []) (two_atoms 3 3 (0 ∷ 1 ∷ []) (0 ∷ 2 ∷ []) (omega arith) (omega arith), tt)
-      (one_of Fits field_below (item_below ∷ no_root_below ∷ []) ((one_atom 1 (0 ∷ 1 ∷ 2 ∷ []) (omega arith), one_atom 4 (0 ∷ 2 ∷ []) (omega arith)), full_three 1 4)
-      (one_of Fits item_below (no_root_below ∷ []) ((one_atom 2 (0 ∷ 1 ∷ []) (omega arith), one_atom 4 (0 ∷ 1 ∷ []) (omega arith)), full_two 2 4)
-      (one_of Fits no_root_below [] (two_atoms 0 4 (0 ∷ []) (1 ∷ 0 ∷ []) (omega arith) (omega arith), tt)
+  fits =
+      one_of Fits one_field (one_parent ∷ one_name ∷ one_array ∷ one_value ∷ field_below ∷ item_below ∷ no_root_below ∷ []) (two_atoms 1 1 (0 ∷ 1 ∷ 2 ∷ []) (0 ∷ 1 ∷ 3 ∷ []) (omega arith) (omega arith))
+      (one_of Fits one_parent (one_name ∷ one_array ∷ one_value ∷ field_below ∷ item_below ∷ no_root_below ∷ []) (two_atoms 1 1 (0 ∷ 1 ∷ 2 ∷ []) (3 ∷ 4 ∷ 2 ∷ []) (omega arith) (omega arith))
+      (one_of Fits one_name (one_array ∷ one_value ∷ field_below ∷ item_below ∷ no_root_below ∷ []) (two_atoms 1 1 (0 ∷ 1 ∷ 2 ∷ []) (3 ∷ 4 ∷ 2 ∷ []) (omega arith) (omega arith))
+      (one_of Fits one_array (one_value ∷ field_below ∷ item_below ∷ no_root_below ∷ []) (two_atoms 2 2 (0 ∷ 1 ∷ []) (2 ∷ 1 ∷ []) (omega arith) (omega arith))
+      (one_of Fits one_value (field_below ∷ item_below ∷ no_root_below ∷ []) (two_atoms 3 3 (0 ∷ 1 ∷ []) (0 ∷ 2 ∷ []) (omega arith) (omega arith))
+      (one_of Fits field_below (item_below ∷ no_root_below ∷ []) (one_atom 1 (0 ∷ 1 ∷ 2 ∷ []) (omega arith), one_atom 4 (0 ∷ 2 ∷ []) (omega arith))
+      (one_of Fits item_below (no_root_below ∷ []) (one_atom 2 (0 ∷ 1 ∷ []) (omega arith), one_atom 4 (0 ∷ 1 ∷ []) (omega arith))
+      (one_of Fits no_root_below [] (two_atoms 0 4 (0 ∷ []) (1 ∷ 0 ∷ []) (omega arith) (omega arith))
       (none_of Fits))))))))
 
 -- ---- facts that come to others
@@ -159,60 +119,105 @@ HasNone base facts = (fact : Fact Term) → Contains facts fact → IsAmong base
 met_before : (base : ℕ) (facts others : List (Fact Term)) → HasNone base others → AreMet facts (document_rules_2 base)
     → AreMet (facts ++ others) (document_rules_2 base)
 met_before base facts others none met rule inside =
-    met_over facts (facts ++ others) (IsAmong base) rule (fits base rule inside).0 (λ fact there. Contains-append_left facts others fact there)
+    met_over facts (facts ++ others) (IsAmong base) rule (fits base rule inside) (λ fact there. Contains-append_left facts others fact there)
     (λ fact there among. elim (Contains-append_cases facts others fact there) [ inl mine ↦ mine | inr its ↦ absurd (none fact its among) ])
     (met rule inside)
 
 met_after : (base : ℕ) (facts others : List (Fact Term)) → HasNone base facts → AreMet others (document_rules_2 base)
     → AreMet (facts ++ others) (document_rules_2 base)
 met_after base facts others none met rule inside =
-    met_over others (facts ++ others) (IsAmong base) rule (fits base rule inside).0 (λ fact there. Contains-append_right facts others fact there)
+    met_over others (facts ++ others) (IsAmong base) rule (fits base rule inside) (λ fact there. Contains-append_right facts others fact there)
     (λ fact there among. elim (Contains-append_cases facts others fact there) [ inl its ↦ absurd (none fact its among) | inr mine ↦ mine ])
     (met rule inside)
 
-pub no_bases : (bases : List ℕ) (facts : List (Fact Term)) → bases ≡ [] → AreLawful bases facts
-no_bases bases facts empty base inside = absurd (Contains-nil base (subst (λ those. Contains those base) empty inside))
+-- ---- the rules of documents that no other dataset's facts can break
 
-pub still : (bases : List ℕ) (facts others : List (Fact Term)) → ((base : ℕ) → Contains bases base → HasNone base others) → AreLawful bases facts
-    → AreLawful bases (facts ++ others)
-still bases facts others none lawful base inside = met_before base facts others (none base inside) (lawful base inside)
+module _ (datasets : List Dataset) (number base : ℕ) (are : AreAlone datasets number base) where
+  -- the facts of a file of another dataset have none of the relations
+  other_none : (file : DatasetBytes) (dataset : Dataset) (first : ℕ) (own : List (Fact Term)) → slice_get datasets file.dataset ≡ Some dataset
+      → AreFactsOf dataset file.bytes first own → (file.dataset ≡ number → ⊥) → HasNone base own
+  other_none file dataset first own there facts apart fact inside among =
+      let relation = fact_relation dataset.model dataset file.bytes first own fact facts inside in
+      apart (are.alone file.dataset fact.relation (dataset, relation.0, there, relation.1, relation.2) among)
 
-pub one_base_more : (bases more : List ℕ) (base : ℕ) (model : DataModel) (wanted : Wanted) (facts own : List (Fact Term))
-    → (model ≡ DataModel.Documents) × (wanted ≡ Every) → more ≡ bases ++ base ∷ [] → AreLawful bases (facts ++ own) → HasNone base facts
-    → IsLawfulBy model wanted base own → AreLawful more (facts ++ own)
-one_base_more bases more base model wanted facts own (documents, every) is lawful none met its inside =
-    elim (Contains-append_cases bases (base ∷ []) its (subst (λ those. Contains those its) is inside)) [
-      | inl before ↦ lawful its before
-      | inr last ↦ one_of (λ it. AreMet (facts ++ own) (document_rules_2 it)) base []
-          (met_after base facts own none (subst (λ it. IsLawfulBy it Every base own) documents (subst (λ it. IsLawfulBy model it base own) every met)))
-          (none_of (λ it. AreMet (facts ++ own) (document_rules_2 it))) its last
-    ]
+  -- nor have those of files of other datasets
+  others_none : (first : ℕ) (files : List DatasetBytes) (facts : List (Fact Term)) (next : ℕ)
+      → ((file : DatasetBytes) → Contains files file → file.dataset ≡ number → ⊥) → AreFactsFrom datasets first files facts next → HasNone base facts
+  others_none first [] facts next apart (empty, ends) fact inside among = Contains-nil fact (subst (λ those. Contains those fact) empty inside)
+  others_none first (file ∷ files) facts next apart (dataset, own, others, there, is, rest, whole) fact inside among =
+      elim (Contains-append_cases own others fact (subst (λ those. Contains those fact) whole inside)) [
+        | inl mine ↦ other_none file dataset first own there is (apart file (Contains-head file files)) fact mine among
+        | inr later ↦ others_none (first + nodes_in dataset file.bytes) files others next
+            (λ it in_rest. apart it (Contains-rest file files it in_rest)) rest fact later among
+      ]
 
--- ---- what is loaded keeps it
+  -- its own facts meet the rules
+  own_meet : (dataset : Dataset) (bytes : List ℕ) (first : ℕ) (own : List (Fact Term)) → are.dataset ≡ dataset → AreFactsOf dataset bytes first own
+      → RiseByModel dataset.model dataset bytes → AreMet own (document_rules_2 base)
+  own_meet dataset bytes first own same facts rising =
+      let model : dataset.model ≡ DataModel.Documents = subst (λ (it : Dataset). it.model ≡ DataModel.Documents) same are.model in
+      let based : dataset.base ≡ base = subst (λ (it : Dataset). it.base ≡ base) same are.based in
+      subst (λ it. AreMet own (document_rules_2 it)) based
+      (these_meet_rules dataset.base first (documents (file_trees dataset.layout bytes)) own
+      (subst (λ it. AreFactsByModel it dataset bytes first own) model facts) (subst (λ it. RiseByModel it dataset bytes) model rising))
 
-pub lawful_kept : (bases : List ℕ) (facts : List (Fact Term)) → ∥ AreLawful bases facts ∥₁ → AreLawful bases facts
-lawful_kept bases facts kept base inside rule of_it =
-    met_known facts rule (fits base rule of_it).1 (λ no. ∥∥₁_elim kept (λ p q. absurd p) (λ lawful. no (lawful base inside rule of_it)))
+  -- and the facts of all files do
+  all_meet : (first : ℕ) (files : List DatasetBytes) (facts : List (Fact Term)) (next : ℕ) → AreApart files → HaveRisingNames datasets files
+      → AreFactsFrom datasets first files facts next → AreMet facts (document_rules_2 base)
+  all_meet first [] facts next apart rising (empty, ends) =
+      subst (λ those. AreMet those (document_rules_2 base)) (sym empty) (facts_meet_rules base first no_forest tt)
+  all_meet first (file ∷ files) facts next apart rising (dataset, own, others, there, is, rest, whole) =
+      subst (λ those. AreMet those (document_rules_2 base)) (sym whole) (elim (cases_order file.dataset number) [
+        | inl same ↦
+            let dataset_is : are.dataset ≡ dataset =
+            same_Some are.dataset dataset (sym are.there ∙ subst (λ it. slice_get datasets it ≡ Some dataset) same there) in
+            met_before base own others
+            (others_none (first + nodes_in dataset file.bytes) files others next
+            (λ it inside its. pairs_head (λ one other. one.dataset ≢ other.dataset) file files apart it inside (same ∙ sym its)) rest)
+            (own_meet dataset file.bytes first own dataset_is is (rising file dataset (Contains-head file files) there))
+        | inr differ ↦
+            met_after base own others
+            (other_none file dataset first own there is (λ same. elim differ [
+              | inl less ↦ absurd (omega (arith, same, less))
+              | inr more ↦ absurd (omega (arith, same, more))
+            ]))
+            (all_meet (first + nodes_in dataset file.bytes) files others next (pairs_tail (λ one other. one.dataset ≢ other.dataset) file files apart)
+            (λ it its inside at. rising it its (Contains-rest file files it inside) at) rest)
+      ])
 
-pub laws_met : (bases : List ℕ) (laws : List Rule) (facts : List (Fact Term)) → AreOfBases bases laws → AreLawful bases facts → AreMet facts laws
-laws_met bases laws facts of_bases lawful rule inside =
-    let from = of_bases rule inside in lawful from.0 from.1 rule from.2
+pub documents_are_lawful : DocumentsAreLawful
+documents_are_lawful datasets files first facts next rules apart rising from laws rule inside =
+    let law = laws rule inside in all_meet datasets law.0 law.1 law.2 first files facts next apart rising from rule law.3
 
--- the rules of one base more
-pub laws_more : (bases : List ℕ) (place base : ℕ) (laws more all : List Rule) → place < length bases → base ≡ get_or bases place base
-    → AreOfBases (take place bases) laws → more ≡ document_rules_2 base → all ≡ laws ++ more → AreOfBases (take (place + 1) bases) all
-laws_more bases place base laws more all within read before own is rule inside =
-    let taken = take-item bases place base within read in
-    elim (Contains-append_cases laws more rule (subst (λ those. Contains those rule) is inside)) [
-      | inl early ↦
-          let found = before rule early in
-          (found.0, subst (λ those. Contains those found.0) (sym taken) (Contains-append_left (take place bases) (base ∷ []) found.0 found.1), found.2)
+-- ---- laws that are found
+
+-- the rules of documents that are alone
+pub laws_more : (datasets : List Dataset) (number : ℕ) (dataset : Dataset) (old new more : List Rule) → slice_get datasets number ≡ Some dataset
+    → dataset.model ≡ DataModel.Documents → IsAlone datasets number dataset → more ≡ document_rules_2 dataset.base → new ≡ old ++ more
+    → KeepLaws datasets old new
+laws_more datasets number dataset old new more there model lone own is before rule inside =
+    elim (Contains-append_cases old more rule (subst (λ those. Contains those rule) is inside)) [
+      | inl early ↦ before rule early
       | inr late ↦ (
-        base,
-        subst (λ those. Contains those base) (sym taken) (Contains-append_right (take place bases) (base ∷ []) base (Contains-head base [])),
+        number,
+        dataset.base,
+        record { dataset = dataset; there = there; model = model; based = refl; alone = alone },
         subst (λ those. Contains those rule) own late,
       )
     ]
+  where
+    of_it : (relation : ℕ) → IsAmong dataset.base relation → IsOf dataset relation
+    of_it relation (from, to) = (
+      relation - dataset.base,
+      subst (λ it. relation - dataset.base < relation_count it) (sym model) (omega (arith, from, to)),
+      omega (arith, from),
+    )
 
-pub laws_end : (bases : List ℕ) (place : ℕ) (laws : List Rule) → length bases ≤ place → AreOfBases (take place bases) laws → AreOfBases bases laws
-laws_end bases place laws past are = subst (λ those. AreOfBases those laws) (take_all place bases past) are
+    alone : (other relation : ℕ) → HasRelation datasets other relation → IsAmong dataset.base relation → other ≡ number
+    alone other relation (its, place, at, less, same) among = elim (cases_order other number) [
+      | inl one ↦ one
+      | inr differ ↦ absurd (lone other its at (λ one. elim differ [
+        | inl fewer ↦ absurd (omega (arith, one, fewer))
+        | inr more_ ↦ absurd (omega (arith, one, more_))
+      ]) relation (of_it relation among) (place, less, same))
+    ]

@@ -4,7 +4,6 @@ pub mod TextLemmas
 pub mod ApartLemmas
 pub mod RecordLemmas
 pub mod WantedLemmas
-pub mod LawfulLemmas
 pub mod SameLemmas
 pub mod FileLemmas
 pub mod FilledLemmas
@@ -13,4 +12,7 @@ pub mod DifferenceLemmas
 pub mod LawLemmas
 pub mod AuditLemmas
 pub mod MovedLemmas
+pub mod LawfulLemmas
+pub mod TriedLemmas
+pub mod TrialLemmas
 pub mod UnionLemmas

@@ -198,7 +198,7 @@ row_relation base rows facts fact (kept, once, is) inside =
     let plus : base ≡ base + 0 = omega arith in
     ap (λ (it : Fact Term). it.relation) (sym from.2) ∙ plus
 
-fact_relation : (model : DataModel) (dataset : Dataset) (bytes : List ℕ) (first : ℕ) (facts : List (Fact Term)) (fact : Fact Term)
+pub fact_relation : (model : DataModel) (dataset : Dataset) (bytes : List ℕ) (first : ℕ) (facts : List (Fact Term)) (fact : Fact Term)
     → AreFactsByModel model dataset bytes first facts → Contains facts fact
     → (at : ℕ) × (at < relation_count model) × (fact.relation ≡ dataset.base + at)
 fact_relation DataModel.Table dataset bytes first facts fact are inside = (0, omega arith, row_relation dataset.base _ facts fact are inside)

@@ -27,7 +27,7 @@ use Rattle.esto_term.proofs.ListLemmas.{Contains-nil, Contains-one, Contains-res
 use Rattle.esto_term.proofs.ListLemmas.{each_more, each_seen, map_at}
 use Rattle.esto_fill.specs.Databases.{database_of, value_of}
 use Rattle.esto_fill.specs.Laws.{AnswersRestOnWantedFacts}
-use Rattle.esto_fill.specs.Wanted.{Admits, AdmitsAll, AdmitsMore, Grow, HasAsked, IsAsked, IsKeptFor, IsThere, IsWanted, Leaves, LeavesAsked, MeetsWant}
+use Rattle.esto_fill.specs.Wanted.{Admits, AdmitsAll, AdmitsMore, DropsUnasked, Grow, HasAsked, IsAsked, IsKeptFor, IsThere, IsWanted, Leaves, LeavesAsked, MeetsWant}
 use Rattle.esto_fill.specs.Wanted.{is_wanted, names}
 use Rattle.esto_fill.specs.declared.wanted.Wanted.{Wanted}
 use Rattle.esto_fill.specs.declared.wanted.Wanted.TheVariants.{Every, Asked}
@@ -280,9 +280,15 @@ leaves_append Every facts some others more one two = ap (λ those. those ++ more
 leaves_append (Asked bodies) facts some others more one two = asked_append bodies facts some others more one two
 
 module _ (bodies : List (List (Fact Term))) where
-  left_inside : (facts some : List (Fact Term)) → LeavesAsked bodies facts some → (fact : Fact Term) → Contains some fact → Contains facts fact
+  -- what is left of a list drops what is not asked for
+  pub leaves_drop : (facts some : List (Fact Term)) → LeavesAsked bodies facts some → DropsUnasked bodies facts some
+  leaves_drop [] some empty = empty
+  leaves_drop (first ∷ facts) some (rest, before, inl (is, told)) = (rest, leaves_drop facts rest before, inl is)
+  leaves_drop (first ∷ facts) some (rest, before, inr dropped) = (rest, leaves_drop facts rest before, inr dropped)
+
+  left_inside : (facts some : List (Fact Term)) → DropsUnasked bodies facts some → (fact : Fact Term) → Contains some fact → Contains facts fact
   left_inside [] some empty fact inside = subst (λ those. Contains those fact) empty inside
-  left_inside (first ∷ facts) some (rest, before, inl (is, told)) fact inside =
+  left_inside (first ∷ facts) some (rest, before, inl is) fact inside =
       elim (Contains-cases first rest fact (subst (λ those. Contains those fact) is inside)) [
         | inl same ↦ subst (Contains (first ∷ facts)) same (Contains-head first facts)
         | inr later ↦ Contains-rest first facts fact (left_inside facts rest before fact later)
@@ -290,10 +296,10 @@ module _ (bodies : List (List (Fact Term))) where
   left_inside (first ∷ facts) some (rest, before, inr (is, free)) fact inside =
       Contains-rest first facts fact (left_inside facts rest before fact (subst (λ those. Contains those fact) is inside))
 
-  asked_left : (facts some : List (Fact Term)) → LeavesAsked bodies facts some → (fact : Fact Term) → Contains facts fact → IsAsked bodies fact
+  asked_left : (facts some : List (Fact Term)) → DropsUnasked bodies facts some → (fact : Fact Term) → Contains facts fact → IsAsked bodies fact
       → Contains some fact
   asked_left [] some empty fact inside asked = absurd (Contains-nil fact inside)
-  asked_left (first ∷ facts) some (rest, before, inl (is, told)) fact inside asked =
+  asked_left (first ∷ facts) some (rest, before, inl is) fact inside asked =
       subst (λ those. Contains those fact) (sym is) (elim (Contains-cases first facts fact inside) [
         | inl same ↦ subst (Contains (first ∷ rest)) same (Contains-head first rest)
         | inr later ↦ Contains-rest first rest fact (asked_left facts rest before fact later asked)
@@ -304,12 +310,15 @@ module _ (bodies : List (List (Fact Term))) where
         | inr later ↦ asked_left facts rest before fact later asked
       ])
 
+  pub drops_has : (facts some : List (Fact Term)) → DropsUnasked bodies facts some → HasAsked bodies facts some
+  drops_has facts some drops = (left_inside facts some drops, asked_left facts some drops)
+
   pub has_asked : (facts some : List (Fact Term)) → LeavesAsked bodies facts some → HasAsked bodies facts some
-  has_asked facts some leaves = (left_inside facts some leaves, asked_left facts some leaves)
+  has_asked facts some leaves = drops_has facts some (leaves_drop facts some leaves)
 
 pub leaves_flat : (wanted : Wanted) (facts some : List (Fact Term)) → Leaves wanted facts some → AreFlat facts → AreFlat some
 leaves_flat Every facts some is all = subst AreFlat (sym is) all
-leaves_flat (Asked bodies) facts some leaves all = λ term (fact, inside, at). all term (fact, left_inside bodies facts some leaves fact inside, at)
+leaves_flat (Asked bodies) facts some leaves all = λ term (fact, inside, at). all term (fact, (has_asked bodies facts some leaves).0 fact inside, at)
 
 pub leaves_none : (wanted : Wanted) (some : List (Fact Term)) → some ≡ [] → Leaves wanted [] some
 leaves_none Every some empty = empty

@@ -1,8 +1,9 @@
 -- The facts of datasets' files, or the first fault of one.
-use Rattle.std.specs.Prelude.{◌≡◌, ◌≢◌, ℕ, ◌+◌, ◌<◌, List, [], ◌∷◌, ◌++◌, slice_get, AllPairs, Option, Some, None, Result, Ok, Err}
+use Rattle.std.specs.Prelude.{◌≡◌, ◌≢◌, ℕ, ◌+◌, ◌<◌, List, [], ◌∷◌, ◌++◌, slice_get, AllPairs, Contains, Option, Some, None, Result, Ok, Err}
 use Rattle.esto_catalog.specs.Datasets.{relation_count}
 use Rattle.esto_catalog.specs.declared.dataset.Dataset.{Dataset}
 use Rattle.esto_docmodel.specs.Encodings.{facts_of, size}
+use Rattle.esto_docmodel.specs.Rising.{AreRising}
 use Rattle.esto_docmodel.specs.declared.encode.Encoded.{Encoded}
 use Rattle.esto_docmodel.specs.Shapes.{documents}
 use Rattle.esto_docs.specs.Files.{file_trees, trees_fault}
@@ -23,7 +24,6 @@ use Rattle.esto_fill.specs.declared.datasets.LoadError.TheVariants.{Fault, OutOf
 use Rattle.esto_fill.specs.declared.loaded.Loaded.{Loaded}
 use Rattle.esto_fill.specs.declared.wanted.Wanted.{Wanted}
 use Rattle.esto_fill.specs.declared.wanted.Wanted.TheVariants.{Every}
-use Rattle.esto_fill.specs.Lawful.{IsLawfulBy}
 use Rattle.esto_fill.specs.Wanted.{Leaves}
 
 -- ---- the file of one dataset
@@ -74,10 +74,23 @@ AreFactsFrom datasets first (file ∷ files) facts next =
     (dataset : Dataset) × (own others : List (Fact Term)) × (slice_get datasets file.dataset ≡ Some dataset) × AreFactsOf dataset file.bytes first own
     × AreFactsFrom datasets (first + nodes_in dataset file.bytes) files others next × (facts ≡ own ++ others)
 
--- What is loaded is what is left of the facts of the files, whose nodes are numbered from 0 on, and the first number that is no node's.
+-- In the file of a dataset of documents the names of each object's fields rise.
+abbrev pub RiseByModel : DataModel → Dataset → List ℕ → Type 0
+RiseByModel Table dataset bytes = Unit {0}
+RiseByModel Documents dataset bytes = AreRising (file_trees dataset.layout bytes)
+RiseByModel Keys dataset bytes = Unit {0}
+
+-- So it is in each of the files.
+abbrev pub HaveRisingNames : List Dataset → List DatasetBytes → Type 0
+HaveRisingNames datasets files =
+    (file : DatasetBytes) (dataset : Dataset) → Contains files file → slice_get datasets file.dataset ≡ Some dataset
+    → RiseByModel dataset.model dataset file.bytes
+
+-- What is loaded is what is left of the facts of the files, whose nodes are numbered from 0 on, and the first number that is no node's; and in documents the
+-- names of fields rise.
 abbrev pub IsLoadedFrom : List Dataset → Wanted → List DatasetBytes → Loaded → Type 0
 IsLoadedFrom datasets wanted files loaded =
-    (facts : List (Fact Term)) × AreFactsFrom datasets 0 files facts loaded.next × Leaves wanted facts loaded.facts
+    (facts : List (Fact Term)) × AreFactsFrom datasets 0 files facts loaded.next × Leaves wanted facts loaded.facts × HaveRisingNames datasets files
 
 -- No file has a fault.
 abbrev pub AreReadable : List Dataset → List DatasetBytes → Type 0
@@ -117,14 +130,14 @@ AreApart files = AllPairs (λ file other. file.dataset ≢ other.dataset) files
 -- ---- for private clauses
 
 -- Of the facts of the file of a dataset of this model those that are wanted, which are over constants and plain terms, and the first number that is no
--- node's.
+-- node's; and in documents the names of fields rise.
 pub record AreWantedOf (model : DataModel) (dataset : Dataset) (wanted : Wanted) (bytes : List ℕ) (first : ℕ) (encoded : Encoded) : Type 0 where
   pub facts : List (Fact Term)
   pub are : AreFactsByModel model dataset bytes first facts
   pub some : Leaves wanted facts encoded.facts
   pub next : encoded.next ≡ first + nodes_by_model model dataset bytes
   pub flat : AreFlat encoded.facts
-  pub lawful : IsLawfulBy model wanted dataset.base encoded.facts
+  pub rising : RiseByModel model dataset bytes
 
 -- These facts of the file, which has no fault; or the file's first fault; or memory is wanting.
 abbrev pub GivesFacts : DataModel → Dataset → Wanted → List ℕ → ℕ → Result Encoded FileError → Type 0

@@ -1,6 +1,9 @@
 -- For private clauses: the parts of an audit.
-use Rattle.std.specs.Prelude.{◌≡◌, ℕ, List, map, Contains, Option, Some, None}
+use Rattle.std.specs.Prelude.{◌≡◌, ◌⊎◌, ℕ, List, map, take, slice_get, Contains, Option, Some, None}
+use Rattle.esto_constraint.specs.Matches.{IsLeastActive}
+use Rattle.esto_semantics.specs.Rules.{IsMet}
 use Rattle.esto_steps.specs.Rows.{IsRowOf, held_by}
+use Rattle.esto_query.specs.Valuations.{Assignment}
 use Rattle.esto_query.specs.declared.query.Name.{Name}
 use Rattle.esto_semantics.specs.Facts.{Database}
 use Rattle.esto_semantics.specs.Queries.{ConjunctiveQuery}
@@ -14,6 +17,22 @@ use Rattle.esto_fill.specs.Databases.{database_of}
 use Rattle.esto_fill.specs.Differences.{IsFirstBroken, IsLeastApart, IsFirstApart, AreOne, HoldViewRows, IsOfView, at}
 use Rattle.esto_ports.specs.declared.difference.Difference.{Difference}
 use Rattle.esto_ports.specs.declared.difference.Difference.TheVariants.{Rule as Broken, Missing, Extra}
+
+-- The rule is one of the laws, or it is none, and the facts meet it.
+abbrev pub IsPassed : List Rule → List (Fact Term) → Rule → Type 0
+IsPassed laws facts rule = Contains laws rule ⊎ (¬ (Contains laws rule) × IsMet facts rule)
+
+-- So is each of the rules.
+abbrev pub ArePassed : List Rule → List (Fact Term) → List Rule → Type 0
+ArePassed laws facts rules = (rule : Rule) → Contains rules rule → IsPassed laws facts rule
+
+-- The rule of this number is none of the laws and has that least active match, and each rule before it is passed.
+pub record IsFirstTried (laws rules : List Rule) (facts : List (Fact Term)) (number : ℕ) (valuation : Assignment) (places : List ℕ) : Type 0 where
+  pub rule : Rule
+  pub there : slice_get rules number ≡ Some rule
+  pub tried : ¬ (Contains laws rule)
+  pub active : IsLeastActive rule facts valuation places
+  pub before : ArePassed laws facts (take number rules)
 
 -- The database meets each of the rules; or it is the first that is not met.
 abbrev pub JudgesRules : List Rule → List (List Name) → List (Fact Term) → Option Difference → Type 0

@@ -3,6 +3,7 @@ use Rattle.std.specs.Prelude.{◌≡◌, ◌≢◌, ◌↔◌, ℕ, Bool, List, 
 use Rattle.esto_catalog.specs.Determined.{stored_as}
 use Rattle.esto_catalog.specs.declared.catalogue.Store.{Store}
 use Rattle.esto_catalog.specs.declared.dataset.Dataset.{Dataset}
+use Rattle.esto_semantics.specs.Rules.{AreMet}
 use Rattle.esto_steps.specs.Rows.{IsRowOf, held_by}
 use Rattle.esto_ports.specs.declared.file_fault.FileFault.{FileFault}
 use Rattle.esto_query.specs.declared.query.Name.{Name}
@@ -24,7 +25,7 @@ use Rattle.esto_stores.specs.Rows.{Row}
 use Rattle.esto_term.specs.declared.term.Term.{Term}
 use Rattle.esto_fill.specs.Databases.{value_of, database_of}
 use Rattle.esto_fill.specs.Differences.{Agree, Audits}
-use Rattle.esto_fill.specs.Files.{AreApart, AreFactsFrom, AreReadable, HasRelation, IsFirstFault}
+use Rattle.esto_fill.specs.Files.{AreApart, AreFactsFrom, AreReadable, HasRelation, HaveRisingNames, IsFirstFault}
 use Rattle.esto_fill.specs.Filled.{Fills}
 use Rattle.esto_fill.specs.Texts.{AreTextsOf, GivesTexts, HaveTextsOnly, JudgesViews}
 use Rattle.esto_ports.specs.declared.difference.Difference.{Difference}
@@ -34,16 +35,19 @@ use Rattle.esto_fill.specs.declared.filled.FillError.TheVariants as filled
 use Rattle.esto_fill.specs.declared.loaded.Loaded.{Loaded}
 use Rattle.esto_fill.specs.declared.rows.AnswerError.{AnswerError}
 use Rattle.esto_fill.specs.declared.rows.AnswerError.TheVariants as answer
-use Rattle.esto_fill.specs.Lawful.{AreLawful}
+use Rattle.esto_fill.specs.Lawful.{AreLaws}
 use Rattle.esto_fill.specs.Wanted.{HasAsked}
 
 -- The facts of each value that is loaded are over constants and plain terms.
 abbrev pub LoadedAreFlat : Type 0
 LoadedAreFlat = (loaded : Loaded) → AreFlat loaded.facts
 
--- The facts of each value that is loaded meet the rules of the documents from its bases on.
-abbrev pub LoadedAreLawful : Type 0
-LoadedAreLawful = (loaded : Loaded) → AreLawful loaded.documents loaded.facts
+-- The facts of files, of which no two are of one dataset, meet each rule of documents whose relations no other dataset has, where the names of fields rise.
+abbrev pub DocumentsAreLawful : Type 0
+DocumentsAreLawful =
+    (datasets : List Dataset) (files : List DatasetBytes) (first : ℕ) (facts : List (Fact Term)) (next : ℕ) (rules : List Rule) → AreApart files
+    → HaveRisingNames datasets files → AreFactsFrom datasets first files facts next → AreLaws datasets rules
+    → AreMet facts rules
 
 -- Facts over constants and plain terms are stood for by their database.
 abbrev pub FactsStand : Type 0

@@ -1,8 +1,9 @@
 pub mod Databases
 pub mod Wanted
-pub mod Lawful
 pub mod Texts
 pub mod Files
+pub mod Lawful
+pub mod Trials
 pub mod Filled
 pub mod Records
 pub mod Differences

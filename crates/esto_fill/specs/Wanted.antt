@@ -48,6 +48,12 @@ abbrev pub Leaves : Wanted → List (Fact Term) → List (Fact Term) → Type 0
 Leaves Every facts some = some ≡ facts
 Leaves (Asked bodies) facts some = LeavesAsked bodies facts some
 
+-- Fact by fact, in order: each is left, or no atom of the bodies can go to it.
+abbrev pub DropsUnasked : List (List (Fact Term)) → List (Fact Term) → List (Fact Term) → Type 0
+DropsUnasked bodies [] some = some ≡ []
+DropsUnasked bodies (fact ∷ facts) some =
+    (rest : List (Fact Term)) × DropsUnasked bodies facts rest × ((some ≡ fact ∷ rest) ⊎ ((some ≡ rest) × ¬ (IsAsked bodies fact)))
+
 -- The facts of the one list are of the other, and each of the other to which an atom of the bodies can go is there.
 abbrev pub HasAsked : List (List (Fact Term)) → List (Fact Term) → List (Fact Term) → Type 0
 HasAsked bodies facts some =

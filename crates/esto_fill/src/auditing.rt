@@ -1,21 +1,22 @@
 //! Whether the facts of datasets and the rows of fragments agree, and the first difference.
-ghost use Rattle.std.specs.Prelude.{◌≡◌, length, map, IfOk};
+ghost use Rattle.std.specs.Prelude.{◌≡◌, List, length, map, IfOk};
 ghost use Rattle.esto_constraint.specs.Constraints.{rules_of};
 ghost use Rattle.esto_constraint.specs.EncodingRules.{written};
-ghost use Rattle.esto_semantics.specs.Rules.{AreMet};
 ghost use Rattle.esto_steps.specs.Rows.{IsRowOf, held_by};
 ghost use Rattle.esto_query.specs.Making.{query_of};
 ghost use Rattle.esto_semantics.specs.Maps.{AreFlat};
 ghost use Rattle.esto_semantics.specs.Queries.{IsAnswer};
+ghost use Rattle.esto_semantics.specs.declared.fact.Fact.{Fact};
+ghost use Rattle.esto_term.specs.declared.term.Term.{Term};
 ghost use Rattle.esto_views.specs.Fragments.{views_of};
 ghost use Rattle.esto_fill.specs.Databases.{database_of};
 ghost use Rattle.esto_fill.specs.Differences.{Audits};
 ghost use Rattle.esto_fill.specs.Judging.{JudgesRules, JudgesFragment, JudgesFragments};
 ghost use Rattle.esto_fill.specs.Texts.{AreTextViews, HaveTextsOnly};
+ghost use Rattle.esto_fill.specs.Trials.{IsEnoughFor};
 
 use crate::apart::{Apart, first_apart, ordered_rows};
-use crate::lawful::laws_of;
-use crate::laws::{facts_stand_as_databases, loaded_documents_are_lawful, loaded_facts_are_flat};
+use crate::laws::{facts_stand_as_databases, loaded_facts_are_flat};
 use crate::loaded::Loaded;
 use crate::record::record_of;
 use crate::rows::{counted, text_row};
@@ -33,26 +34,26 @@ use std::alloc::Global;
 /// The rows of fragments, a list for each, in order.
 pub type TextRowsList = List<TextRows>;
 
-// The first rule that the facts, which meet the laws, do not meet, with the record of its least active match. None comes
+// The first rule that facts of which these are enough do not meet, with the record of its least active match. None comes
 // exactly where they meet each rule.
 fn broken_rule(
     alloc: Global,
-    rules: &Rules,
+    catalogue: &Catalogue,
     laws: &[Constraint],
     facts: &IndexedFacts,
 ) -> Result<Option<Difference>, OutOfMemory>
-    requires flat { AreFlat facts.now }
-    requires laws { AreMet facts.now (rules_of laws.now) }
-    ensures { IfOk result (JudgesRules (rules_of rules.now) (map written rules.now) facts.now) }
+    ensures { IfOk result (λ outcome. (all : List (Fact Term))
+        → IsEnoughFor catalogue.now (rules_of laws.now) all facts.now
+        → JudgesRules (rules_of catalogue.now.rules) (map written catalogue.now.rules) all outcome) }
 {
     databases_stand_for_facts();
     facts_stand_as_databases();
     rules_are_sound();
     least_active_matches_are_least();
-    let Some(broken) = first_broken(alloc, rules, laws, facts)? else {
+    let Some(broken) = first_broken(alloc, &catalogue.rules, laws, facts)? else {
         return Ok(None);
     };
-    let rule = rules.item(broken.rule);
+    let rule = catalogue.rules.item(broken.rule);
     let cells = record_of(alloc, rule, &broken.found.valuation)?;
     let number = counted(broken.rule)?;
     Ok(Some(Difference::Rule(number, cells)))
@@ -113,7 +114,7 @@ fn apart_fragment(
     Ok(None)
 }
 
-// The first difference between the facts, which meet the laws, and the rules, or else the rows of the fragments.
+// The first difference between facts of which these are enough, and the rules, or else the rows of the fragments.
 fn first_difference(
     alloc: Global,
     catalogue: &Catalogue,
@@ -123,14 +124,14 @@ fn first_difference(
 ) -> Result<Option<Difference>, OutOfMemory>
     requires many { length rows.now ≡ length catalogue.now.fragments }
     requires flat { AreFlat facts.now }
-    requires laws { AreMet facts.now (rules_of laws.now) }
     requires texts { AreTextViews (views_of catalogue.now.fragments) (database_of facts.now) }
-    ensures { IfOk result (λ outcome. Audits (rules_of catalogue.now.rules)
-        (map written catalogue.now.rules)
+    ensures { IfOk result (λ outcome. (all : List (Fact Term))
+        → IsEnoughFor catalogue.now (rules_of laws.now) all facts.now
+        → Audits (rules_of catalogue.now.rules) (map written catalogue.now.rules)
         (map (λ fragment. fragment.name) catalogue.now.fragments)
-        (views_of catalogue.now.fragments) facts.now (IsRowOf (held_by rows.now)) outcome) }
+        (views_of catalogue.now.fragments) all (IsRowOf (held_by rows.now)) outcome) }
 {
-    let broken = broken_rule(alloc, &catalogue.rules, laws, facts)?;
+    let broken = broken_rule(alloc, catalogue, laws, facts)?;
     if broken.is_some() {
         return Ok(broken);
     }
@@ -148,6 +149,30 @@ fn columns_of(
     add_rules(alloc, &mut columns, &catalogue.rules, laws)?;
     add_views(alloc, &mut columns, &catalogue.fragments)?;
     Ok(columns)
+}
+
+/// As `audit`, of facts that meet the laws, of which what is loaded is some: all that an atom of another rule, or of a
+/// fragment's view, can go to, in order. The laws are not tried.
+pub fn audit_tried(
+    alloc: Global,
+    catalogue: &Catalogue,
+    laws: &Rules,
+    loaded: &Loaded,
+    rows: &TextRowsList,
+) -> Result<Option<Difference>, OutOfMemory>
+    requires many { length rows.now ≡ length catalogue.now.fragments }
+    requires texts { AreTextViews (views_of catalogue.now.fragments)
+        (database_of loaded.now.facts) }
+    ensures { IfOk result (λ outcome. (facts : List (Fact Term))
+        → IsEnoughFor catalogue.now (rules_of laws.now) facts loaded.now.facts
+        → Audits (rules_of catalogue.now.rules) (map written catalogue.now.rules)
+        (map (λ fragment. fragment.name) catalogue.now.fragments)
+        (views_of catalogue.now.fragments) facts (IsRowOf (held_by rows.now)) outcome) }
+{
+    loaded_facts_are_flat();
+    let columns = columns_of(alloc, catalogue, laws.items())?;
+    let facts = IndexedFacts::by(alloc, columns, &loaded.facts)?;
+    first_difference(alloc, catalogue, laws.items(), &facts, rows)
 }
 
 /// Whether the database of the facts meets each rule of the catalogue, and the rows of each fragment are, as a set, those
@@ -169,9 +194,6 @@ pub fn audit(
         (views_of catalogue.now.fragments) loaded.now.facts (IsRowOf (held_by rows.now)) outcome) }
 {
     loaded_facts_are_flat();
-    loaded_documents_are_lawful();
-    let laws = laws_of(alloc, loaded.documents.items())?;
-    let columns = columns_of(alloc, catalogue, laws.items())?;
-    let facts = IndexedFacts::by(alloc, columns, &loaded.facts)?;
-    first_difference(alloc, catalogue, laws.items(), &facts, rows)
+    let laws = List::new(alloc);
+    audit_tried(alloc, catalogue, &laws, loaded, rows)
 }

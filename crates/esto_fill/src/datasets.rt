@@ -5,7 +5,6 @@ ghost use Rattle.esto_fill.specs.Files.{AddsFile, GivesFacts, dataset_fault, Fin
 ghost use Rattle.esto_fill.specs.declared.datasets.DatasetBytes.{DatasetBytes};
 ghost use Rattle.esto_fill.specs.declared.datasets.LoadError.TheVariants as load;
 
-use crate::lawful::lawful_bases;
 use crate::loaded::{Loaded, nothing_loaded};
 use crate::wanted::{Wanted, if_wanted, kept_for};
 use esto_catalog::{Catalogue, Dataset};
@@ -173,20 +172,10 @@ pub fn load_dataset(
 {
     let dataset = catalogue.datasets.item(number);
     let own = facts_of(alloc, dataset, wanted, bytes.bytes(), loaded.next)?;
-    let documents = lawful_bases(
-        alloc,
-        &dataset.model,
-        wanted,
-        dataset.base,
-        &loaded.documents,
-        loaded.facts.items(),
-        own.facts.items(),
-    )?;
     let facts = joined(loaded.facts, own.facts)?;
     Ok(Loaded {
         facts,
         next: own.next,
-        documents,
     })
 }
 

@@ -1,116 +1,92 @@
-//! The facts of documents, which meet their rules by law.
-ghost use Rattle.std.specs.Prelude.{◌≡◌, ◌↔◌, ◌++◌, ℕ, IsTrue, true, false, Contains, IfOk};
+//! The rules that the facts of documents meet by law.
+ghost use Rattle.std.specs.Prelude.{◌≡◌, IsTrue, Some, slice_get, IfOk, OnOk};
 ghost use Rattle.esto_constraint.specs.Constraints.{rules_of};
-ghost use Rattle.esto_read.specs.declared.words.DataModel.{DataModel};
 ghost use Rattle.esto_read.specs.declared.words.DataModel.TheVariants as models;
-ghost use Rattle.esto_semantics.specs.declared.fact.Fact.{Fact};
-ghost use Rattle.esto_term.specs.declared.term.Term.{Term};
-ghost use Rattle.esto_fill.specs.Lawful.{AreLawful, AreOfBases, IsAmong, IsLawfulBy};
-ghost use Rattle.esto_fill.specs.declared.wanted.Wanted.TheVariants as wants;
+ghost use Rattle.esto_fill.specs.Lawful.{AreLaws, HaveNoneInCommon, IsAlone, KeepLaws};
 
-use crate::wanted::Wanted;
+use esto_catalog::{Dataset, relation_count};
 use esto_constraint::{Rules, document_rules_2};
 use esto_read::DataModel;
-use esto_semantics::Atom;
-use esto_term::{List, OutOfMemory, Places, Values};
+use esto_term::{List, OutOfMemory};
 use std::alloc::Global;
 
-// Whether the relation is one of the five from the base on.
-fn is_among(base: usize, relation: usize) -> bool
-    ensures { IsTrue result ↔ IsAmong base relation }
+// Whether the two datasets have no relation in common.
+fn are_apart(dataset: &Dataset, other: &Dataset) -> bool
+    ensures { IsTrue result → HaveNoneInCommon dataset.now other.now }
 {
-    relation >= base && relation - base < 5
+    if dataset.base <= other.base {
+        return other.base - dataset.base >= relation_count(dataset.model);
+    }
+    dataset.base - other.base >= relation_count(other.model)
 }
 
-// Whether one of the facts has one of the five relations from the base on.
-fn has_relation(facts: &[Atom], base: usize) -> bool
-    ensures { (result ≡ false) → (fact : Fact Term) → Contains facts.now fact
-        → IsAmong base fact.relation → ⊥ }
+// Whether it is the dataset of the number, or has no relation of that one.
+fn is_it_or_apart(number: usize, dataset: &Dataset, other: usize, its: &Dataset) -> bool
+    ensures { IsTrue result → (other ≡ number → ⊥) → HaveNoneInCommon dataset.now its.now }
 {
-    'facts: for fact in facts {
-        if is_among(base, fact.relation) {
-            return true;
+    if other == number {
+        return true;
+    }
+    are_apart(dataset, its)
+}
+
+// Whether no dataset but that of the number has a relation of it.
+fn is_alone(datasets: &[Dataset], number: usize, dataset: &Dataset) -> bool
+    ensures { IsTrue result → IsAlone datasets.now number dataset.now }
+{
+    'datasets: for (other, its) in datasets.iter().enumerate() {
+        if !is_it_or_apart(number, dataset, other, its) {
+            return false;
         }
     }
-    false
+    true
 }
 
-// Whether one of the facts has one of the five relations from one of the bases on.
-fn has_any(facts: &[Atom], bases: &[usize]) -> bool
-    ensures { (result ≡ false) → (base : ℕ) → Contains bases.now base → (fact : Fact Term)
-        → Contains facts.now fact → IsAmong base fact.relation → ⊥ }
-{
-    'bases: for base in bases {
-        if has_relation(facts, *base) {
-            return true;
-        }
-    }
-    false
-}
-
-// Whether all facts of documents are wanted.
-fn is_whole(model: &DataModel, wanted: &Wanted) -> bool
-    ensures { (result ≡ true) → (model.now ≡ models.Documents) × (wanted.now ≡ wants.Every) }
-{
-    match wanted {
-        Wanted::Every => match model {
-            DataModel::Documents => true,
-            DataModel::Table => false,
-            DataModel::Keys => false,
-        },
-        Wanted::Asked(_) => false,
-    }
-}
-
-// The bases of which the facts still meet the rules when the others come to them.
-fn still_lawful(
+// Puts the rules of the documents at the end, where no other dataset has a relation of theirs.
+fn add_documents(
     alloc: Global,
-    bases: &Places,
-    facts: &[Atom],
-    others: &[Atom],
-) -> Result<Places, OutOfMemory>
-    requires { AreLawful bases.now facts.now }
-    ensures { IfOk result (λ it. AreLawful it (facts.now ++ others.now)) }
+    datasets: &[Dataset],
+    number: usize,
+    dataset: &Dataset,
+    rules: &mut Rules,
+) -> Result<(), OutOfMemory>
+    requires there { slice_get datasets.now number ≡ Some dataset.now }
+    requires model { dataset.now.model ≡ models.Documents }
+    ensures { OnOk result (KeepLaws datasets.now (rules_of rules.old) (rules_of rules.new)) }
 {
-    if has_any(others, bases.items()) {
-        return Ok(Values::new(alloc));
+    if !is_alone(datasets, number, dataset) {
+        return Ok(());
     }
-    Values::from_slice(alloc, bases.items())
+    rules.append(document_rules_2(alloc, dataset.base)?)?;
+    Ok(())
 }
 
-/// The bases of documents whose rules the facts meet when those of a file come to them: those of which the facts met them,
-/// and the file's own, where its facts are all there and none before had a relation of it.
-pub fn lawful_bases(
+// Puts the rules that the facts of the dataset meet by law at the end.
+fn add_laws(
     alloc: Global,
-    model: &DataModel,
-    wanted: &Wanted,
-    base: usize,
-    bases: &Places,
-    facts: &[Atom],
-    own: &[Atom],
-) -> Result<Places, OutOfMemory>
-    requires before { AreLawful bases.now facts.now }
-    requires file { IsLawfulBy model.now wanted.now base own.now }
-    ensures { IfOk result (λ it. AreLawful it (facts.now ++ own.now)) }
+    datasets: &[Dataset],
+    number: usize,
+    dataset: &Dataset,
+    rules: &mut Rules,
+) -> Result<(), OutOfMemory>
+    requires { slice_get datasets.now number ≡ Some dataset.now }
+    ensures { OnOk result (KeepLaws datasets.now (rules_of rules.old) (rules_of rules.new)) }
 {
-    let mut lawful = still_lawful(alloc, bases, facts, own)?;
-    if !is_whole(model, wanted) {
-        return Ok(lawful);
+    match dataset.model {
+        DataModel::Table => Ok(()),
+        DataModel::Documents => add_documents(alloc, datasets, number, dataset, rules),
+        DataModel::Keys => Ok(()),
     }
-    if has_relation(facts, base) {
-        return Ok(lawful);
-    }
-    lawful.push(base)?;
-    Ok(lawful)
 }
 
-/// The rules of the documents from the bases on.
-pub fn laws_of(alloc: Global, bases: &[usize]) -> Result<Rules, OutOfMemory>
-    ensures { IfOk result (λ it. AreOfBases bases.now (rules_of it)) }
+/// Rules that the facts of the datasets' files meet by law, where no dataset has two files: those of the documents whose
+/// relations no other dataset has.
+pub fn laws_of(alloc: Global, datasets: &[Dataset]) -> Result<Rules, OutOfMemory>
+    ensures { IfOk result (λ it. AreLaws datasets.now (rules_of it)) }
 {
     let mut rules = List::new(alloc);
-    'bases: for base in bases {
-        rules.append(document_rules_2(alloc, *base)?)?;
+    'datasets: for (number, dataset) in datasets.iter().enumerate() {
+        add_laws(alloc, datasets, number, dataset, &mut rules)?;
     }
     Ok(rules)
 }

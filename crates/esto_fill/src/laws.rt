@@ -1,5 +1,5 @@
 //! Laws of the facts of datasets and the rows of fragments.
-ghost use Rattle.esto_fill.specs.Laws.{AnswersRestOnDatasets, AnswersRestOnWantedFacts, LoadedAreFlat, LoadedAreLawful, FactsStand, FactsAreOne, FaultsAreOne, ReadableHaveNone, AnswersAreOne};
+ghost use Rattle.esto_fill.specs.Laws.{AnswersRestOnDatasets, AnswersRestOnWantedFacts, DocumentsAreLawful, LoadedAreFlat, FactsStand, FactsAreOne, FaultsAreOne, ReadableHaveNone, AnswersAreOne};
 ghost use Rattle.esto_fill.specs.Laws.{UnionAnswersAreOne, JudgementsAreOne, FillsAreOne, AuditsAreOne, AuditsAreOverFiles, AgreeingAnswersAreTexts};
 ghost use Rattle.esto_fill.specs.Laws.{AgreeingAnswersAreOne};
 
@@ -11,9 +11,10 @@ pub fn loaded_facts_are_flat()
     ensures { LoadedAreFlat }
 {}
 
-/// A law: what is loaded meets the rules of the documents from its bases on.
-pub fn loaded_documents_are_lawful()
-    ensures { LoadedAreLawful }
+/// A law: the facts of files, of which no two are of one dataset, meet the rules of documents whose relations no other
+/// dataset has.
+pub fn documents_are_lawful()
+    ensures { DocumentsAreLawful }
 {}
 
 /// A law: facts over constants and plain terms, as databases stand for facts, are stood for by the database in which a

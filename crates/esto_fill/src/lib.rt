@@ -14,21 +14,23 @@ mod loaded;
 mod nodes;
 mod record;
 mod rows;
+mod trial;
 mod tried;
 mod views;
 mod wanted;
 
 pub use answering::{answer, answer_union};
-pub use auditing::{TextRowsList, audit};
+pub use auditing::{TextRowsList, audit, audit_tried};
 pub use datasets::{DatasetBytes, LoadError, LoadList, dataset_facts, load_dataset};
 pub use esto_ports::Difference;
 pub use filled::{FillError, fill};
 pub use laws::{
     agreeing_answers_are_one, answers_rest_on_their_datasets, answers_rest_on_wanted_facts,
-    audits_are_over_files, facts_stand_as_databases, loaded_documents_are_lawful,
-    loaded_facts_are_flat, outcomes_are_one,
+    audits_are_over_files, documents_are_lawful, facts_stand_as_databases, loaded_facts_are_flat,
+    outcomes_are_one,
 };
 pub use loaded::{Loaded, nothing_loaded};
 pub use rows::AnswerError;
+pub use trial::{Trial, trial_of};
 pub use views::audit_views;
 pub use wanted::{Wanted, wanted_by_body, wanted_by_queries};

@@ -1,10 +1,9 @@
 //! What is loaded of datasets' files.
 ghost use Rattle.std.specs.Prelude.{◌≡◌, []};
 ghost use Rattle.esto_semantics.specs.Maps.{AreFlat};
-ghost use Rattle.esto_fill.specs.Lawful.{AreLawful};
 
 use esto_semantics::Facts;
-use esto_term::{List, Places, Values};
+use esto_term::List;
 use std::alloc::Global;
 
 /// The facts of datasets' files, over constants and plain terms: a constant is a text, a plain term the node of that
@@ -13,10 +12,7 @@ use std::alloc::Global;
 pub struct Loaded {
     pub facts: Facts,
     pub next: u64,
-    /// Facts of documents whose relations stand from one of these bases on meet the rules of documents.
-    pub documents: Places,
     pub ghost sound: { ∥ AreFlat facts ∥₁ },
-    pub ghost lawful: { ∥ AreLawful documents facts ∥₁ },
 }
 
 /// No facts and no nodes, before any file is loaded.
@@ -27,6 +23,5 @@ pub fn nothing_loaded(alloc: Global) -> Loaded
     Loaded {
         facts: List::new(alloc),
         next: 0,
-        documents: Values::new(alloc),
     }
 }

@@ -1,8 +1,8 @@
 //! The rules that are tried: those that don't hold by law.
-ghost use Rattle.std.specs.Prelude.{◌≡◌, IsTrue, Contains, MatchOption, IfOk};
+ghost use Rattle.std.specs.Prelude.{◌≡◌, ◌↔◌, IsTrue, Contains, MatchOption, IfOk};
 ghost use Rattle.esto_constraint.specs.Constraints.{rule_of, rules_of};
-ghost use Rattle.esto_constraint.specs.Matches.{IsFirstBroken, IsLeastActive};
-ghost use Rattle.esto_semantics.specs.Rules.{AreMet, IsMet};
+ghost use Rattle.esto_constraint.specs.Matches.{IsLeastActive};
+ghost use Rattle.esto_fill.specs.Judging.{ArePassed, IsFirstTried, IsPassed};
 
 use esto_constraint::{Broken, Constraint, Egd, Rules, Tgd, active_in};
 use esto_query::{Columns, Found, IndexedFacts};
@@ -12,7 +12,7 @@ use std::alloc::Global;
 
 // Whether both are the same atom.
 fn is_same_atom(atom: &Atom, other: &Atom) -> bool
-    ensures { IsTrue result → atom.now ≡ other.now }
+    ensures { IsTrue result ↔ (atom.now ≡ other.now) }
 {
     if atom.relation != other.relation {
         return false;
@@ -22,7 +22,7 @@ fn is_same_atom(atom: &Atom, other: &Atom) -> bool
 
 // Whether both are the same atoms in the same order.
 fn are_same(atoms: &[Atom], others: &[Atom]) -> bool
-    ensures { IsTrue result → atoms.now ≡ others.now }
+    ensures { IsTrue result ↔ (atoms.now ≡ others.now) }
 {
     if atoms.len() != others.len() {
         return false;
@@ -37,7 +37,7 @@ fn are_same(atoms: &[Atom], others: &[Atom]) -> bool
 
 // Whether both are the same tuple rule, whatever their variables are named.
 fn is_same_tuple(rule: &Tgd, other: &Tgd) -> bool
-    ensures { IsTrue result → (rule.now.body ≡ other.now.body) × (rule.now.head ≡ other.now.head) }
+    ensures { IsTrue result ↔ ((rule.now.body ≡ other.now.body) × (rule.now.head ≡ other.now.head)) }
 {
     if !are_same(rule.body.items(), other.body.items()) {
         return false;
@@ -47,8 +47,8 @@ fn is_same_tuple(rule: &Tgd, other: &Tgd) -> bool
 
 // Whether both are the same equality rule, whatever their variables are named.
 fn is_same_equality(rule: &Egd, other: &Egd) -> bool
-    ensures { IsTrue result → (rule.now.body ≡ other.now.body)
-        × ((rule.now.left ≡ other.now.left) × (rule.now.right ≡ other.now.right)) }
+    ensures { IsTrue result ↔ ((rule.now.body ≡ other.now.body)
+        × ((rule.now.left ≡ other.now.left) × (rule.now.right ≡ other.now.right))) }
 {
     if !rule.left.equal(&other.left) {
         return false;
@@ -61,7 +61,7 @@ fn is_same_equality(rule: &Egd, other: &Egd) -> bool
 
 // Whether both are the same rule, whatever their variables are named.
 fn is_same_rule(rule: &Constraint, other: &Constraint) -> bool
-    ensures { IsTrue result → rule_of rule.now ≡ rule_of other.now }
+    ensures { IsTrue result ↔ (rule_of rule.now ≡ rule_of other.now) }
 {
     match rule {
         Constraint::Tuple(rule) => match other {
@@ -82,9 +82,9 @@ fn is_same_rule(rule: &Constraint, other: &Constraint) -> bool
     }
 }
 
-// Whether the rule is one of the laws.
-fn is_law(rule: &Constraint, laws: &[Constraint]) -> bool
-    ensures { IsTrue result → Contains (rules_of laws.now) (rule_of rule.now) }
+/// Whether the rule is one of the laws.
+pub fn is_law(rule: &Constraint, laws: &[Constraint]) -> bool
+    ensures { IsTrue result ↔ Contains (rules_of laws.now) (rule_of rule.now) }
 {
     'laws: for law in laws {
         if is_same_rule(rule, law) {
@@ -128,9 +128,10 @@ fn tried(
     laws: &[Constraint],
     facts: &IndexedFacts,
 ) -> Result<Option<Found>, OutOfMemory>
-    requires { AreMet facts.now (rules_of laws.now) }
-    ensures { IfOk result (λ outcome. MatchOption outcome (IsMet facts.now (rule_of rule.now))
-        (λ found. IsLeastActive (rule_of rule.now) facts.now found.valuation found.places)) }
+    ensures { IfOk result (λ outcome. MatchOption outcome
+        (IsPassed (rules_of laws.now) facts.now (rule_of rule.now))
+        (λ found. ¬ (Contains (rules_of laws.now) (rule_of rule.now))
+        × IsLeastActive (rule_of rule.now) facts.now found.valuation found.places)) }
 {
     if is_law(rule, laws) {
         return Ok(None);
@@ -138,17 +139,17 @@ fn tried(
     active_in(alloc, rule, facts)
 }
 
-/// The first rule, by its number, that the facts do not meet, with its least active match, where they meet the laws, which
-/// are not tried. None comes exactly where they meet each rule.
+/// The first rule, by its number, that is none of the laws and that the facts do not meet, with its least active match. None
+/// comes exactly where they meet each rule but the laws, which are not tried.
 pub fn first_broken(
     alloc: Global,
     rules: &Rules,
     laws: &[Constraint],
     facts: &IndexedFacts,
 ) -> Result<Option<Broken>, OutOfMemory>
-    requires { AreMet facts.now (rules_of laws.now) }
-    ensures { IfOk result (λ outcome. MatchOption outcome (AreMet facts.now (rules_of rules.now))
-        (λ broken. IsFirstBroken (rules_of rules.now) facts.now broken.rule
+    ensures { IfOk result (λ outcome. MatchOption outcome
+        (ArePassed (rules_of laws.now) facts.now (rules_of rules.now))
+        (λ broken. IsFirstTried (rules_of laws.now) (rules_of rules.now) facts.now broken.rule
         broken.found.valuation broken.found.places)) }
 {
     'rules: for number in 0..rules.len() {

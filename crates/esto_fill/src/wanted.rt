@@ -72,6 +72,9 @@ pub fn wanted_by_queries(alloc: Global, queries: &[Query]) -> Result<Wanted, Out
 fn with_text(alloc: Global, text: &Text, texts: KeptTexts) -> Result<KeptTexts, OutOfMemory>
     ensures { IfOk result (AdmitsMore text.now texts) }
 {
+    if texts.has(text.as_str()) {
+        return Ok(texts);
+    }
     match texts {
         KeptTexts::Every => Ok(KeptTexts::Every),
         KeptTexts::These(some) => {

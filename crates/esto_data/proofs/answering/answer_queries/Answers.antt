@@ -15,7 +15,7 @@ returns-in_err-loaded-clause-asked g c = handed_asks _ _ _ c.from_residual.ensur
 
 pub returns-clause-answer : goal.returns-clause-answer
 returns-clause-answer g c =
-    let (facts, goes, some) = c.in_ok-loaded.ensures.answer in
+    let (facts, goes, some, met) = c.in_ok-loaded.ensures.answer in
     next_answers _ _ _ facts c.answer_loaded.result goes
     (answers_still (answers_facts c.args.queries.now facts) _ c.answer_loaded.result
     (answers_all c.answers_rest_on_wanted_facts.ensures c.args.queries.now facts c.in_ok-loaded.loaded.facts some c.answer_loaded.result
@@ -23,7 +23,7 @@ returns-clause-answer g c =
 
 pub returns-clause-asked : goal.returns-clause-asked
 returns-clause-asked g c =
-    let (facts, asked, some) = c.in_ok-loaded.ensures.asked in
+    let (facts, asked, some, met) = c.in_ok-loaded.ensures.asked in
     later_asks _ _ asked
     (quiet_asks (answers_facts c.args.queries.now facts) _ c.answer_loaded.result
     (quiet_then _ _ (quiet_judges _ _) (λ rows. quiet_gives _ _))

@@ -1,23 +1,18 @@
-use Rattle.esto_course.proofs.Steps.{at_exit, first_stops}
-use Rattle.esto_opening.proofs.AskedSteps.{exit_asks, handed_asks, later_asks}
-use Rattle.esto_opening.proofs.Steps.{then_answers}
-use Rattle.esto_data.specs.Datasets.{IsAny, loads}
-use Rattle.esto_data.proofs.WantedLemmas.{loads_all, loads_all_asks}
+use Rattle.std.proofs.Common.{refl}
+use Rattle.esto_course.specs.Course.Stops.{is_free}
+use Rattle.esto_course.proofs.Steps.{at_exit}
+use Rattle.esto_opening.proofs.AskedSteps.{exit_asks, handed_asks, wanted}
+use Rattle.esto_data.specs.Audit.{audits_facts}
+use Rattle.esto_data.specs.Datasets.{AreNeeded, IsAny, loads}
 use Rattle.esto_data.proofs.auditing.audit_catalogue.Goals as goal
 
-pub returns-in_err-loaded-clause-answer : goal.returns-in_err-loaded-clause-answer
-returns-in_err-loaded-clause-answer g c = at_exit _ _ c.from_residual.result c.from_residual.ensures.1 (first_stops _ _ c.in_err-loaded.ensures.answer)
+pub returns-in_err-trial-clause-answer : goal.returns-in_err-trial-clause-answer
+returns-in_err-trial-clause-answer g c = at_exit _ _ c.from_residual.result c.from_residual.ensures.1 (is_free refl)
 
-pub returns-in_err-loaded-clause-asked : goal.returns-in_err-loaded-clause-asked
-returns-in_err-loaded-clause-asked g c = handed_asks _ _ _ c.from_residual.ensures.1 (exit_asks _ _ c.in_err-loaded.ensures.asked)
-
-pub returns-clause-answer : goal.returns-clause-answer
-returns-clause-answer g c =
-    let answer = rw c.in_ok-loaded.ensures.files at c.audit_facts.ensures.answer in
-    then_answers _ _ _ _ _ c.in_ok-loaded.loaded.facts c.audit_facts.result (loads_all (loads (g.S.Shelf.files c.args.shelf.now) c.args.catalogue.now.datasets IsAny) c.in_ok-loaded.loaded c.in_ok-loaded.ensures.answer) c.in_ok-loaded.ensures.later
-    c.audit_facts.ensures.later answer
-
-pub returns-clause-asked : goal.returns-clause-asked
-returns-clause-asked g c =
-    let asked = rw c.in_ok-loaded.ensures.files at c.audit_facts.ensures.asked in
-    later_asks _ _ (loads_all_asks (loads (g.S.Shelf.files c.args.shelf.now) c.args.catalogue.now.datasets IsAny) c.in_ok-loaded.loaded c.in_ok-loaded.ensures.asked) asked
+pub returns-in_err-trial-clause-asked : goal.returns-in_err-trial-clause-asked
+returns-in_err-trial-clause-asked g c =
+    let files = g.S.Shelf.files c.args.shelf.now in
+    let catalogue = c.args.catalogue.now in
+    handed_asks _ _ c.from_residual.result c.from_residual.ensures.1
+    (exit_asks (loads files catalogue.datasets IsAny) (audits_facts files catalogue)
+    (wanted (g.S.Shelf.asked c.args.shelf.now) (AreNeeded catalogue.datasets IsAny) (λ _. ⊥) _))

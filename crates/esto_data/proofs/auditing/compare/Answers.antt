@@ -7,17 +7,17 @@ use Rattle.esto_data.proofs.StepLemmas.{agrees_goes, differs_stops}
 use Rattle.esto_data.proofs.auditing.compare.Goals as goal
 
 pub returns-in-None : goal.returns-in-None
-returns-in-None c = λ contents same.
+returns-in-None c = λ contents same facts enough.
     let catalogue = c.args.catalogue.now in
-    let audits = rw c.in-None.is at c.in_ok-audit.ensures in
-    agrees_goes catalogue c.args.loaded.now.facts contents
+    let audits = rw c.in-None.is at (c.in_ok-audit_tried.ensures facts enough) in
+    agrees_goes catalogue facts contents
     ((c.audits_are_over_files.ensures (rules_of catalogue.rules) (map written catalogue.rules) (names_of catalogue.fragments) (views_of catalogue.fragments)
-    c.args.loaded.now.facts catalogue.stores contents c.args.rows.now None same).0 audits)
+    facts catalogue.stores contents c.args.rows.now None same).0 audits)
 
 pub returns-in-Some : goal.returns-in-Some
-returns-in-Some c = λ contents same.
+returns-in-Some c = λ contents same facts enough.
     let catalogue = c.args.catalogue.now in
-    let audits = rw c.in-Some.is at c.in_ok-audit.ensures in
-    differs_stops catalogue c.args.loaded.now.facts contents c.in-Some.difference
+    let audits = rw c.in-Some.is at (c.in_ok-audit_tried.ensures facts enough) in
+    differs_stops catalogue facts contents c.in-Some.difference
     ((c.audits_are_over_files.ensures (rules_of catalogue.rules) (map written catalogue.rules) (names_of catalogue.fragments) (views_of catalogue.fragments)
-    c.args.loaded.now.facts catalogue.stores contents c.args.rows.now (Some c.in-Some.difference) same).0 audits)
+    facts catalogue.stores contents c.args.rows.now (Some c.in-Some.difference) same).0 audits)
