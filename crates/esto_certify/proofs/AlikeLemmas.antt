@@ -21,7 +21,7 @@ use Rattle.esto_opening.proofs.AgreeLemmas.{fetches-agree}
 use Rattle.esto_planning.specs.Alike.{IsSamePlan, PlanIsOne}
 use Rattle.esto_opening.proofs.AlikeLemmas.{same_query}
 use Rattle.esto_certify.specs.Verify.{HasVerdict, IsAbove, IsSetOf, judges_certificate, names_set, verifies_query, verifies_set, verify_course}
-use Rattle.esto_certify.specs.declared.verifying.TheConstants.{CERTIFICATE_LIMIT}
+use Rattle.esto_opening.specs.declared.opening.TheConstants.{DATA_LIMIT}
 
 pub same_length : (plan other : Plan) → IsSamePlan plan other → length plan.atoms ≡ length other.atoms
 same_length plan other same =
@@ -87,7 +87,7 @@ module _ (tell : NumbersTellSets) (verdicts : VerdictsAreOne) (plans_one : PlanI
       → IsSameQuery query other_query → IsSamePlan plan other_plan
       → AgreeCalmly ◌≡◌ (verifies_set (Some files) catalogue query plan file set) (verifies_set (Some files) other other_query other_plan file set)
   set_one catalogue other query other_query plan other_plan set alike same plans =
-      then_agree _ ◌≡◌ ◌≡◌ _ _ _ _ (fetches-agree files file CERTIFICATE_LIMIT) (λ bytes other_bytes goes is.
+      then_agree _ ◌≡◌ ◌≡◌ _ _ _ _ (fetches-agree files file DATA_LIMIT) (λ bytes other_bytes goes is.
       subst (λ (it : List ℕ). AgreeCalmly ◌≡◌ (judges_certificate catalogue query plan set bytes) (judges_certificate other other_query other_plan set it)) is
       (judged_one verdicts catalogue other query other_query plan other_plan alike same plans set bytes))
 

@@ -20,7 +20,7 @@ use Rattle.esto_planning.specs.Listing.{IsPlanned}
 use Rattle.esto_planning.specs.Planning.{plans_query}
 use Rattle.esto_certify.specs.Laws.{Certifies, IsSaid, SaysVerdict, VerifySaysVerdicts}
 use Rattle.esto_certify.specs.Verify.{HasVerdict, IsAbove, IsSetOf, judges_certificate, names_set, verifies_query, verifies_set}
-use Rattle.esto_certify.specs.declared.verifying.TheConstants.{CERTIFICATE_LIMIT}
+use Rattle.esto_opening.specs.declared.opening.TheConstants.{DATA_LIMIT}
 use Rattle.esto_certify.proofs.AlikeLemmas.{same_length, set_not_above, sets_one, verdict_one}
 
 -- ---- certificates that are accepted
@@ -106,7 +106,7 @@ module _ (catalogues : CataloguesOpenAlike) (queries : QueriesOpenAlike) (plans_
       then-leads _ _ (λ its. set ≡ its) _ _ (named_leads tell plan other_plan plans numbers set is_set _) (λ its is.
       subst (λ (it : List Bool). Leads (verifies_set (Some files) other other_query other_plan file it) (SaysVerdict verdict status.Done)
       (λ said. SaysVerdict verdict said (line_of said))) is
-      (then-leads _ _ (λ found. found ≡ bytes) _ _ (fetches-leads files file CERTIFICATE_LIMIT bytes within _) (λ found is_bytes.
+      (then-leads _ _ (λ found. found ≡ bytes) _ _ (fetches-leads files file DATA_LIMIT bytes within _) (λ found is_bytes.
       subst (λ (it : List ℕ). Leads (judges_certificate other other_query other_plan set it) (SaysVerdict verdict status.Done)
       (λ said. SaysVerdict verdict said (line_of said))) (sym is_bytes)
       (judged_leads catalogue other query other_query plan other_plan alike same plans set bytes verdict has)))))

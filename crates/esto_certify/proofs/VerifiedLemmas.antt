@@ -22,7 +22,7 @@ use Rattle.esto_certify.specs.Laws.{IsChecked, IsVerified, VerifyChecksCertifica
 use Rattle.esto_certify.specs.Laws.IsChecked.{is_above, not_fetched, accepts, rejects}
 use Rattle.esto_certify.specs.Laws.IsVerified.{clashes, has_plan}
 use Rattle.esto_certify.specs.Verify.{first_above, HasVerdict, IsAbove, IsSetOf, verifies_query}
-use Rattle.esto_certify.specs.declared.verifying.TheConstants.{CERTIFICATE_LIMIT}
+use Rattle.esto_opening.specs.declared.opening.TheConstants.{DATA_LIMIT}
 use Rattle.esto_certify.proofs.AlikeLemmas.{same_length, verdict_moved}
 use Rattle.esto_certify.proofs.ExactLemmas.{certifies}
 
@@ -59,11 +59,11 @@ module _ (laws : VerifyLaws) (files : Files) (numbers file : List ℕ) (catalogu
           (is ∙ ap (λ (it : ℕ). status.NoSuchNumber number it) as_long) refl
 
       unread_here : (set : List Bool) → IsSetOf (length plan.atoms) numbers set → (said : Status) → IsCaused ⊥ said
-          → FetchStops (Some files) file CERTIFICATE_LIMIT said → IsChecked files catalogue query any numbers file said (line_of said)
+          → FetchStops (Some files) file DATA_LIMIT said → IsChecked files catalogue query any numbers file said (line_of said)
       unread_here set is_set said caused stop = not_fetched set (set_here set is_set) caused stop refl
 
       module _ (set : List Bool) (is_set : IsSetOf (length plan.atoms) numbers set) (bytes : List ℕ)
-          (within : HasWithin files file CERTIFICATE_LIMIT bytes) where
+          (within : HasWithin files file DATA_LIMIT bytes) where
         accepted_here : HasVerdict other read plan set bytes None → (text : List ℕ) → IsChecked files catalogue query any numbers file status.Done text
         accepted_here has text =
             accepts set bytes (set_here set is_set) within

@@ -27,7 +27,7 @@ use Rattle.esto_planning.specs.Laws.{HoldsOfPlans}
 use Rattle.esto_planning.specs.Listing.{IsClash, IsListOf, IsPlanned}
 use Rattle.esto_certify.specs.Explain.{explain_course}
 use Rattle.esto_certify.specs.Verify.{first_above, HasVerdict, IsSetOf, verify_course}
-use Rattle.esto_certify.specs.declared.verifying.TheConstants.{CERTIFICATE_LIMIT}
+use Rattle.esto_opening.specs.declared.opening.TheConstants.{DATA_LIMIT}
 
 -- ---- one outcome
 
@@ -88,7 +88,7 @@ SaysVerdict (Some line) said text = said ≡ status.Rejected line
 abbrev pub VerifySaysVerdicts : Type 0
 VerifySaysVerdicts =
     (files : Files) (catalogue : Catalogue) (query : Query) (plan : Plan) (numbers file : List ℕ) (set : List Bool) (bytes : List ℕ) (verdict : Option ℕ)
-    → IsSetOf (length plan.atoms) numbers set → HasWithin files file CERTIFICATE_LIMIT bytes → HasVerdict catalogue query plan set bytes verdict
+    → IsSetOf (length plan.atoms) numbers set → HasWithin files file DATA_LIMIT bytes → HasVerdict catalogue query plan set bytes verdict
     → IsSaid files catalogue query plan numbers file (SaysVerdict verdict)
 
 -- What `verify` says over a printed plan: that the first number above how many atoms the plan has is refused, with how many they are; or, where the numbers
@@ -97,11 +97,11 @@ pub data IsChecked (files : Files) (catalogue : Catalogue) (query : Query) (plan
     : Type 0 where
   is_above : (number : ℕ) → first_above (length plan.atoms) numbers ≡ Some number → said ≡ status.NoSuchNumber number (length plan.atoms)
       → text ≡ line_of said → IsChecked files catalogue query plan numbers file said text
-  not_fetched : (set : List Bool) → IsSetOf (length plan.atoms) numbers set → IsCaused ⊥ said → FetchStops (Some files) file CERTIFICATE_LIMIT said
+  not_fetched : (set : List Bool) → IsSetOf (length plan.atoms) numbers set → IsCaused ⊥ said → FetchStops (Some files) file DATA_LIMIT said
       → text ≡ line_of said → IsChecked files catalogue query plan numbers file said text
-  accepts : (set : List Bool) (bytes : List ℕ) → IsSetOf (length plan.atoms) numbers set → HasWithin files file CERTIFICATE_LIMIT bytes
+  accepts : (set : List Bool) (bytes : List ℕ) → IsSetOf (length plan.atoms) numbers set → HasWithin files file DATA_LIMIT bytes
       → Certifies catalogue query plan set bytes → said ≡ status.Done → IsChecked files catalogue query plan numbers file said text
-  rejects : (set : List Bool) (bytes : List ℕ) (line : ℕ) → IsSetOf (length plan.atoms) numbers set → HasWithin files file CERTIFICATE_LIMIT bytes
+  rejects : (set : List Bool) (bytes : List ℕ) (line : ℕ) → IsSetOf (length plan.atoms) numbers set → HasWithin files file DATA_LIMIT bytes
       → HasVerdict catalogue query plan set bytes (Some line) → said ≡ status.Rejected line → text ≡ line_of said
       → IsChecked files catalogue query plan numbers file said text
 

@@ -14,7 +14,7 @@ use Rattle.esto_opening.specs.declared.reply.Reply.TheVariants.{Done}
 use Rattle.esto_opening.specs.declared.status.Status.{Status}
 use Rattle.esto_opening.specs.declared.status.Status.TheVariants.{NoSuchNumber, Rejected}
 use Rattle.esto_planning.specs.Planning.{plans_query}
-use Rattle.esto_certify.specs.declared.verifying.TheConstants.{CERTIFICATE_LIMIT}
+use Rattle.esto_opening.specs.declared.opening.TheConstants.{DATA_LIMIT}
 
 -- ---- the set
 
@@ -52,7 +52,7 @@ judges_certificate catalogue query plan set bytes =
 -- The certificate is fetched, and judged.
 abbrev pub verifies_set : Option Files → Catalogue → Query → Plan → List ℕ → List Bool → Course Status (List ℕ)
 verifies_set files catalogue query plan file set =
-    and_then (fetches files file CERTIFICATE_LIMIT) (λ bytes. judges_certificate catalogue query plan set bytes)
+    and_then (fetches files file DATA_LIMIT) (λ bytes. judges_certificate catalogue query plan set bytes)
 
 -- The query has a plan, the numbers name a set of its atoms, and the certificate for the set is verified.
 abbrev pub verifies_query : Option Files → List ℕ → List ℕ → Catalogue → Query → Course Status (List ℕ)

@@ -11,4 +11,4 @@ pub use laws::{
     explain_has_one_status, explain_says_certificates, sets_have_certificates,
     verify_checks_certificates, verify_outcomes_are_one, verify_says_verdicts,
 };
-pub use verifying::{CERTIFICATE_LIMIT, verify};
+pub use verifying::verify;

@@ -10,16 +10,13 @@ ghost use Rattle.esto_certify.specs.Verify.{judges_certificate, names_set, verif
 use esto_bits::RowBits;
 use esto_catalog::Catalogue;
 use esto_cert::{CertError, check_certificate};
-use esto_opening::{Reply, Status, fetch, open_catalogue, open_query};
+use esto_opening::{DATA_LIMIT, Reply, Status, fetch, open_catalogue, open_query};
 use esto_planning::{plan_of, planned_plans_have_their_form};
 use esto_ports::Shelf;
 use esto_query::Query;
 use esto_term::{Bytes, Text};
 use esto_views::Plan;
 use std::alloc::Global;
-
-/// The greatest length of a certificate's file, in bytes.
-pub const CERTIFICATE_LIMIT: u64 = 8_388_608;
 
 // Puts the atom of the number, counted from 1, into the set. No atom has the number 0.
 fn put_atom(set: &mut RowBits, number: u64)
@@ -95,7 +92,7 @@ fn verify_set<S: Shelf>(
     ensures files { S.files shelf.new ≡ S.files shelf.old }
     ensures later { S.faults shelf.old ≤ S.faults shelf.new }
 {
-    let bytes = fetch(alloc, shelf, file, CERTIFICATE_LIMIT)?;
+    let bytes = fetch(alloc, shelf, file, DATA_LIMIT)?;
     let text = judged(alloc, &bytes, set, plan, query, catalogue)?;
     Ok(text)
 }

@@ -31,7 +31,7 @@ use Rattle.esto_opening.specs.Asked.{AsksIn}
 use Rattle.esto_data.specs.Datasets.{AddsNeeded, AreFactsOfFiles, AreLawful, AreNeeded, IsSourceAt, Loads, LoadsAsking, LoadsFiles, LoadsMore, LoadsNext, ReadsData}
 use Rattle.esto_data.specs.Datasets.{Source, demands_file, demands_files, loads, loads_files, loads_next, opens_dataset, reads_data}
 use Rattle.esto_opening.specs.Fetch.{fetches}
-use Rattle.esto_data.specs.declared.datasets.TheConstants.{DATASET_LIMIT}
+use Rattle.esto_opening.specs.declared.opening.TheConstants.{DATA_LIMIT}
 use Rattle.esto_opening.specs.declared.status.Status.{Status}
 use Rattle.esto_opening.specs.declared.status.Status.TheVariants.{BadDataset, NoData, OutOfMemory}
 use Rattle.esto_opening.proofs.AskedSteps.{early_want, exit_asks, later_asks, quiet_asks}
@@ -72,30 +72,30 @@ own_name datasets number dataset own at is = ap (λ (it : Dataset). it.name) (sa
 module _ (files : Option Files) (datasets : List Dataset) (wanted : Wanted) (number : ℕ) (source : Source) (at : IsSourceAt datasets number source) where
   -- an error that `?` hands on where the file is not fetched
   pub load_exit : {rose : Type 0} {before after : Option (List (List ℕ))} (old : Loaded) (error : Status) (result : Result Loaded Status)
-      → IsErrAnd result (λ handed. handed ≡ error) → Stops IsWant (IsCaused rose) (fetches files source.file DATASET_LIMIT) error
-      → AsksIn before after (fetches files source.file DATASET_LIMIT) (Err error)
+      → IsErrAnd result (λ handed. handed ≡ error) → Stops IsWant (IsCaused rose) (fetches files source.file DATA_LIMIT) error
+      → AsksIn before after (fetches files source.file DATA_LIMIT) (Err error)
       → LoadsNext files datasets wanted number old rose before after result
   load_exit old error (Ok _) handed stops asks = absurd handed
   load_exit old error (Err handed_on) handed stops asks = rw handed (
-    unfetched_stops (IsSourceAt datasets number) (λ it. it.file) DATASET_LIMIT (λ it. reads_data it.dataset) files source at stops,
-    unfetched_asks (IsSourceAt datasets number) (λ it. it.file) DATASET_LIMIT (λ it. reads_data it.dataset) files source at asks,
+    unfetched_stops (IsSourceAt datasets number) (λ it. it.file) DATA_LIMIT (λ it. reads_data it.dataset) files source at stops,
+    unfetched_asks (IsSourceAt datasets number) (λ it. it.file) DATA_LIMIT (λ it. reads_data it.dataset) files source at asks,
   )
 
-  module _ (bytes : List ℕ) (fetched : (fetches files source.file DATASET_LIMIT).goes bytes) (before after : Option (List (List ℕ)))
-      (asked : AsksIn before after (fetches files source.file DATASET_LIMIT) (Ok bytes)) where
+  module _ (bytes : List ℕ) (fetched : (fetches files source.file DATA_LIMIT).goes bytes) (before after : Option (List (List ℕ)))
+      (asked : AsksIn before after (fetches files source.file DATA_LIMIT) (Ok bytes)) where
     -- it is fetched, and its content read
     pub loads_next_by : (old : Loaded) (rose : Type 0) (result : Result Loaded Status) → ReadsData datasets wanted number source.dataset bytes old result
         → LoadsNext files datasets wanted number old rose before after result
     loads_next_by old rose (Ok new) (good, more) = (
       bytes,
-      opened_goes (IsSourceAt datasets number) (λ it. it.file) DATASET_LIMIT (λ it. reads_data it.dataset) files source at bytes fetched good,
+      opened_goes (IsSourceAt datasets number) (λ it. it.file) DATA_LIMIT (λ it. reads_data it.dataset) files source at bytes fetched good,
       more,
-      opened_asks (IsSourceAt datasets number) (λ it. it.file) DATASET_LIMIT (λ it. reads_data it.dataset) files source at bytes (quiet_judges _ _) asked
+      opened_asks (IsSourceAt datasets number) (λ it. it.file) DATA_LIMIT (λ it. reads_data it.dataset) files source at bytes (quiet_judges _ _) asked
           good,
     )
     loads_next_by old rose (Err refusal) stops = (
-      unread_stops (IsSourceAt datasets number) (λ it. it.file) DATASET_LIMIT (λ it. reads_data it.dataset) files source at bytes fetched stops,
-      unread_asks (IsSourceAt datasets number) (λ it. it.file) DATASET_LIMIT (λ it. reads_data it.dataset) files source at bytes (quiet_judges _ _) asked
+      unread_stops (IsSourceAt datasets number) (λ it. it.file) DATA_LIMIT (λ it. reads_data it.dataset) files source at bytes fetched stops,
+      unread_asks (IsSourceAt datasets number) (λ it. it.file) DATA_LIMIT (λ it. reads_data it.dataset) files source at bytes (quiet_judges _ _) asked
           stops,
     )
 

@@ -42,7 +42,7 @@ use Rattle.esto_opening.specs.Line.{line_of}
 use Rattle.esto_opening.specs.Opening.{FilesSayCatalogue, FilesSayQuery, FilesSayUnion, opens_catalogue, opens_query, opens_union, reads_catalogue, reads_query}
 use Rattle.esto_opening.specs.Unions.{SaidUnionsOpen, UnionsOfOneAreQueries}
 use Rattle.esto_fragments.specs.Texts.{union_rows_text}
-use Rattle.esto_opening.specs.declared.opening.TheConstants.{CATALOGUE_LIMIT, QUERY_LIMIT}
+use Rattle.esto_opening.specs.declared.opening.TheConstants.{CATALOGUE_LIMIT, DATA_LIMIT, QUERY_LIMIT}
 use Rattle.esto_opening.specs.declared.reply.Reply.{Reply}
 use Rattle.esto_opening.specs.declared.reply.Reply.TheVariants.{Done}
 use Rattle.esto_opening.specs.declared.status.Status.{Status}
@@ -54,7 +54,6 @@ use Rattle.esto_constraint.proofs.RuleLemmas.{are_rules}
 use Rattle.esto_data.specs.Answer.{IsAnswerOfFacts, IsUnionAnswerOfFacts, answer_course, answers_union}
 use Rattle.esto_data.specs.Audit.{AuditsFiles, all_fragments, audit_course, audit_text, audits_catalogue}
 use Rattle.esto_data.specs.Datasets.{IsAny, Names, OneNames, demands_file, loads, loads_next, opens_dataset}
-use Rattle.esto_data.specs.declared.datasets.TheConstants.{DATASET_LIMIT}
 use Rattle.esto_data.specs.Exact.{AreReadableFragments, AuditsExactly, FillsExactly, GivesExactly, HoldFacts, IsExactAnswer, IsExactAudit, IsExactFill}
 use Rattle.esto_data.specs.Exact.{IsExactUnionAnswer}
 use Rattle.esto_data.specs.Exact.FillsExactly.{prints, tells_key, tells_node}
@@ -196,9 +195,9 @@ module _ (laws : DataLaws) (files : Files) (catalogue : Catalogue) where
       long : (its : List ℕ) (limit : ℕ) (said : Status) → said ≡ status.TooLong its limit → said ≢ status.NoSuchFragment name
       long its limit said is same = cc
 
-      fetch_other : (file : List ℕ) (said : Status) → IsCaused ⊥ said → FetchStops (Some files) file DATASET_LIMIT said → said ≢ status.NoSuchFragment name
+      fetch_other : (file : List ℕ) (said : Status) → IsCaused ⊥ said → FetchStops (Some files) file DATA_LIMIT said → said ≢ status.NoSuchFragment name
       fetch_other file said caused (fails is) = absurd (read_cause ⊥ said file is caused)
-      fetch_other file said caused (is_longer bytes holds less is) = long file DATASET_LIMIT said is
+      fetch_other file said caused (is_longer bytes holds less is) = long file DATA_LIMIT said is
 
   loaded_other : (name : List ℕ) (numbers : List ℕ) (counter : ℕ) (so_far : List DatasetBytes)
       → Leads (each (loads_next (Some files) catalogue.datasets) counter so_far numbers) (λ _. Unit {0}) (λ said. said ≢ status.NoSuchFragment name)

@@ -12,7 +12,7 @@ use Rattle.esto_opening.specs.Answers.{IsCaused}
 use Rattle.esto_opening.specs.Calm.{Leads}
 use Rattle.esto_fragments.specs.Fragments.{Stored, IsReadableFragment, IsStoredAt, reads_content, opens_stored, opens_fragment, opens_next, opens_fragments}
 use Rattle.esto_fragments.specs.Fragments.{no_contents, with_content}
-use Rattle.esto_fragments.specs.declared.fragments.TheConstants.{FRAGMENT_LIMIT}
+use Rattle.esto_opening.specs.declared.opening.TheConstants.{DATA_LIMIT}
 use Rattle.esto_opening.specs.declared.status.Status.{Status}
 use Rattle.esto_opening.proofs.LeadLemmas.{then-leads, leads-more, gives-leads, judges-leads, fetches-leads}
 use Rattle.esto_fragments.proofs.FragmentLemmas.{content_there}
@@ -92,7 +92,7 @@ module _ (files : Files) (catalogue : Catalogue) where
       then-leads _ _ (λ other. other ≡ stored) _ _
       (holds-leads _ _ (λ _. ⊥) (λ other there. one_stored other there))
       (λ other is. subst (λ (it : Stored). Leads (opens_stored (Some files) it) (λ own. own ≡ bytes) (λ _. ⊥)) (sym is)
-      (then-leads _ _ (λ own. own ≡ bytes) _ _ (fetches-leads files stored.store.file FRAGMENT_LIMIT bytes has (λ _. ⊥))
+      (then-leads _ _ (λ own. own ≡ bytes) _ _ (fetches-leads files stored.store.file DATA_LIMIT bytes has (λ _. ⊥))
       (λ own same. then-leads _ _ (λ value. Unit {0}) _ _ (read_leads own same)
       (λ value done. leads-more _ _ _ (λ _. ⊥) (λ given given_is. given_is ∙ same) (gives-leads own (λ _. ⊥))))))
     where

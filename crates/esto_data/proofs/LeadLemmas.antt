@@ -21,7 +21,7 @@ use Rattle.esto_opening.specs.declared.status.Status.{Status}
 use Rattle.esto_opening.proofs.LeadLemmas.{then-leads, leads-more, gives-leads, judges-leads, fetches-leads}
 use Rattle.esto_data.specs.Datasets.{AreFactsOfFiles, AreNeeded, IsSourceAt, Source, demands_file, loads, loads_files, loads_next, opens_dataset, reads_data}
 use Rattle.esto_data.specs.Exact.{HoldFacts, IsReadableDataset, files_of}
-use Rattle.esto_data.specs.declared.datasets.TheConstants.{DATASET_LIMIT}
+use Rattle.esto_opening.specs.declared.opening.TheConstants.{DATA_LIMIT}
 use Rattle.esto_data.proofs.LoadLemmas.{needed_one}
 
 -- ---- what was opened
@@ -165,8 +165,8 @@ module _ (files : Files) (datasets : List Dataset) where
       then-leads _ _ (λ source. (source.dataset ≡ dataset) × (source.file ≡ name)) _ _
       (holds-leads _ _ (λ _. ⊥) (λ source is. source_is source is))
       (λ source is. then-leads _ _ (λ other. other ≡ bytes) _ _
-      (subst (λ (it : List ℕ). Leads (fetches (Some files) it DATASET_LIMIT) (λ other. other ≡ bytes) (λ _. ⊥)) (sym is.1)
-      (fetches-leads files name DATASET_LIMIT bytes has (λ _. ⊥)))
+      (subst (λ (it : List ℕ). Leads (fetches (Some files) it DATA_LIMIT) (λ other. other ≡ bytes) (λ _. ⊥)) (sym is.1)
+      (fetches-leads files name DATA_LIMIT bytes has (λ _. ⊥)))
       (λ other same. then-leads _ _ (λ value. Unit {0}) _ _ (read_leads source other is.0 same)
       (λ value done. leads-more _ _ _ (λ _. ⊥) (λ given own. own ∙ same) (gives-leads other (λ _. ⊥)))))
     where

@@ -22,7 +22,7 @@ use Rattle.esto_opening.specs.declared.status.Status.TheVariants as status
 use Rattle.esto_opening.proofs.AgreeLemmas.{fetches-agree, calmly}
 use Rattle.esto_data.specs.Datasets.{AreFactsOfFiles, AreNeeded, IsSourceAt, Source, demands_file, demands_files, loads, loads_files, loads_next, opens_dataset}
 use Rattle.esto_data.specs.Datasets.{opens_source, reads_data}
-use Rattle.esto_data.specs.declared.datasets.TheConstants.{DATASET_LIMIT}
+use Rattle.esto_opening.specs.declared.opening.TheConstants.{DATA_LIMIT}
 
 -- ---- the datasets that are needed
 
@@ -72,7 +72,7 @@ module _ (files : Files) (datasets : List Dataset) where
       (λ value said caused none found. none-some found.0 (sym none ∙ found.1)) (λ value said caused none found. none-some found.0 (sym none ∙ found.1))
 
   source_agree : (source : Source) → AgreeCalmly ◌≡◌ (opens_source (Some files) source) (opens_source (Some files) source)
-  source_agree source = then_agree _ ◌≡◌ ◌≡◌ _ _ _ _ (fetches-agree files source.file DATASET_LIMIT) (λ bytes other_bytes goes same.
+  source_agree source = then_agree _ ◌≡◌ ◌≡◌ _ _ _ _ (fetches-agree files source.file DATA_LIMIT) (λ bytes other_bytes goes same.
       subst (λ (it : List ℕ). AgreeCalmly ◌≡◌ (then_read bytes) (then_read it)) same
       (then_agree _ ◌≡◌ ◌≡◌ _ _ _ _ (data_agree source.dataset bytes) (λ value other_value goes1 same1. gives_agree _ bytes bytes refl)))
     where

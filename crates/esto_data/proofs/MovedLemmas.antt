@@ -30,7 +30,7 @@ use Rattle.esto_fragments.specs.Alike.{StoresHaveOneContent, StoresHaveOneFault,
 use Rattle.esto_opening.specs.Fetch.{HasWithin}
 use Rattle.esto_fragments.specs.Fragments.{Stored, IsStoredAt, content_fault}
 use Rattle.esto_fragments.specs.Texts.{union_rows_text}
-use Rattle.esto_fragments.specs.declared.fragments.TheConstants.{FRAGMENT_LIMIT}
+use Rattle.esto_opening.specs.declared.opening.TheConstants.{DATA_LIMIT}
 use Rattle.esto_opening.specs.declared.status.Status.{Status}
 use Rattle.esto_opening.specs.declared.status.Status.TheVariants as status
 use Rattle.esto_fragments.proofs.StoreLemmas.{same_stored}
@@ -139,7 +139,7 @@ module _ (files : Files) (catalogue other : Catalogue) (alike : AreSame catalogu
           let its = other_stored catalogue other alike number stored here in (
             its.0,
             its.1,
-            subst (λ (it : List ℕ). HasWithin files it FRAGMENT_LIMIT (contents number))
+            subst (λ (it : List ℕ). HasWithin files it DATA_LIMIT (contents number))
                 (one_file stored.store its.0.store (stores_same number stored its.0 here its.1 [])) has,
             sym (content_same number stored its.0 here its.1 [] (contents number)) ∙ none,
           )

@@ -9,7 +9,7 @@ use Rattle.esto_opening.specs.Calm.{Leads}
 use Rattle.esto_opening.specs.Fetch.{fetches, FetchStops}
 use Rattle.esto_opening.specs.Fetch.FetchStops.{fails, is_longer}
 use Rattle.esto_fragments.specs.Fragments.{no_contents, opens_fragment, opens_fragments, opens_next, with_content}
-use Rattle.esto_fragments.specs.declared.fragments.TheConstants.{FRAGMENT_LIMIT}
+use Rattle.esto_opening.specs.declared.opening.TheConstants.{DATA_LIMIT}
 use Rattle.esto_opening.specs.declared.status.Status.{Status}
 use Rattle.esto_opening.specs.declared.status.Status.TheVariants as status
 use Rattle.esto_opening.proofs.LeadLemmas.{then-leads, leads-more, gives-leads, judges-leads}
@@ -39,7 +39,7 @@ module _ (files : Files) where
     fragment_opened : (number : ℕ) → Leads (opens_fragment (Some files) catalogue number) (λ _. Unit {0}) TellsNoNode
     fragment_opened number =
         then-leads _ _ (λ _. Unit {0}) _ _ (holds-leads _ _ _ (λ stored at. tt))
-        (λ stored at. then-leads _ _ (λ _. Unit {0}) _ _ (fetched stored.store.file FRAGMENT_LIMIT)
+        (λ stored at. then-leads _ _ (λ _. Unit {0}) _ _ (fetched stored.store.file DATA_LIMIT)
         (λ bytes done. then-leads _ _ (λ _. Unit {0}) _ _
         (leads-more _ _ _ _ (λ value good. tt)
         (judges-leads _ _ TellsNoNode (λ said caused fault. bad_file stored.definition.name fault.0 said fault.2)))

@@ -12,7 +12,7 @@ use Rattle.esto_fragments.proofs.RefusalLemmas.{fragments_refuse}
 use Rattle.esto_opening.proofs.RefusalLemmas.{then_refuses}
 use Rattle.esto_data.specs.Audit.{all_fragments, audit_course, audit_text}
 use Rattle.esto_data.specs.Datasets.{IsAny, demands_file, loads, loads_next, opens_dataset}
-use Rattle.esto_data.specs.declared.datasets.TheConstants.{DATASET_LIMIT}
+use Rattle.esto_opening.specs.declared.opening.TheConstants.{DATA_LIMIT}
 
 demands_refuses : (condition : Type 0) (said : Status) → said ≢ status.Done → Refuses (demands condition said)
 unfolding demands
@@ -21,7 +21,7 @@ demands_refuses condition said other = record { goes = λ value goes. tt; stops 
 module _ (files : Files) (datasets : List Dataset) where
   dataset_refuses : (number : ℕ) → Refuses (opens_dataset (Some files) datasets number)
   dataset_refuses number = then_refuses _ _ (judges_refuses _ _ (λ said never. absurd never))
-      (λ source. then_refuses _ _ (fetch_refuses files source.file DATASET_LIMIT)
+      (λ source. then_refuses _ _ (fetch_refuses files source.file DATA_LIMIT)
       (λ bytes. then_refuses _ _ (judges_refuses _ _ (λ said (fault, found, is).
       λ done. let h : status.BadDataset source.dataset.name fault ≡ status.Done = sym is ∙ done in cc))
       (λ value. gives_refuses bytes)))

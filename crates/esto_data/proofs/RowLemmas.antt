@@ -26,7 +26,7 @@ use Rattle.esto_opening.specs.Asked.{AsksIn}
 use Rattle.esto_opening.specs.Fetch.{fetches}
 use Rattle.esto_fragments.specs.Fragments.{Stored, IsStoredAt, content_fault, reads_content, opens_fragment, no_contents, with_content, opens_next}
 use Rattle.esto_fragments.specs.Fragments.{opens_fragments}
-use Rattle.esto_fragments.specs.declared.fragments.TheConstants.{FRAGMENT_LIMIT}
+use Rattle.esto_opening.specs.declared.opening.TheConstants.{DATA_LIMIT}
 use Rattle.esto_opening.specs.declared.status.Status.{Status}
 use Rattle.esto_opening.specs.declared.status.Status.TheVariants.{BadFragment, OutOfMemory}
 use Rattle.esto_opening.proofs.AskedSteps.{exit_asks}
@@ -87,30 +87,30 @@ module _ (catalogue : Catalogue) (number : ℕ) (stored : Stored) (at : IsStored
 module _ (files : Option Files) (catalogue : Catalogue) (number : ℕ) (stored : Stored) (at : IsStoredAt catalogue number stored) where
   -- an error that `?` hands on
   pub rows_exit : {rose : Type 0} {before after : Option Names} (error : Status) (result : Result (List Row) Status)
-      → IsErrAnd result (λ handed. handed ≡ error) → Stops IsWant (IsCaused rose) (fetches files stored.store.file FRAGMENT_LIMIT) error
-      → AsksIn before after (fetches files stored.store.file FRAGMENT_LIMIT) (Err error)
+      → IsErrAnd result (λ handed. handed ≡ error) → Stops IsWant (IsCaused rose) (fetches files stored.store.file DATA_LIMIT) error
+      → AsksIn before after (fetches files stored.store.file DATA_LIMIT) (Err error)
       → OpensNextRows files catalogue number rose before after result
   rows_exit error (Ok _) handed stops asks = absurd handed
   rows_exit error (Err handed_on) handed stops asks = rw handed (
-    unfetched_stops (IsStoredAt catalogue number) (λ it. it.store.file) FRAGMENT_LIMIT reads_content files stored at stops,
-    unfetched_asks (IsStoredAt catalogue number) (λ it. it.store.file) FRAGMENT_LIMIT reads_content files stored at asks,
+    unfetched_stops (IsStoredAt catalogue number) (λ it. it.store.file) DATA_LIMIT reads_content files stored at stops,
+    unfetched_asks (IsStoredAt catalogue number) (λ it. it.store.file) DATA_LIMIT reads_content files stored at asks,
   )
 
-  module _ (bytes : List ℕ) (fetched : (fetches files stored.store.file FRAGMENT_LIMIT).goes bytes) (before after : Option Names)
-      (asked : AsksIn before after (fetches files stored.store.file FRAGMENT_LIMIT) (Ok bytes)) where
+  module _ (bytes : List ℕ) (fetched : (fetches files stored.store.file DATA_LIMIT).goes bytes) (before after : Option Names)
+      (asked : AsksIn before after (fetches files stored.store.file DATA_LIMIT) (Ok bytes)) where
     -- it is fetched and its content read
     pub rows_by : (rose : Type 0) (result : Result (List Row) Status) → ReadsRows stored bytes result
         → OpensNextRows files catalogue number rose before after result
     rows_by rose (Ok rows) (good, are) = (
       bytes,
-      opened_goes (IsStoredAt catalogue number) (λ it. it.store.file) FRAGMENT_LIMIT reads_content files stored at bytes fetched good,
+      opened_goes (IsStoredAt catalogue number) (λ it. it.store.file) DATA_LIMIT reads_content files stored at bytes fetched good,
       (λ store there row. subst (λ (it : Store). Contains rows row ↔ IsRowIn it.shape bytes row) (same_Some stored.store store (sym at.store ∙ there))
           (are row)),
-      opened_asks (IsStoredAt catalogue number) (λ it. it.store.file) FRAGMENT_LIMIT reads_content files stored at bytes (quiet_judges _ _) asked good,
+      opened_asks (IsStoredAt catalogue number) (λ it. it.store.file) DATA_LIMIT reads_content files stored at bytes (quiet_judges _ _) asked good,
     )
     rows_by rose (Err refusal) stops = (
-      unread_stops (IsStoredAt catalogue number) (λ it. it.store.file) FRAGMENT_LIMIT reads_content files stored at bytes fetched stops,
-      unread_asks (IsStoredAt catalogue number) (λ it. it.store.file) FRAGMENT_LIMIT reads_content files stored at bytes (quiet_judges _ _) asked stops,
+      unread_stops (IsStoredAt catalogue number) (λ it. it.store.file) DATA_LIMIT reads_content files stored at bytes fetched stops,
+      unread_asks (IsStoredAt catalogue number) (λ it. it.store.file) DATA_LIMIT reads_content files stored at bytes (quiet_judges _ _) asked stops,
     )
 
 -- ---- all files

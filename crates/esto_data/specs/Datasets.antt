@@ -24,7 +24,7 @@ use Rattle.esto_term.specs.declared.term.Term.{Term}
 use Rattle.esto_opening.specs.Answers.{IsWant, IsCaused}
 use Rattle.esto_opening.specs.Asked.{AsksIn}
 use Rattle.esto_opening.specs.Fetch.{fetches}
-use Rattle.esto_data.specs.declared.datasets.TheConstants.{DATASET_LIMIT}
+use Rattle.esto_opening.specs.declared.opening.TheConstants.{DATA_LIMIT}
 use Rattle.esto_opening.specs.declared.status.Status.{Status}
 use Rattle.esto_opening.specs.declared.status.Status.TheVariants.{NoData, BadDataset}
 
@@ -81,7 +81,7 @@ reads_data dataset bytes =
 -- The dataset's file is no longer than a dataset's may be, and its content has no fault.
 abbrev pub opens_source : Option Files → Source → Course Status (List ℕ)
 opens_source files source =
-    and_then (fetches files source.file DATASET_LIMIT) (λ bytes. and_then (reads_data source.dataset bytes) (λ _. gives bytes))
+    and_then (fetches files source.file DATA_LIMIT) (λ bytes. and_then (reads_data source.dataset bytes) (λ _. gives bytes))
 
 -- The file of the dataset of the number is opened.
 abbrev pub opens_dataset : Option Files → List Dataset → ℕ → Course Status (List ℕ)

@@ -31,14 +31,14 @@ use Rattle.esto_data.specs.Answer.{IsAnswerOfFacts, IsUnionAnswerOfFacts}
 use Rattle.esto_data.specs.Audit.{audit_text}
 use Rattle.esto_data.specs.Datasets.{AreFactsOfFiles, AreNeeded, IsAny, Names, OneNames}
 use Rattle.esto_data.specs.Fill.{IsFilled, IsFirstOf, IsRowOfView, names_of}
-use Rattle.esto_data.specs.declared.datasets.TheConstants.{DATASET_LIMIT}
+use Rattle.esto_opening.specs.declared.opening.TheConstants.{DATA_LIMIT}
 
 -- ---- the files
 
 -- The dataset has a file, which is no longer than a dataset's may be, has these bytes after one leading mark, and they have no fault.
 abbrev pub IsReadableDataset : Files → Dataset → List ℕ → Type 0
 IsReadableDataset files dataset bytes =
-    (name : List ℕ) × (dataset.file ≡ Some name) × HasWithin files name DATASET_LIMIT bytes × (dataset_fault dataset bytes ≡ None)
+    (name : List ℕ) × (dataset.file ≡ Some name) × HasWithin files name DATA_LIMIT bytes × (dataset_fault dataset bytes ≡ None)
 
 -- The contents of files, by the numbers of their datasets.
 abbrev pub files_of : (ℕ → List ℕ) → List ℕ → List DatasetBytes

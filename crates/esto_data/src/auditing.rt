@@ -21,8 +21,7 @@ use esto_fill::{
     AnswerError, Loaded, TextRowsList, Trial, audit_tried, audit_views, audits_are_over_files,
     trial_of,
 };
-use esto_fragments::FRAGMENT_LIMIT;
-use esto_opening::{Reply, Status, fetch, open_catalogue};
+use esto_opening::{DATA_LIMIT, Reply, Status, fetch, open_catalogue};
 use esto_ports::{FileError, Shelf};
 use esto_run::open_store;
 use esto_term::{Bytes, List, OutOfMemory, Replicate, Text, TextRows};
@@ -78,7 +77,7 @@ fn open_rows<S: Shelf>(
 {
     catalogues_are_sound();
     let store = catalogue.stores.item(number);
-    let bytes = fetch(alloc, shelf, &store.file, FRAGMENT_LIMIT)?;
+    let bytes = fetch(alloc, shelf, &store.file, DATA_LIMIT)?;
     read_rows(alloc, catalogue, number, &bytes)
 }
 

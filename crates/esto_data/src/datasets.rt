@@ -10,14 +10,11 @@ ghost use Rattle.esto_data.specs.Datasets.{Source, demands_file, demands_files, 
 
 use esto_catalog::{Catalogue, Dataset, Datasets, relation_count};
 use esto_fill::{Loaded, Wanted, load_dataset, nothing_loaded, wanted_by_body};
-use esto_opening::{Status, fetch};
+use esto_opening::{DATA_LIMIT, Status, fetch};
 use esto_ports::{FileError, Shelf};
 use esto_semantics::{Atom, Atoms};
 use esto_term::{Bytes, OutOfMemory, Places, Replicate, Values};
 use std::alloc::Global;
-
-/// The greatest length of a dataset's file, in bytes.
-pub const DATASET_LIMIT: u64 = 8_388_608;
 
 // Whether the relation is one of the dataset's.
 fn has_relation(dataset: &Dataset, relation: usize) -> bool
@@ -140,7 +137,7 @@ fn load_next<S: Shelf>(
     let Some(file) = &catalogue.datasets.item(number).file else {
         unreachable!()
     };
-    let bytes = fetch(alloc, shelf, file, DATASET_LIMIT)?;
+    let bytes = fetch(alloc, shelf, file, DATA_LIMIT)?;
     load_content(alloc, catalogue, wanted, number, &bytes, loaded)
 }
 

@@ -11,6 +11,5 @@ mod unions;
 
 pub use answering::answer;
 pub use auditing::audit;
-pub use datasets::DATASET_LIMIT;
 pub use filling::fill;
 pub use laws::{audited_datasets_answer, data_outcomes_are_exact, data_outcomes_are_one};

@@ -13,7 +13,7 @@ use Rattle.esto_fragments.specs.Alike.{StoresHaveOneContent}
 use Rattle.esto_opening.specs.Calm.{Leads}
 use Rattle.esto_opening.specs.Fetch.{fetches}
 use Rattle.esto_fragments.specs.Fragments.{IsStoredAt, Stored, no_contents, opens_fragment, opens_fragments, opens_next, opens_stored, with_content}
-use Rattle.esto_fragments.specs.declared.fragments.TheConstants.{FRAGMENT_LIMIT}
+use Rattle.esto_opening.specs.declared.opening.TheConstants.{DATA_LIMIT}
 use Rattle.esto_opening.specs.declared.reply.Reply.{Reply}
 use Rattle.esto_opening.specs.declared.reply.Reply.TheVariants.{Unsatisfiable}
 use Rattle.esto_opening.specs.declared.status.Status.{Status}
@@ -61,9 +61,9 @@ then_moved first other next others one two = record {
 
 module _ (files : Files) (catalogue other : Catalogue) (alike : AreSame catalogue other) where
   module _ (number : ℕ) (own stored : Stored) (here : IsStoredAt catalogue number own) (there : IsStoredAt other number stored) where
-    fetched_here : (bytes : List ℕ) → (fetches (Some files) stored.store.file FRAGMENT_LIMIT).goes bytes
-        → (fetches (Some files) own.store.file FRAGMENT_LIMIT).goes bytes
-    fetched_here bytes = subst (λ it. (fetches (Some files) it FRAGMENT_LIMIT).goes bytes)
+    fetched_here : (bytes : List ℕ) → (fetches (Some files) stored.store.file DATA_LIMIT).goes bytes
+        → (fetches (Some files) own.store.file DATA_LIMIT).goes bytes
+    fetched_here bytes = subst (λ it. (fetches (Some files) it DATA_LIMIT).goes bytes)
         (sym (same_file catalogue other alike number own stored here there))
 
     stored_moved : IsMoved (opens_stored (Some files) stored) (opens_stored (Some files) own)
@@ -72,7 +72,7 @@ module _ (files : Files) (catalogue other : Catalogue) (alike : AreSame catalogu
       goes = λ result (bytes, fetched, (value, none, is)).
           (bytes, fetched_here bytes fetched, (value, same_fault catalogue other alike number own stored here there bytes ∙ none, is));
       stops = λ refusal caused stop. elim stop [
-        | inl fails ↦ inl (subst (λ it. (fetches (Some files) it FRAGMENT_LIMIT).stops refusal)
+        | inl fails ↦ inl (subst (λ it. (fetches (Some files) it DATA_LIMIT).stops refusal)
             (sym (same_file catalogue other alike number own stored here there)) fails)
         | inr (bytes, fetched, inl (fault, found, is)) ↦ inr (
           bytes,

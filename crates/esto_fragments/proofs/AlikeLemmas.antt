@@ -11,7 +11,7 @@ use Rattle.esto_opening.specs.Calm.{AgreeCalmly}
 use Rattle.esto_opening.specs.Fetch.{fetches}
 use Rattle.esto_fragments.specs.Fragments.{Stored, IsStoredAt, content_fault, reads_content, opens_stored, opens_fragment, opens_next, opens_fragments}
 use Rattle.esto_fragments.specs.Fragments.{with_content, no_contents}
-use Rattle.esto_fragments.specs.declared.fragments.TheConstants.{FRAGMENT_LIMIT}
+use Rattle.esto_opening.specs.declared.opening.TheConstants.{DATA_LIMIT}
 use Rattle.esto_opening.specs.declared.status.Status.{Status}
 use Rattle.esto_opening.specs.declared.status.Status.TheVariants as status
 use Rattle.esto_opening.proofs.AgreeLemmas.{fetches-agree}
@@ -40,10 +40,10 @@ module _ (files : Files) (catalogue other : Catalogue) (alike : AreSame catalogu
         (λ value said caused none is. none-some is.0
         (sym none ∙ sym (same_fault catalogue other alike number stored other_stored are.here are.there bytes) ∙ is.1))
 
-    fetched_agree : AgreeCalmly ◌≡◌ (fetches (Some files) stored.store.file FRAGMENT_LIMIT) (fetches (Some files) other_stored.store.file FRAGMENT_LIMIT)
-    fetched_agree = subst (λ it. AgreeCalmly ◌≡◌ (fetches (Some files) stored.store.file FRAGMENT_LIMIT) (fetches (Some files) it FRAGMENT_LIMIT))
+    fetched_agree : AgreeCalmly ◌≡◌ (fetches (Some files) stored.store.file DATA_LIMIT) (fetches (Some files) other_stored.store.file DATA_LIMIT)
+    fetched_agree = subst (λ it. AgreeCalmly ◌≡◌ (fetches (Some files) stored.store.file DATA_LIMIT) (fetches (Some files) it DATA_LIMIT))
         (same_file catalogue other alike number stored other_stored are.here are.there)
-        (fetches-agree files stored.store.file FRAGMENT_LIMIT)
+        (fetches-agree files stored.store.file DATA_LIMIT)
 
     stored_agree : AgreeCalmly ◌≡◌ (opens_stored (Some files) stored) (opens_stored (Some files) other_stored)
     stored_agree = then_agree _ ◌≡◌ ◌≡◌ _ _ _ _ fetched_agree (λ bytes other_bytes goes same.

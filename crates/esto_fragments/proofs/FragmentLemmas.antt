@@ -30,7 +30,7 @@ use Rattle.esto_opening.specs.Answers.{IsWant, IsCaused}
 use Rattle.esto_opening.specs.Fetch.{fetches}
 use Rattle.esto_fragments.specs.Fragments.{Stored, IsStoredAt, content_fault, reads_content, opens_stored, opens_fragment, no_contents, with_content, opens_next}
 use Rattle.esto_fragments.specs.Fragments.{opens_fragments, Takes, Reads, OpensNext, OpensAll}
-use Rattle.esto_fragments.specs.declared.fragments.TheConstants.{FRAGMENT_LIMIT}
+use Rattle.esto_opening.specs.declared.opening.TheConstants.{DATA_LIMIT}
 use Rattle.esto_opening.specs.declared.status.Status.{Status}
 use Rattle.esto_opening.specs.declared.status.Status.TheVariants.{BadFragment}
 use Rattle.esto_course.specs.Course.{Names}
@@ -87,29 +87,29 @@ stored_at catalogue number store below is =
 module _ (files : Option Files) (catalogue : Catalogue) (number : ℕ) (stored : Stored) (at : IsStoredAt catalogue number stored) where
   -- an error that `?` hands on
   pub next_exit : {rose : Type 0} {before after : Option Names} (old new : List (List Row)) (error : Status) (result : Result (Unit {0}) Status)
-      → IsErrAnd result (λ handed. handed ≡ error) → Stops IsWant (IsCaused rose) (fetches files stored.store.file FRAGMENT_LIMIT) error
-      → AsksIn before after (fetches files stored.store.file FRAGMENT_LIMIT) (Err error)
+      → IsErrAnd result (λ handed. handed ≡ error) → Stops IsWant (IsCaused rose) (fetches files stored.store.file DATA_LIMIT) error
+      → AsksIn before after (fetches files stored.store.file DATA_LIMIT) (Err error)
       → OpensNext files catalogue number old new rose before after result
   next_exit old new error (Ok _) handed stops asks = absurd handed
   next_exit old new error (Err handed_on) handed stops asks = rw handed (
-    unfetched_stops (IsStoredAt catalogue number) (λ it. it.store.file) FRAGMENT_LIMIT reads_content files stored at stops,
-    unfetched_asks (IsStoredAt catalogue number) (λ it. it.store.file) FRAGMENT_LIMIT reads_content files stored at asks,
+    unfetched_stops (IsStoredAt catalogue number) (λ it. it.store.file) DATA_LIMIT reads_content files stored at stops,
+    unfetched_asks (IsStoredAt catalogue number) (λ it. it.store.file) DATA_LIMIT reads_content files stored at asks,
   )
 
-  module _ (bytes : List ℕ) (fetched : (fetches files stored.store.file FRAGMENT_LIMIT).goes bytes) (before after : Option Names)
-      (asked : AsksIn before after (fetches files stored.store.file FRAGMENT_LIMIT) (Ok bytes)) where
+  module _ (bytes : List ℕ) (fetched : (fetches files stored.store.file DATA_LIMIT).goes bytes) (before after : Option Names)
+      (asked : AsksIn before after (fetches files stored.store.file DATA_LIMIT) (Ok bytes)) where
     -- it is fetched and its content read
     pub opens_next_by : (old new : List (List Row)) (rose : Type 0) (result : Result (Unit {0}) Status) → Reads catalogue number stored bytes old new result
         → OpensNext files catalogue number old new rose before after result
     opens_next_by old new rose (Ok _) (good, taken) = (
       bytes,
-      opened_goes (IsStoredAt catalogue number) (λ it. it.store.file) FRAGMENT_LIMIT reads_content files stored at bytes fetched good,
+      opened_goes (IsStoredAt catalogue number) (λ it. it.store.file) DATA_LIMIT reads_content files stored at bytes fetched good,
       taken,
-      opened_asks (IsStoredAt catalogue number) (λ it. it.store.file) FRAGMENT_LIMIT reads_content files stored at bytes (quiet_judges _ _) asked good,
+      opened_asks (IsStoredAt catalogue number) (λ it. it.store.file) DATA_LIMIT reads_content files stored at bytes (quiet_judges _ _) asked good,
     )
     opens_next_by old new rose (Err refusal) stops = (
-      unread_stops (IsStoredAt catalogue number) (λ it. it.store.file) FRAGMENT_LIMIT reads_content files stored at bytes fetched stops,
-      unread_asks (IsStoredAt catalogue number) (λ it. it.store.file) FRAGMENT_LIMIT reads_content files stored at bytes (quiet_judges _ _) asked stops,
+      unread_stops (IsStoredAt catalogue number) (λ it. it.store.file) DATA_LIMIT reads_content files stored at bytes fetched stops,
+      unread_asks (IsStoredAt catalogue number) (λ it. it.store.file) DATA_LIMIT reads_content files stored at bytes (quiet_judges _ _) asked stops,
     )
 
 -- ---- all files

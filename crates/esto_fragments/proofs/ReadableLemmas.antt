@@ -16,7 +16,7 @@ use Rattle.esto_fragments.specs.Fragments.{IsReadableFragment, IsStoredAt, Store
 use Rattle.esto_fragments.specs.Fragments.{with_content}
 use Rattle.esto_fragments.specs.Readable.{OpenedAreReadable, ReadableAreOpened, TellsOfFile}
 use Rattle.esto_fragments.specs.Readable.TellsOfFile.{fails as file_fails, is_longer as file_longer, has_fault}
-use Rattle.esto_fragments.specs.declared.fragments.TheConstants.{FRAGMENT_LIMIT}
+use Rattle.esto_opening.specs.declared.opening.TheConstants.{DATA_LIMIT}
 use Rattle.esto_opening.specs.declared.status.Status.{Status}
 use Rattle.esto_fragments.proofs.AlikeLemmas.{fragment_agree}
 use Rattle.esto_opening.proofs.LeadLemmas.{gives-leads, judges-leads, leads-more, then-leads}
@@ -111,7 +111,7 @@ module _ (files : Files) (catalogue : Catalogue) where
   fragment_tells : (number : ℕ) → Leads (opens_fragment (Some files) catalogue number) (λ _. Unit {0}) TellsOfFile
   fragment_tells number =
       then-leads _ _ (IsStoredAt catalogue number) _ TellsOfFile (judges-leads _ _ TellsOfFile (λ refusal caused never. absurd never)) (λ stored at.
-      then-leads _ _ (λ _. Unit {0}) _ TellsOfFile (fetch_tells stored.store.file FRAGMENT_LIMIT) (λ bytes fetched.
+      then-leads _ _ (λ _. Unit {0}) _ TellsOfFile (fetch_tells stored.store.file DATA_LIMIT) (λ bytes fetched.
       then-leads _ _ (λ _. content_fault stored bytes ≡ None) _ TellsOfFile
       (judges-leads _ _ TellsOfFile (λ refusal caused (fault, found, is). has_fault stored.definition.name fault is))
       (λ value good. leads-more _ (λ other. other ≡ bytes) _ TellsOfFile (λ other is. tt) (gives-leads bytes TellsOfFile))))
@@ -131,7 +131,7 @@ module _ (files : Files) (catalogue other : Catalogue) (alike : AreSame catalogu
       let (own, here) = stored_here number stored at in (
         own,
         here,
-        subst (λ (it : List ℕ). HasWithin files it FRAGMENT_LIMIT bytes) (sym (same_file catalogue other alike number own stored here at)) has,
+        subst (λ (it : List ℕ). HasWithin files it DATA_LIMIT bytes) (sym (same_file catalogue other alike number own stored here at)) has,
         same_fault catalogue other alike number own stored here at bytes ∙ none,
       )
 

@@ -12,7 +12,7 @@ use Rattle.esto_views.specs.declared.fragments.FragmentDef.{FragmentDef}
 use Rattle.esto_opening.specs.Answers.{IsWant, IsCaused}
 use Rattle.esto_opening.specs.Asked.{AsksIn}
 use Rattle.esto_opening.specs.Fetch.{HasWithin, fetches}
-use Rattle.esto_fragments.specs.declared.fragments.TheConstants.{FRAGMENT_LIMIT}
+use Rattle.esto_opening.specs.declared.opening.TheConstants.{DATA_LIMIT}
 use Rattle.esto_opening.specs.declared.status.Status.{Status}
 use Rattle.esto_opening.specs.declared.status.Status.TheVariants.{BadFragment}
 
@@ -39,7 +39,7 @@ reads_content stored bytes =
 -- The fragment's file is no longer than a fragment's may be, and its content has no fault.
 abbrev pub opens_stored : Option Files → Stored → Course Status (List ℕ)
 opens_stored files stored =
-    and_then (fetches files stored.store.file FRAGMENT_LIMIT) (λ bytes. and_then (reads_content stored bytes) (λ _. gives bytes))
+    and_then (fetches files stored.store.file DATA_LIMIT) (λ bytes. and_then (reads_content stored bytes) (λ _. gives bytes))
 
 -- The file of the fragment of the number is opened.
 abbrev pub opens_fragment : Option Files → Catalogue → ℕ → Course Status (List ℕ)
@@ -48,7 +48,7 @@ opens_fragment files catalogue number = and_then (judges (IsStoredAt catalogue n
 -- The file of the fragment of the number is no longer than a fragment's may be, has these bytes after one leading mark, and they have no fault.
 abbrev pub IsReadableFragment : Files → Catalogue → ℕ → List ℕ → Type 0
 IsReadableFragment files catalogue number bytes =
-    (stored : Stored) × IsStoredAt catalogue number stored × HasWithin files stored.store.file FRAGMENT_LIMIT bytes × (content_fault stored bytes ≡ None)
+    (stored : Stored) × IsStoredAt catalogue number stored × HasWithin files stored.store.file DATA_LIMIT bytes × (content_fault stored bytes ≡ None)
 
 -- The contents of files, by the numbers of their fragments, before any is opened.
 abbrev pub no_contents : ℕ → List ℕ

@@ -5,14 +5,11 @@ ghost use Rattle.esto_run.specs.Opened.{AreRowsFor, rows_held};
 ghost use Rattle.esto_fragments.specs.Fragments.{Stored, IsStoredAt, OpensAll, OpensNext, Reads};
 
 use esto_catalog::{Catalogue, catalogues_are_sound};
-use esto_opening::{Status, fetch};
+use esto_opening::{DATA_LIMIT, Status, fetch};
 use esto_ports::{FileError, Shelf};
 use esto_run::{FragmentRows, no_rows, open_fragment};
 use esto_term::{Bytes, Places, Replicate};
 use std::alloc::Global;
-
-/// The greatest length of a fragment's file, in bytes.
-pub const FRAGMENT_LIMIT: u64 = 8_388_608;
 
 // Puts the rows of the content of the fragment's file in place of what the fragment had, or answers the status of the
 // content's first fault.
@@ -59,7 +56,7 @@ fn open_next<S: Shelf>(
 {
     catalogues_are_sound();
     let store = catalogue.stores.item(number);
-    let bytes = fetch(alloc, shelf, &store.file, FRAGMENT_LIMIT)?;
+    let bytes = fetch(alloc, shelf, &store.file, DATA_LIMIT)?;
     read_content(alloc, catalogue, number, &bytes, opened)
 }
 

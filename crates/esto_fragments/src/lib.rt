@@ -6,6 +6,6 @@ mod fragments;
 mod laws;
 mod texts;
 
-pub use fragments::{FRAGMENT_LIMIT, open_fragments};
+pub use fragments::open_fragments;
 pub use laws::{fragment_files_are_one, readable_fragments_are_opened};
 pub use texts::union_rows_text;

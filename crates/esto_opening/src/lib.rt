@@ -15,7 +15,7 @@ pub use cell::cell_text;
 pub use fetching::fetch;
 pub use laws::{opened_unions_are_queries, openings_are_one};
 pub use line::status_line;
-pub use opening::{CATALOGUE_LIMIT, QUERY_LIMIT, open_catalogue, open_query};
+pub use opening::{CATALOGUE_LIMIT, DATA_LIMIT, QUERY_LIMIT, open_catalogue, open_query};
 pub use reply::Reply;
 pub use status::Status;
 pub use unions::{Queries, open_union};

@@ -10,7 +10,7 @@ use Rattle.esto_catalog.specs.declared.dataset.Dataset.{Dataset}
 use Rattle.esto_course.specs.Course.{Course, judges, demands, gives, and_then, each}
 use Rattle.esto_data.specs.Datasets.{AreFactsOfFiles, AreNeeded, HasRelation, IsSourceAt, Names, OneNames, Source, demands_file, demands_files, loads, loads_files}
 use Rattle.esto_data.specs.Datasets.{loads_next, opens_dataset, opens_source, reads_data}
-use Rattle.esto_data.specs.declared.datasets.TheConstants.{DATASET_LIMIT}
+use Rattle.esto_opening.specs.declared.opening.TheConstants.{DATA_LIMIT}
 use Rattle.esto_data.proofs.DatasetLemmas.{AreNeededBelow, needed_all, needed_more, needed_starts, sources_there}
 use Rattle.esto_fill.specs.Files.{dataset_fault}
 use Rattle.esto_fill.specs.declared.datasets.DatasetBytes.{DatasetBytes}
@@ -90,8 +90,8 @@ module _ (files : Files) (datasets : List Dataset) where
   dataset_ends : (number : ℕ) → (source : Source) × IsSourceAt datasets number source → EndsOrLacks (opens_dataset (Some files) datasets number)
   dataset_ends number found =
       ends_judged (IsSourceAt datasets number) (λ _. ⊥) (opens_source (Some files)) found (λ source at.
-      ends_then (fetches (Some files) source.file DATASET_LIMIT) (λ bytes. and_then (reads_data source.dataset bytes) (λ _. gives bytes))
-      (fetches_ends files source.file DATASET_LIMIT)
+      ends_then (fetches (Some files) source.file DATA_LIMIT) (λ bytes. and_then (reads_data source.dataset bytes) (λ _. gives bytes))
+      (fetches_ends files source.file DATA_LIMIT)
       (λ bytes _. ends_then (reads_data source.dataset bytes) (λ _. gives bytes) (data_ends source.dataset bytes) (λ _ _. gives_ends bytes)))
 
   files_end : (numbers : List ℕ) → ((number : ℕ) → Contains numbers number → (source : Source) × IsSourceAt datasets number source)

@@ -13,7 +13,7 @@ use Rattle.esto_list.specs.declared.listing.Listed.{Listed}
 use Rattle.esto_opening.specs.Fetch.{fetches}
 use Rattle.esto_fragments.specs.Fragments.{Stored, IsStoredAt, content_fault, reads_content, opens_stored, opens_fragment, opens_fragments, opens_next, no_contents}
 use Rattle.esto_fragments.specs.Fragments.{with_content}
-use Rattle.esto_fragments.specs.declared.fragments.TheConstants.{FRAGMENT_LIMIT}
+use Rattle.esto_opening.specs.declared.opening.TheConstants.{DATA_LIMIT}
 use Rattle.esto_opening.specs.declared.status.Status.{Status}
 use Rattle.esto_opening.specs.declared.status.Status.TheVariants.{BadFragment, NoRewriting, NoSuchNumber, Unsatisfiable}
 use Rattle.esto_opening.proofs.UnionLemmas.{itself}
@@ -93,8 +93,8 @@ module _ (files : Files) (catalogue : Catalogue) (stores : length catalogue.stor
       let stored : Stored = record { definition = definition.0; store = store.0 } in
       ends_by (judges (IsStoredAt catalogue number) (λ _. ⊥)) (opens_stored (Some files)) stored
       (judges_goes (IsStoredAt catalogue number) (λ _. ⊥) stored (record { definition = definition.1; store = store.1 }))
-      (ends_then (fetches (Some files) store.0.file FRAGMENT_LIMIT) (λ bytes. and_then (reads_content stored bytes) (λ _. gives bytes))
-      (fetches_ends files store.0.file FRAGMENT_LIMIT)
+      (ends_then (fetches (Some files) store.0.file DATA_LIMIT) (λ bytes. and_then (reads_content stored bytes) (λ _. gives bytes))
+      (fetches_ends files store.0.file DATA_LIMIT)
       (λ bytes _. ends_then (reads_content stored bytes) (λ _. gives bytes) (content_ends stored bytes) (λ _ _. gives_ends bytes)))
 
   pub fragments_end : (numbers : List ℕ) → ((number : ℕ) → Contains numbers number → number < length catalogue.fragments)

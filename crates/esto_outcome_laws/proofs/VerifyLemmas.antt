@@ -8,7 +8,7 @@ use Rattle.esto_catalog.specs.declared.catalogue.Catalogue.{Catalogue}
 use Rattle.esto_cert.proofs.ExpansionLemmas.{expanded_exists}
 use Rattle.esto_cert.specs.Judging.{DecidesFor, case_for}
 use Rattle.esto_certify.specs.Verify.{HasVerdict, IsAbove, IsSetOf, first_above, judges_certificate, names_set, verifies_query, verifies_set}
-use Rattle.esto_certify.specs.declared.verifying.TheConstants.{CERTIFICATE_LIMIT}
+use Rattle.esto_opening.specs.declared.opening.TheConstants.{DATA_LIMIT}
 use Rattle.esto_constraint.specs.declared.rule.Constraint.{Constraint}
 use Rattle.esto_course.specs.Course.{and_then, judges}
 use Rattle.esto_opening.specs.Fetch.{fetches}
@@ -119,6 +119,6 @@ module _ (laws : BelowLaws) (files : Files) (catalogue : Catalogue) (query : Que
       (plans_ends laws catalogue query) (λ plan goes.
       ends_then (names_set plan numbers) (λ set. verifies_set (Some files) catalogue query plan file set) (names_ends (length plan.atoms) numbers plan refl)
       (λ set _.
-      ends_then (fetches (Some files) file CERTIFICATE_LIMIT) (λ bytes. judges_certificate catalogue query plan set bytes)
-      (fetches_ends files file CERTIFICATE_LIMIT)
+      ends_then (fetches (Some files) file DATA_LIMIT) (λ bytes. judges_certificate catalogue query plan set bytes)
+      (fetches_ends files file DATA_LIMIT)
       (λ bytes _. certificate_ends plan (plan_of laws catalogue query plan goes) set bytes)))

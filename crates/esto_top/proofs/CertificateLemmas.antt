@@ -6,7 +6,7 @@ use Rattle.esto_certify.specs.Laws.{Certifies, IsChecked, IsVerified, SaysVerdic
 use Rattle.esto_certify.specs.Laws.IsChecked.{is_above, not_fetched, accepts, rejects}
 use Rattle.esto_certify.specs.Laws.IsVerified.{clashes, has_plan}
 use Rattle.esto_certify.specs.Verify.{first_above, HasVerdict, IsSetOf, verify_course}
-use Rattle.esto_certify.specs.declared.verifying.TheConstants.{CERTIFICATE_LIMIT}
+use Rattle.esto_opening.specs.declared.opening.TheConstants.{DATA_LIMIT}
 use Rattle.esto_course.proofs.Determined.{judges_agree, then_agree}
 use Rattle.esto_course.specs.Course.{and_then, judges}
 use Rattle.esto_opening.specs.Calm.{AgreeCalmly, SaysAlways}
@@ -114,11 +114,11 @@ module _ (files : Files) (catalogue : Catalogue) (query : Query) (plan : Plan) (
 
   abbrev TellsAccepted : Type 0
   TellsAccepted = said ≡ status.Done → (set : List Bool) × (bytes : List ℕ) × IsSetOf (length plan.atoms) numbers set
-      × HasWithin files file CERTIFICATE_LIMIT bytes × Certifies catalogue query plan set bytes
+      × HasWithin files file DATA_LIMIT bytes × Certifies catalogue query plan set bytes
 
   abbrev TellsRejected : Type 0
   TellsRejected = (line : ℕ) → said ≡ status.Rejected line → (set : List Bool) × (bytes : List ℕ) × IsSetOf (length plan.atoms) numbers set
-      × HasWithin files file CERTIFICATE_LIMIT bytes × HasVerdict catalogue query plan set bytes (Some line)
+      × HasWithin files file DATA_LIMIT bytes × HasVerdict catalogue query plan set bytes (Some line)
 
   -- where the numbers name a set, none is refused
   none_above : (set : List Bool) → IsSetOf (length plan.atoms) numbers set → (number count : ℕ) → (said ≡ status.NoSuchNumber number count → ⊥)
@@ -132,20 +132,20 @@ module _ (files : Files) (catalogue : Catalogue) (query : Query) (plan : Plan) (
     λ (other, counted). is ∙ (λ i. status.NoSuchNumber (same_Some asked number (sym above ∙ other) i) (sym counted i)),
   )
   number_told (not_fetched set is_set caused stop line) number count =
-      none_above set is_set number count (unread_apart files file CERTIFICATE_LIMIT said number count 0 stop).0
+      none_above set is_set number count (unread_apart files file DATA_LIMIT said number count 0 stop).0
   number_told (accepts set bytes is_set within certificate is) number count = none_above set is_set number count (done_apart said number count 0 is).0
   number_told (rejects set bytes line is_set within has is text_is) number count =
       none_above set is_set number count (rejected_apart said number count line is).0
 
   accepted_told : IsChecked files catalogue query plan numbers file said text → TellsAccepted
   accepted_told (is_above asked above is line) done = absurd ((above_apart said asked (length plan.atoms) 0 is).0 done)
-  accepted_told (not_fetched set is_set caused stop line) done = absurd ((unread_apart files file CERTIFICATE_LIMIT said 0 0 0 stop).1 done)
+  accepted_told (not_fetched set is_set caused stop line) done = absurd ((unread_apart files file DATA_LIMIT said 0 0 0 stop).1 done)
   accepted_told (accepts set bytes is_set within certificate is) done = (set, bytes, is_set, within, certificate)
   accepted_told (rejects set bytes line is_set within has is text_is) done = absurd ((rejected_apart said 0 0 line is).1 done)
 
   rejected_told : IsChecked files catalogue query plan numbers file said text → TellsRejected
   rejected_told (is_above asked above is line) at tells = absurd ((above_apart said asked (length plan.atoms) at is).1 tells)
-  rejected_told (not_fetched set is_set caused stop line) at tells = absurd ((unread_apart files file CERTIFICATE_LIMIT said 0 0 at stop).2 tells)
+  rejected_told (not_fetched set is_set caused stop line) at tells = absurd ((unread_apart files file DATA_LIMIT said 0 0 at stop).2 tells)
   rejected_told (accepts set bytes is_set within certificate is) at tells = absurd ((done_apart said 0 0 at is).1 tells)
   rejected_told (rejects set bytes line is_set within has is text_is) at tells =
       (set, bytes, is_set, within, subst (λ (it : ℕ). HasVerdict catalogue query plan set bytes (Some it)) (line_one line at (sym is ∙ tells)) has)

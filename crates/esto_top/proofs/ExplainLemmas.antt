@@ -6,7 +6,7 @@ use Rattle.esto_cert.specs.declared.line.Line.TheVariants.{Match}
 use Rattle.esto_certify.specs.Explain.{explain_course}
 use Rattle.esto_certify.specs.Laws.{Certifies, CertifiesOverPlans, ExplainSaysCertificates, IsExplained}
 use Rattle.esto_certify.specs.Laws.IsExplained.{clashes, has_no_set, explains}
-use Rattle.esto_certify.specs.declared.verifying.TheConstants.{CERTIFICATE_LIMIT}
+use Rattle.esto_opening.specs.declared.opening.TheConstants.{DATA_LIMIT}
 use Rattle.esto_chase_laws.specs.declared.clash.Clash.{Clash}
 use Rattle.esto_course.specs.Course.{judges}
 use Rattle.esto_list.specs.declared.listing.Listed.{Listed}
@@ -224,7 +224,7 @@ explained_accepted explained verified words others files later catalogue_name qu
     item written said text asks say outcome at asks_verify say_later holds short is_set verdict =
     let certificate = (explained words files catalogue_name query_name number catalogue query status.Done written asks say outcome).certifies plan item at in
     let derived = certificate.derived.2 in
-    let within = lines_within written derived.lines (Match derived.facts derived.links) derived.are_lines later file CERTIFICATE_LIMIT holds short in
+    let within = lines_within written derived.lines (Match derived.facts derived.links) derived.are_lines later file DATA_LIMIT holds short in
     ((verified others later other_catalogue other_query numbers file catalogue query said text asks_verify say_later verdict).verifies plan
     at.planned).verdict item.set written None is_set within certificate.accepted
 

@@ -3,7 +3,7 @@ use Rattle.std.specs.Prelude.{◌≡◌, ◌≢◌, ◌↔◌, ℕ, ◌-◌, ◌
 use Rattle.esto_catalog.specs.declared.catalogue.Catalogue.{Catalogue}
 use Rattle.esto_certify.specs.Laws.{Certifies, SaysVerdict}
 use Rattle.esto_certify.specs.Verify.{first_above, HasVerdict, IsSetOf}
-use Rattle.esto_certify.specs.declared.verifying.TheConstants.{CERTIFICATE_LIMIT}
+use Rattle.esto_opening.specs.declared.opening.TheConstants.{DATA_LIMIT}
 use Rattle.esto_list.specs.declared.listing.Listed.{Listed}
 use Rattle.esto_opening.specs.Fetch.{HasWithin}
 use Rattle.esto_opening.specs.Line.{line_of}
@@ -50,11 +50,11 @@ pub record VerifiesExactly (files : Files) (catalogue : Catalogue) (query : Quer
   pub number : (number count : ℕ)
       → (said ≡ status.NoSuchNumber number count) ↔ ((first_above (length plan.atoms) numbers ≡ Some number) × (count ≡ length plan.atoms))
   pub verdict : (set : List Bool) (bytes : List ℕ) (verdict : Option ℕ) → IsSetOf (length plan.atoms) numbers set
-      → HasWithin files file CERTIFICATE_LIMIT bytes → HasVerdict catalogue query plan set bytes verdict → SaysVerdict verdict said text
+      → HasWithin files file DATA_LIMIT bytes → HasVerdict catalogue query plan set bytes verdict → SaysVerdict verdict said text
   pub accepted : said ≡ status.Done → (set : List Bool) × (bytes : List ℕ) × IsSetOf (length plan.atoms) numbers set
-      × HasWithin files file CERTIFICATE_LIMIT bytes × Certifies catalogue query plan set bytes
+      × HasWithin files file DATA_LIMIT bytes × Certifies catalogue query plan set bytes
   pub rejected : (line : ℕ) → said ≡ status.Rejected line → (set : List Bool) × (bytes : List ℕ) × IsSetOf (length plan.atoms) numbers set
-      × HasWithin files file CERTIFICATE_LIMIT bytes × HasVerdict catalogue query plan set bytes (Some line)
+      × HasWithin files file DATA_LIMIT bytes × HasVerdict catalogue query plan set bytes (Some line)
 
 -- The query is refused exactly where it is unsatisfiable; and so it is said over each printed plan of the query. A refusal has its line.
 pub record IsExactVerify (files : Files) (catalogue : Catalogue) (query : Query) (numbers file : List ℕ) (said : Status) (text : List ℕ) : Type 0 where
@@ -99,7 +99,7 @@ OutcomesOfExplainAreAccepted =
     → AsksExplain words catalogue_name query_name number → FilesSay files catalogue_name query_name catalogue query
     → Outcome words files status.Done written → IsNumbered catalogue query number plan item
     → AsksVerify others other_catalogue other_query numbers file → FilesSay later other_catalogue other_query catalogue query
-    → Holds (Some later) file written → length written ≤ CERTIFICATE_LIMIT → IsSetOf (length plan.atoms) numbers item.set
+    → Holds (Some later) file written → length written ≤ DATA_LIMIT → IsSetOf (length plan.atoms) numbers item.set
     → Outcome others later said text → (said ≡ status.Done) × (text ≡ codes "accepted\n")
 
 -- ---- what the top call says
