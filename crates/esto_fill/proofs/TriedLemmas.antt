@@ -18,15 +18,12 @@ use Rattle.esto_fill.specs.Judging.{ArePassed, IsFirstTried, IsPassed}
 -- ---- the loop over rules
 
 module _ (laws : List Rule) (facts : List (Fact Term)) (rules : List Constraint) (number : ℕ) where
-  rule_at : (constraint : Constraint) → slice_get rules number ≡ Some constraint → slice_get (rules_of rules) number ≡ Some (rule_of constraint)
-  rule_at constraint at = map_at rule_of rules number constraint at
-
   pub passed_more : (constraint : Constraint) → slice_get rules number ≡ Some constraint → IsPassed laws facts (rule_of constraint)
       → ArePassed laws facts (take number (rules_of rules)) → ArePassed laws facts (take (number + 1) (rules_of rules))
   passed_more constraint at here before =
       each_more (IsPassed laws facts) (rules_of rules) number (rule_of constraint)
-      (slice_get_within (rules_of rules) number (rule_of constraint) (rule_at constraint at))
-      (sym (get_or_from_slice_get (rules_of rules) number (rule_of constraint) (rule_of constraint) (rule_at constraint at)))
+      (slice_get_within (rules_of rules) number (rule_of constraint) (map_at rule_of rules number constraint at))
+      (sym (get_or_from_slice_get (rules_of rules) number (rule_of constraint) (rule_of constraint) (map_at rule_of rules number constraint at)))
       here before
 
   pub passed_all : length rules ≤ number → ArePassed laws facts (take number (rules_of rules)) → ArePassed laws facts (rules_of rules)
@@ -39,7 +36,7 @@ module _ (laws : List Rule) (facts : List (Fact Term)) (rules : List Constraint)
       → IsFirstTried laws (rules_of rules) facts number valuation places
   first_tried constraint valuation places at (tried, active) before = record {
     rule = rule_of constraint;
-    there = rule_at constraint at;
+    there = map_at rule_of rules number constraint at;
     tried = tried;
     active = active;
     before = before;
