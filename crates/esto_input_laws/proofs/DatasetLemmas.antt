@@ -10,7 +10,6 @@ use Rattle.esto_docmodel.specs.Encodings.{facts_of}
 use Rattle.esto_docmodel.specs.Shapes.{documents}
 use Rattle.esto_docs.specs.Files.{file_trees}
 use Rattle.esto_fill.proofs.FileLemmas.{rows_flat, documents_flat, append_flat}
-use Rattle.esto_fill.specs.Lawful.{AreLawful}
 use Rattle.esto_fill.specs.Files.{dataset_fault, nodes_in, AreFactsByModel, AreFactsFrom, IsFirstFault, AreReadable, LoadsFacts}
 use Rattle.esto_fill.specs.declared.datasets.DatasetBytes.{DatasetBytes}
 use Rattle.esto_fill.specs.declared.datasets.LoadError.TheVariants.{Fault}
@@ -26,7 +25,7 @@ use Rattle.esto_semantics.specs.declared.fact.Fact.{Fact}
 use Rattle.esto_stores.specs.Keys.{key_rows}
 use Rattle.esto_stores.specs.Table.{table_rows}
 use Rattle.esto_term.proofs.ChoiceLemmas.{Decided}
-use Rattle.esto_term.proofs.ListLemmas.{Contains-nil, thing_at}
+use Rattle.esto_term.proofs.ListLemmas.{thing_at}
 use Rattle.esto_term.specs.declared.term.Term.{Term}
 use Rattle.esto_reading_laws.proofs.DecisionLemmas.{same_bytes, same_list, contains}
 
@@ -63,10 +62,6 @@ facts_by_model Documents dataset bytes first =
     (facts_of dataset.base first (documents (file_trees dataset.layout bytes)), refl, documents_flat dataset.base first (documents (file_trees dataset.layout bytes)))
 facts_by_model Keys dataset bytes first =
     let (facts, are) = row_facts dataset.base (key_rows bytes) in (facts, are, rows_flat dataset.base (key_rows bytes) facts are)
-
--- the rules of no documents are met
-no_documents : (facts : List (Fact Term)) → AreLawful [] facts
-no_documents facts base inside = absurd (Contains-nil base inside)
 
 -- ---- several files
 
@@ -162,7 +157,7 @@ module _ (datasets : List Dataset) where
         | inl readable ↦
             let (facts, next, from, flat) = facts_from 0 files are in
             inl (
-              record { facts = facts; next = next; documents = []; sound = ∣ flat ∣₁; lawful = ∣ no_documents facts ∣₁ },
+              record { facts = facts; next = next; sound = ∣ flat ∣₁ },
               (readable, from),
             )
       ]
