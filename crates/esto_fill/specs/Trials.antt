@@ -30,12 +30,12 @@ pub record Cover (rules laws : List Rule) (views : List ConjunctiveQuery) (bodie
   pub tried : (rule : Rule) → Contains rules rule → ¬ (Contains laws rule) → HaveParts bodies rule
   pub asked : (view : ConjunctiveQuery) → Contains views view → Contains bodies view.body
 
--- The facts that are wanted are those to which an atom of a view can go, or one of a rule that is none of the laws.
+-- All facts to which an atom of a view can go, or one of a rule that is none of the laws, are wanted.
 abbrev pub IsWantedBut : List Rule → Catalogue → Wanted → Type 0
 IsWantedBut laws catalogue wanted =
     (bodies : List (List (Fact Term))) × (wanted ≡ Asked bodies) × Cover (rules_of catalogue.rules) laws (views_of catalogue.fragments) bodies
 
--- What is not tried are laws, and what is wanted are the facts to which an atom of a view or of a rule that is tried can go.
+-- What is not tried are laws, and all facts to which an atom of a view or of a rule that is tried can go are wanted.
 pub record IsTrialOf (catalogue : Catalogue) (trial : Trial) : Type 0 where
   pub laws : AreLaws catalogue.datasets (rules_of trial.laws)
   pub wants : IsWantedBut (rules_of trial.laws) catalogue trial.wanted

@@ -12,7 +12,7 @@ pub fn loaded_facts_are_flat()
 {}
 
 /// A law: the facts of files, of which no two are of one dataset, meet the rules of documents whose relations no other
-/// dataset has.
+/// dataset has, where the names of fields rise in each object of the documents, as they do in what is loaded.
 pub fn documents_are_lawful()
     ensures { DocumentsAreLawful }
 {}

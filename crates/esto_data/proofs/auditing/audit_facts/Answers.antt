@@ -33,6 +33,10 @@ returns-in_err-compare-clause-answer g c facts enough =
     (audit_differs (g.S.Shelf.files c.args.shelf.now) c.args.catalogue.now facts (judged_all c.args.catalogue.now (rules_of c.args.trial.now.laws) facts c.args.loaded.now.facts enough (Ok tt) c.in_ok-judge_views.ensures) opened.0 opened.1 _ _
     (c.in_err-compare.ensures opened.0 opened.3 facts enough))
 
+pub returns-in_err-text-clause-answer : goal.returns-in_err-text-clause-answer
+returns-in_err-text-clause-answer g c facts enough =
+    at_exit _ _ c.from_residual-in_err-text.result c.from_residual-in_err-text.ensures.1 (is_free refl)
+
 pub returns-clause-answer : goal.returns-clause-answer
 returns-clause-answer g c facts enough =
     let opened = c.in_ok-rows.ensures.answer in
