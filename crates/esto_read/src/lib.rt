@@ -14,6 +14,7 @@ mod term;
 mod unions;
 mod words;
 
+pub use esto_text::{ReadError, TextFault, TextKind, Token, TokenKind, Tokens, read_tokens};
 pub use layout::{layout_readings_are_determined, read_layout};
 pub use read::{
     NamedQuery, read_query, read_view, readings_are_determined, views_name_their_columns,
