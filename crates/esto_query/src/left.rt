@@ -197,21 +197,21 @@ fn ranked_of<'f>(
 {
     let waiting = left.item(place);
     let terms = waiting.atom.terms.items();
-    let wants = wants(start, trail, wanted, terms);
     if joins(start, trail, terms) {
         let choice = choice_of(start, facts, trail, left, place);
+        let ways = choice.found.len();
         return Ranked {
             choice,
-            ways: choice.found.len(),
+            ways,
             joins: true,
-            wants,
+            wants: ways > 1 && wants(start, trail, wanted, terms),
         };
     }
     Ranked {
         choice: wide_choice_of(facts, left, place),
         ways: waiting.ways,
         joins: false,
-        wants,
+        wants: wants(start, trail, wanted, terms),
     }
 }
 
