@@ -6,7 +6,7 @@ use Rattle.esto_query.proofs.RowLemmas.{images_more}
 use Rattle.esto_query.proofs.answer.image_of_row.Goals as goal
 
 pub loop-term-init : goal.loop-term-init
-loop-term-init c = c.new-images.ensures
+loop-term-init c = c.from_vec-images.ensures ∙ c.in_ok-with_capacity.ensures.items
 
 pub loop-term-preserved : goal.loop-term-preserved
 loop-term-preserved c =
