@@ -12,7 +12,7 @@ use Rattle.esto_fill.specs.Laws.{AnswersRestOnWantedFacts}
 use Rattle.esto_fill.specs.Texts.{AreTextsOf, AreTextViews, HaveTextsOnly, IsFirstNodeColumn, IsFirstNodeView}
 use Rattle.esto_fill.specs.Trials.{IsEnoughFor, IsTrialOf}
 use Rattle.esto_fill.specs.Wanted.{Leaves}
-use Rattle.esto_fill.proofs.TrialLemmas.{view_same}
+use Rattle.esto_fill.proofs.TrialLemmas.{view_same as same_over}
 use Rattle.esto_fill.proofs.WantedLemmas.{has_asked, leaves_drop}
 use Rattle.esto_fill.specs.declared.filled.FillError.{FillError}
 use Rattle.esto_fill.specs.declared.filled.FillError.TheVariants as filled
@@ -167,7 +167,7 @@ module _ (catalogue : Catalogue) (laws : List Rule) (facts some : List (Fact Ter
 
   same_in : (view : ConjunctiveQuery) → Contains its_views view → (values : List Value)
       → IsAnswer view (database_of some) values ↔ IsAnswer view (database_of facts) values
-  same_in = view_same (rules_of catalogue.rules) laws its_views facts some enough
+  same_in = same_over (rules_of catalogue.rules) laws its_views facts some enough
 
   texts_in : (view : ConjunctiveQuery) → Contains its_views view → HaveTextsOnly (IsAnswer view (database_of some))
       → HaveTextsOnly (IsAnswer view (database_of facts))
