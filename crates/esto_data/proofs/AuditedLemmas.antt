@@ -1,14 +1,13 @@
 -- Where `audit` has a reply, and what `answer` prints then.
-use Rattle.std.proofs.Common.{◌≡◌, ◌↔◌, ◌<◌, ℕ, List, [], ◌∷◌, map, length, get_or, slice_get, Contains, Option, Some, None, refl, sym, ap, subst, ◌∙◌, arith}
-use Rattle.std.specs.Prelude.{AllPairs, IsSome}
-use Rattle.std.proofs.lemmas.List.{get_or-map, length-map}
+use Rattle.std.proofs.Common.{◌≡◌, ◌↔◌, ◌<◌, ℕ, List, [], ◌∷◌, map, length, slice_get, Contains, Option, Some, None, refl, sym, subst, ◌∙◌, arith}
+use Rattle.std.specs.Prelude.{IsSome}
 use Rattle.std.proofs.lemmas.Option.{same_Some}
 use Rattle.esto_catalog.specs.Determined.{AreSame}
 use Rattle.esto_catalog.specs.declared.catalogue.Catalogue.{Catalogue}
 use Rattle.esto_catalog.specs.declared.dataset.Dataset.{Dataset}
 use Rattle.esto_course.specs.Course.{judges, gives, and_then}
 use Rattle.esto_fill.specs.Databases.{database_of}
-use Rattle.esto_fill.specs.Files.{AreApart, HasRelation}
+use Rattle.esto_fill.specs.Files.{HasRelation}
 use Rattle.esto_fill.specs.Laws.{AnswersRestOnDatasets}
 use Rattle.esto_fill.specs.Texts.{AreTextsOf, HaveTextsOnly}
 use Rattle.esto_fill.specs.declared.datasets.DatasetBytes.{DatasetBytes}
