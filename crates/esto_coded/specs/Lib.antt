@@ -1,0 +1,4 @@
+pub mod Coded
+pub mod Answered
+pub mod Relations
+pub mod Shown

@@ -1,0 +1,13 @@
+//! Facts as rows of codes, relation by relation, and what is asked of them: the answers of queries, and whether they
+//! meet a rule. Start from `CodedFacts`.
+#![tactic(auto)]
+
+mod answers;
+mod coded;
+mod meets;
+mod same;
+mod shown;
+
+pub use coded::{CodedFacts, FIRST_NODE};
+pub use same::hold_same;
+pub use shown::least_node;
