@@ -1,5 +1,5 @@
 -- Facts as rows of codes, relation by relation, read as sets.
-use Rattle.std.specs.Prelude.{◌≡◌, ◌⊎◌, ℕ, ◌+◌, List, Some, map, slice_get, length, Contains}
+use Rattle.std.specs.Prelude.{◌≡◌, ◌≢◌, ◌⊎◌, ℕ, ◌+◌, ◌≤◌, List, Some, map, slice_get, length, Contains, AllPairs}
 use Rattle.std.specs.List.{AllZip}
 use Rattle.esto_term.specs.declared.term.Term.{Term}
 use Rattle.esto_term.specs.declared.term.Term.TheVariants.{Const, Plain}
@@ -22,6 +22,11 @@ IsCodeOf texts term code =
 -- The codes stand for the terms, one each.
 abbrev pub AreCodesOf : List (List ℕ) → List Term → List ℕ → Type 0
 AreCodesOf texts terms codes = AllZip (IsCodeOf texts) terms codes
+
+-- The texts tell codes and terms apart: no two are the same, and their codes stand below those of nodes. So a code stands for one term, and a term has one code.
+pub record AreTelling (texts : List (List ℕ)) : Type 0 where
+  pub distinct : AllPairs ◌≢◌ texts
+  pub few : length texts ≤ FIRST_NODE
 
 -- The rows of codes of the relation of a number; a number past the relations has none.
 abbrev pub rows_in : List CodedRows → ℕ → List (List ℕ)

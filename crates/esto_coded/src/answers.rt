@@ -1,11 +1,12 @@
 //! The answers of queries.
-ghost use Rattle.std.specs.Prelude.{◌≡◌, List, length, Contains, IfOk};
+ghost use Rattle.std.specs.Prelude.{◌≡◌, ℕ, List, length, Contains, IfOk};
 ghost use Rattle.esto_columns.specs.Interned.{Grows};
 ghost use Rattle.esto_semantics.specs.Maps.{IsFixedBy};
 ghost use Rattle.esto_semantics.specs.declared.fact.Fact.{Fact};
 ghost use Rattle.esto_term.specs.declared.term.Term.{Term};
 ghost use Rattle.esto_coded.specs.Answered.{AreCodedAnswers};
-ghost use Rattle.esto_coded.specs.Coded.{StandFor, arities_of};
+ghost use Rattle.esto_term.specs.declared.term.Term.TheVariants.{Const};
+ghost use Rattle.esto_coded.specs.Coded.{AreTelling, StandFor, arities_of};
 
 use crate::coded::CodedFacts;
 use esto_columns::Rows;
@@ -26,6 +27,9 @@ impl CodedFacts {
         ensures arities { arities_of self.new ≡ arities_of self.old }
         ensures facts { (facts : List (Fact Term)) → StandFor self.old facts → StandFor self.new facts }
         ensures grown { Grows self.old.texts self.new.texts }
+        ensures texts { IfOk result (λ _. AreTelling self.new.texts) }
+        ensures constants { IfOk result (λ _. (text : List ℕ) → Contains head.now (Const text)
+            → Contains self.new.texts text) }
         ensures arity { IfOk result (λ it. it.arity ≡ length head.now) }
         ensures rows { IfOk result (λ it. AreCodedAnswers self.new
             (record { head = head.now; body = body.now }) it.rows) }
