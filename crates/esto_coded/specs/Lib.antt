@@ -2,3 +2,4 @@ pub mod Coded
 pub mod Answered
 pub mod Relations
 pub mod Shown
+pub mod Met

@@ -1,18 +1,36 @@
 //! Rows of codes as rows of texts.
-ghost use Rattle.std.specs.Prelude.{◌↔◌, ◌<◌, ℕ, List, length, Contains, IfOk};
+ghost use Rattle.std.specs.Prelude.{◌≡◌, ◌↔◌, ◌<◌, ◌≤◌, ℕ, List, length, Contains, IsTrue, IfOk};
 ghost use Rattle.esto_columns.specs.Interned.{AreCodesOf};
 ghost use Rattle.esto_columns.specs.Lent.{AreRising};
 ghost use Rattle.esto_coded.specs.Shown.{LeastNode};
+ghost use Rattle.esto_coded.specs.declared.coded.TheConstants.{FIRST_NODE};
 
-use crate::coded::CodedFacts;
-use esto_columns::Rows;
+use crate::coded::{CodedFacts, FIRST_NODE};
+use esto_columns::{Rows, sorted_texts};
 use esto_term::{OutOfMemory, TextRows};
 use std::alloc::Global;
+
+/// Whether one of the codes is that of a node.
+fn has_node(codes: &[u64]) -> bool
+    ensures { IsTrue result ↔ ((code : ℕ) × Contains codes.now code × (FIRST_NODE ≤ code)) }
+{
+    'codes: for code in codes {
+        if *code >= FIRST_NODE {
+            return true;
+        }
+    }
+    false
+}
 
 /// The least column, counted from 0, in which one of the rows has the code of a node.
 pub fn least_node(rows: &Rows) -> Option<usize>
     ensures { LeastNode rows.now.rows result }
 {
+    'columns: for column in 0..rows.arity() {
+        if has_node(rows.column(column).items()) {
+            return Some(column);
+        }
+    }
     None
 }
 
@@ -25,6 +43,6 @@ impl CodedFacts {
             ↔ ((own : List ℕ) × Contains rows.now.rows own × AreCodesOf self.now.texts own row)) }
         ensures ascending { IfOk result AreRising }
     {
-        Err(OutOfMemory)
+        sorted_texts(alloc, rows, &self.codes)
     }
 }
