@@ -5,8 +5,10 @@
 mod answers;
 mod coded;
 mod meets;
+mod relations;
 mod same;
 mod shown;
+mod terms;
 
 pub use coded::{CodedFacts, FIRST_NODE};
 pub use same::hold_same;

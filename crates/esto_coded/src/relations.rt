@@ -1,0 +1,78 @@
+//! Relations of rows of codes.
+ghost use Rattle.std.specs.Prelude.{◌≡◌, ◌<◌, ◌++◌, ◌∷◌, [], length, map, slice_index_or, IfOk, OnOk};
+ghost use Rattle.esto_coded.specs.Relations.{no_rows};
+
+use esto_columns::{Rows, StoredRows};
+use esto_term::{List, OutOfMemory, Places, Values};
+use std::alloc::Global;
+
+/// A relation of the arity, with no rows, that is asked as a whole.
+fn no_rows(alloc: Global, arity: usize) -> Result<StoredRows, OutOfMemory>
+    ensures { IfOk result (λ it. it ≡ no_rows arity) }
+{
+    let mut ways = List::new(alloc);
+    ways.push(Places::new(alloc))?;
+    let rows = Rows::new(alloc, arity)?;
+    Ok(StoredRows { rows, ways })
+}
+
+/// Such a relation for each arity.
+pub(crate) fn no_relations(
+    alloc: Global,
+    arities: &[usize],
+) -> Result<Vec<StoredRows>, OutOfMemory>
+    ensures { IfOk result (λ it. it.items ≡ map no_rows arities.now) }
+{
+    let mut relations = Vec::new(alloc);
+    'arities: for arity in arities {
+        let Ok(()) = relations.push(no_rows(alloc, *arity)?) else {
+            return Err(OutOfMemory);
+        };
+    }
+    Ok(relations)
+}
+
+/// Puts the row at the place after the others. It is read into the list.
+fn add_row(
+    rows: &Rows,
+    at: usize,
+    row: &mut Values<u64>,
+    into: &mut Rows,
+) -> Result<(), OutOfMemory>
+    requires there { at < length rows.now.rows }
+    requires arity { into.old.arity ≡ rows.now.arity }
+    ensures { OnOk result (into.new ≡ record {
+      arity = into.old.arity;
+      rows = into.old.rows ++ slice_index_or rows.now.rows at [] ∷ [];
+    }) }
+{
+    let _arity = rows.arity();
+    rows.read_row(at, row)?;
+    into.add(row.items())
+}
+
+/// Puts the rows after the others, one by one.
+fn add_each(alloc: Global, rows: &Rows, into: &mut Rows) -> Result<(), OutOfMemory>
+    requires { into.old.arity ≡ rows.now.arity }
+    ensures { OnOk result (into.new
+        ≡ record { arity = into.old.arity; rows = into.old.rows ++ rows.now.rows }) }
+{
+    let mut row = Values::new(alloc);
+    'rows: for at in 0..rows.len() {
+        add_row(rows, at, &mut row, into)?;
+    }
+    Ok(())
+}
+
+/// Puts the rows after the others; where there are no others they are moved and not copied.
+pub(crate) fn put_rows(alloc: Global, rows: Rows, into: &mut Rows) -> Result<(), OutOfMemory>
+    requires { into.old.arity ≡ rows.arity }
+    ensures { OnOk result (into.new
+        ≡ record { arity = into.old.arity; rows = into.old.rows ++ rows.rows }) }
+{
+    if into.len() == 0 {
+        *into = rows;
+        return Ok(());
+    }
+    add_each(alloc, &rows, into)
+}
