@@ -1,1 +1,4 @@
 pub mod StandLemmas
+pub mod SameLemmas
+pub mod ShownLemmas
+pub mod MeetLemmas

@@ -1,13 +1,23 @@
 -- Rows that are found by an index of them.
-use Rattle.std.proofs.Common.{◌≡◌, ◌↔◌, inl, inr, ℕ, suc, ◌+◌, ◌<◌, ◌≤◌, List, [], ◌∷◌, ◌++◌, map, length, get_or, take, Some, slice_get, Contains, refl, sym, ap, ◌∙◌}
-use Rattle.std.proofs.Common.{subst, arith}
-use Rattle.std.proofs.lemmas.Bool.{cases_order}
+use Rattle.std.proofs.Common.{◌≡◌, ◌↔◌, inl, inr, ℕ, suc, ◌+◌, ◌<◌, ◌≤◌, Bool, true, false, List, [], ◌∷◌, ◌++◌, map, length, get_or, take, Some, slice_get, Contains, refl, sym, ap, ◌∙◌}
+use Rattle.std.proofs.Common.{subst, arith, IsTrue}
+use Rattle.std.proofs.lemmas.Bool.{cases_order, false≢true}
 use Rattle.std.proofs.lemmas.List.Elements.{Contains-get_or}
 use Rattle.std.proofs.lemmas.Option.{same_Some, slice_get_within, slice_get-get_or, get_or_from_slice_get}
 use Rattle.esto_term.proofs.ListLemmas.{place-from_Contains, map_at}
 use Rattle.esto_term.proofs.PlaceLemmas.{take-there}
 use Rattle.esto_columns.specs.Indexed.{Index, LeadsOn, IsIndexOf, bucket_of}
 use Rattle.esto_columns.proofs.IndexLemmas.{OwnsLast}
+
+-- ---- what is told where an answer is known
+
+pub is_so : {P : Type 0} → P → IsTrue true ↔ P
+is_so proof = (λ told. proof, λ it. refl)
+
+pub is_not : {P : Type 0} → (P → ⊥) → IsTrue false ↔ P
+is_not apart = (λ wrong. absurd (false≢true wrong), λ it. absurd (apart it))
+
+-- ---- an index
 
 -- one more row
 pub index_more : (rows : List (List ℕ)) (at : ℕ) (row given : List ℕ) (index new : Index) → slice_get rows at ≡ Some row → given ≡ row
@@ -93,3 +103,19 @@ same_more row other count before here column below = elim (cases_order column co
   | inr (inl less) ↦ before column less
   | inr (inr past) ↦ absurd (omega (arith, past, below))
 ]
+
+-- ---- sets of rows
+
+-- each row of the one is a row of the other
+abbrev pub IsPart : List (List ℕ) → List (List ℕ) → Type 0
+IsPart rows others = (row : List ℕ) → Contains rows row → Contains others row
+
+pub not_same : (rows others : List (List ℕ)) → (IsPart rows others → ⊥) → ((row : List ℕ) → Contains rows row ↔ Contains others row) → ⊥
+not_same rows others apart same = apart (λ row inside. (same row).0 inside)
+
+pub same_told : (rows others : List (List ℕ)) (answer : Bool) → IsPart rows others → IsTrue answer ↔ IsPart others rows
+    → IsTrue answer ↔ ((row : List ℕ) → Contains rows row ↔ Contains others row)
+same_told rows others answer there told = (
+  λ back row. (there row, told.0 back row),
+  λ same. told.1 (λ row inside. (same row).1 inside),
+)

@@ -2,7 +2,8 @@
 ghost use Rattle.std.specs.Prelude.{◌≡◌, ◌↔◌, ◌<◌, ◌≤◌, ℕ, List, length, Contains, IsTrue, IfOk};
 ghost use Rattle.esto_columns.specs.Interned.{AreCodesOf};
 ghost use Rattle.esto_columns.specs.Lent.{AreRising};
-ghost use Rattle.esto_coded.specs.Shown.{LeastNode};
+ghost use Rattle.esto_coded.specs.Coded.{rows_in};
+ghost use Rattle.esto_coded.specs.Shown.{HasNodeAt, LeastNode};
 ghost use Rattle.esto_coded.specs.declared.coded.TheConstants.{FIRST_NODE};
 
 use crate::coded::{CodedFacts, FIRST_NODE};
@@ -11,7 +12,7 @@ use esto_term::{OutOfMemory, TextRows};
 use std::alloc::Global;
 
 /// Whether one of the codes is that of a node.
-fn has_node(codes: &[u64]) -> bool
+fn any_node(codes: &[u64]) -> bool
     ensures { IsTrue result ↔ ((code : ℕ) × Contains codes.now code × (FIRST_NODE ≤ code)) }
 {
     'codes: for code in codes {
@@ -22,12 +23,23 @@ fn has_node(codes: &[u64]) -> bool
     false
 }
 
+/// Whether one of the rows has the code of a node in the column.
+fn node_at(rows: &Rows, column: usize) -> bool
+    ensures { IsTrue result
+        ↔ ((row : List ℕ) × Contains rows.now.rows row × HasNodeAt column row) }
+{
+    if column >= rows.arity() {
+        return false;
+    }
+    any_node(rows.column(column).items())
+}
+
 /// The least column, counted from 0, in which one of the rows has the code of a node.
 pub fn least_node(rows: &Rows) -> Option<usize>
     ensures { LeastNode rows.now.rows result }
 {
     'columns: for column in 0..rows.arity() {
-        if has_node(rows.column(column).items()) {
+        if node_at(rows, column) {
             return Some(column);
         }
     }
@@ -44,5 +56,16 @@ impl CodedFacts {
         ensures ascending { IfOk result AreRising }
     {
         sorted_texts(alloc, rows, &self.codes)
+    }
+
+    /// Whether one of the rows of the relation has the code of a node in the column.
+    pub fn has_node(&self, relation: usize, column: usize) -> bool
+        ensures { IsTrue result ↔ ((row : List ℕ)
+            × Contains (rows_in self.now.relations relation) row × HasNodeAt column row) }
+    {
+        if relation >= self.relations.len() {
+            return false;
+        }
+        node_at(&self.relations[relation].rows, column)
     }
 }

@@ -1,0 +1,241 @@
+-- Whether facts meet a rule, by the codes of answers.
+use Rattle.std.proofs.Common.{◌≡◌, ◌≢◌, ◌↔◌, ◌⊎◌, inl, inr, ℕ, ◌<◌, Bool, true, false, cond, List, [], ◌∷◌, ◌++◌, map, length, get_or, Some, slice_get, Contains, refl, sym, ap, ◌∙◌}
+use Rattle.std.proofs.Common.{subst, arith, IsTrue}
+use Rattle.std.specs.List.{AllZip, filter}
+use Rattle.std.specs.Set.{is_member}
+use Rattle.std.proofs.lemmas.Bool.{and_parts}
+use Rattle.std.proofs.lemmas.List.{append_assoc}
+use Rattle.esto_columns.specs.Interned.{Grows}
+use Rattle.esto_term.specs.Order.{same_term}
+use Rattle.esto_term.specs.declared.term.Term.{Term, out-Term}
+use Rattle.esto_term.specs.declared.term.Term.TheVariants.{Const, Plain}
+use Rattle.esto_term.proofs.ListLemmas.{Contains-nil, Contains-head, Contains-rest, Contains-map, Contains-map_from, Contains-filter_from, agree-from_map, map_agree, place-from_Contains}
+use Rattle.esto_term.proofs.ZipLemmas.{zip_left}
+use Rattle.esto_semantics.specs.Facts.{image, Mentions, terms_of}
+use Rattle.esto_semantics.specs.Maps.{IsFlat, IsFixedBy, Keeps, Sends, AgreeOn}
+use Rattle.esto_semantics.specs.Queries.{ConjunctiveQuery, IsAnswerInto}
+use Rattle.esto_semantics.specs.Rules.{Rule, IsMet, IsTupleRule, tuple, equality, denial}
+use Rattle.esto_semantics.specs.declared.fact.Fact.{Fact}
+use Rattle.esto_semantics.proofs.CanonicalLemmas.{Mentions-terms_of}
+use Rattle.esto_semantics.proofs.TermLemmas.{same_term-Decides}
+use Rattle.esto_chase_laws.specs.Making.{is_variable_of, is_variable_level, frontier}
+use Rattle.esto_chase_laws.proofs.JoinedLemmas.{joined_from}
+use Rattle.esto_chase_laws.proofs.MakingLemmas.{in_terms-Decides, terms_of-Mentions, frontier_body, frontier_has}
+use Rattle.esto_coded.specs.Answered.{AreCodedAnswers}
+use Rattle.esto_coded.specs.Coded.{Coded, IsCodeOf, AreCodesOf, AreTelling, StandFor}
+use Rattle.esto_coded.specs.Met.{StaysFor, AnswersWhether}
+use Rattle.esto_coded.proofs.StandLemmas.{codes_grow, one_term, one_code}
+
+-- ---- codes of terms, one each
+
+one_terms : (texts : List (List ℕ)) → AreTelling texts → (terms others : List Term) (codes : List ℕ) → AreCodesOf texts terms codes → AreCodesOf texts others codes
+    → terms ≡ others
+one_terms texts tell [] [] codes are also = refl
+one_terms texts tell [] (other ∷ others) [] are also = absurd also
+one_terms texts tell [] (other ∷ others) (code ∷ codes) are also = absurd are
+one_terms texts tell (term ∷ terms) [] [] are also = absurd are
+one_terms texts tell (term ∷ terms) [] (code ∷ codes) are also = absurd also
+one_terms texts tell (term ∷ terms) (other ∷ others) [] are also = absurd are
+one_terms texts tell (term ∷ terms) (other ∷ others) (code ∷ codes) are also =
+    let first = one_term texts tell.few term other code are.0 also.0 in
+    let rest = one_terms texts tell terms others codes are.1 also.1 in λ i. first i ∷ rest i
+
+-- what each thing of a list has, one after the other
+zip_made : {X Y : Type 0} (R : X → Y → Type 0) (xs : List X) → ((x : X) → Contains xs x → (y : Y) × R x y) → (ys : List Y) × AllZip R xs ys
+zip_made R [] each = ([], tt)
+zip_made R (x ∷ xs) each =
+    let first = each x (Contains-head x xs) in
+    let rest = zip_made R xs (λ other inside. each other (Contains-rest x xs other inside)) in (first.0 ∷ rest.0, (first.1, rest.1))
+
+-- ---- the codes of what a match makes of terms
+
+-- each of the constants among the terms is one of the texts
+abbrev pub HaveTexts : List (List ℕ) → List Term → Type 0
+HaveTexts texts terms = (text : List ℕ) → Contains terms (Const text) → Contains texts text
+
+module _ (coded : Coded) (facts : List (Fact Term)) (stand : StandFor coded facts) (m : Term → Term) (body : List (Fact Term)) (sends : Sends m body facts) where
+  mentioned_code : (term : Term) → Mentions body term → (code : ℕ) × IsCodeOf coded.texts (m term) code
+  mentioned_code term (fact, inside, among) =
+      let own = stand.has (image m fact) (sends fact inside) in
+      let found = zip_left (IsCodeOf coded.texts) (map m fact.terms) own.0 own.1 (m term) (Contains-map m fact.terms term among) in
+      (found.0, found.2)
+
+  term_code : (head : List Term) → Keeps Const m → HaveTexts coded.texts head → (term : Term) → Contains head term → IsFixedBy body term
+      → (code : ℕ) × IsCodeOf coded.texts (m term) code
+  term_code head keeps known term inside (inl (text, is)) =
+      let place = place-from_Contains coded.texts text (known text (subst (Contains head) is inside)) in
+      (place.0, inl (text, ap m is ∙ keeps text, place.1))
+  term_code head keeps known term inside (inr mentioned) = mentioned_code term mentioned
+
+  head_codes : (head : List Term) → Keeps Const m → HaveTexts coded.texts head → ((term : Term) → Contains head term → IsFixedBy body term)
+      → (row : List ℕ) × AreCodesOf coded.texts (map m head) row
+  head_codes head keeps known fixed = zip_made (IsCodeOf coded.texts) (map m head) made
+    where
+      made : (value : Term) → Contains (map m head) value → (code : ℕ) × IsCodeOf coded.texts value code
+      made value inside =
+          let own = Contains-map_from m head value inside in
+          let code = term_code head keeps known own.0 own.1 (fixed own.0 own.1) in
+          (code.0, subst (λ it. IsCodeOf coded.texts it code.0) own.2 code.1)
+
+-- so what a match makes of the head has its row among the answers
+answer_row : (coded : Coded) (head : List Term) (body : List (Fact Term)) (rows : List (List ℕ))
+    → AreCodedAnswers coded (record { head = head; body = body }) rows → HaveTexts coded.texts head → ((term : Term) → Contains head term → IsFixedBy body term)
+    → (facts : List (Fact Term)) → StandFor coded facts → (m : Term → Term) → Keeps Const m → Sends m body facts
+    → (row : List ℕ) × Contains rows row × AreCodesOf coded.texts (map m head) row
+answer_row coded head body rows answers known fixed facts stand m keeps sends =
+    let own = head_codes coded facts stand m body sends head keeps known fixed in
+    (own.0, (answers facts stand own.0).1 (map m head, own.1, (m, keeps, sends, refl)), own.1)
+
+-- ---- what was so of the rows before
+
+pub whether_before : (rule : Rule) (old new : Coded) (answer : Bool) → StaysFor old new → AnswersWhether new rule answer → AnswersWhether old rule answer
+whether_before rule old new answer stays whether facts stand = whether facts (stays.facts facts stand)
+
+pub stays_on : (old between new : Coded) → StaysFor old between → StaysFor between new → StaysFor old new
+stays_on old between new one other = record {
+  arities = other.arities ∙ one.arities;
+  facts = λ facts stand. other.facts facts (one.facts facts stand);
+  grown = (one.grown.0 ++ other.grown.0,
+    other.grown.1 ∙ ap (λ it. it ++ other.grown.0) one.grown.1 ∙ append_assoc old.texts one.grown.0 other.grown.0);
+}
+
+-- ---- denials
+
+pub denial_answered : (coded : Coded) (body : List (Fact Term)) (rows : List (List ℕ)) (answer : Bool)
+    → AreCodedAnswers coded (record { head = []; body = body }) rows → IsTrue answer ↔ (length rows ≡ 0) → AnswersWhether coded (denial body) answer
+denial_answered coded body rows answer answers told facts stand = (
+  λ empty m keeps sends.
+      let own = answer_row coded [] body rows answers (λ text inside. absurd (Contains-nil (Const text) inside))
+      (λ term inside. absurd (Contains-nil term inside)) facts stand m keeps sends in
+      let within = own.1.1 in let none = told.0 empty in omega (arith, within, none),
+  λ met. told.1 (by rows (λ row inside. let own = (answers facts stand row).0 inside in met own.2.0 own.2.1 own.2.2)),
+)
+  where
+    by : (all : List (List ℕ)) → ((row : List ℕ) → Contains all row → ⊥) → length all ≡ 0
+    by [] none = refl
+    by (row ∷ rest) none = absurd (none row (Contains-head row rest))
+
+-- ---- equality rules
+
+-- the two codes of a row are one exactly where the two terms are
+sides_told : (texts : List (List ℕ)) → AreTelling texts → (left right : Term) (row : List ℕ) → AreCodesOf texts (left ∷ right ∷ []) row
+    → (get_or row 0 0 ≡ get_or row 1 0) ↔ (left ≡ right)
+sides_told texts tell left right [] are = absurd are
+sides_told texts tell left right (code ∷ []) are = absurd are.1
+sides_told texts tell left right (code ∷ other ∷ []) are = (
+  λ same. one_term texts tell.few left right code are.0 (subst (IsCodeOf texts right) (sym same) are.1.0),
+  λ same. one_code texts tell.distinct left code other are.0 (subst (λ it. IsCodeOf texts it other) (sym same) are.1.0),
+)
+sides_told texts tell left right (code ∷ other ∷ more ∷ rest) are = absurd are.1.1
+
+pub equality_answered : (coded : Coded) (body : List (Fact Term)) (left right : Term) (rows : List (List ℕ)) (answer : Bool) → AreTelling coded.texts
+    → HaveTexts coded.texts (left ∷ right ∷ []) → ((term : Term) → Contains (left ∷ right ∷ []) term → IsFixedBy body term)
+    → AreCodedAnswers coded (record { head = left ∷ right ∷ []; body = body }) rows
+    → IsTrue answer ↔ ((row : List ℕ) → Contains rows row → get_or row 0 0 ≡ get_or row 1 0) → AnswersWhether coded (equality body left right) answer
+equality_answered coded body left right rows answer tell known fixed answers told facts stand = (
+  λ agree m keeps sends.
+      let own = answer_row coded (left ∷ right ∷ []) body rows answers known fixed facts stand m keeps sends in
+      (sides_told coded.texts tell (m left) (m right) own.0 own.2).0 (told.0 agree own.0 own.1),
+  λ met. told.1 (λ row inside. let own = (answers facts stand row).0 inside in
+      (sides_told coded.texts tell (own.2.0 left) (own.2.0 right) row (subst (λ them. AreCodesOf coded.texts them row) own.2.3 own.1)).1
+      (met own.2.0 own.2.1 own.2.2)),
+)
+
+-- ---- tuple rules
+
+pub frontier_head : (body head : List (Fact Term)) (term : Term) → Contains (frontier body head) term → Mentions head term
+frontier_head body head term inside = elim (joined_from same_term same_term-Decides (filter (is_variable_of head) (terms_of body)) [] term inside) [
+  | inl wrong ↦ absurd (Contains-nil term wrong)
+  | inr passed ↦
+    let told = (Contains-filter_from (is_variable_of head) (terms_of body) term passed).1 in
+    terms_of-Mentions head term ((in_terms-Decides head term).0
+    (and_parts (is_variable_level (out-Term term)) (is_member same_term (terms_of head) term) told).1)
+]
+
+pub body_fixed : (body head : List (Fact Term)) (term : Term) → Contains (frontier body head) term → IsFixedBy body term
+body_fixed body head term inside = inr (frontier_body body head term inside)
+
+pub head_fixed : (body head : List (Fact Term)) (term : Term) → Contains (frontier body head) term → IsFixedBy head term
+head_fixed body head term inside = inr (frontier_head body head term inside)
+
+-- the one map at the terms of the body, and the other at all others
+module _ (body : List (Fact Term)) (m other : Term → Term) where
+  abbrev joint : Term → Term
+  joint term = cond (is_member same_term (terms_of body) term) (m term) (other term)
+
+  joint_body : (term : Term) → Mentions body term → joint term ≡ m term
+  joint_body term inside = ap (λ it. cond it (m term) (other term)) ((in_terms-Decides body term).1 (Mentions-terms_of body term inside))
+
+  -- it is the other, if this agrees at the term in the body
+  joint_other : (term : Term) → (Mentions body term → m term ≡ other term) → joint term ≡ other term
+  joint_other term agree = by (is_member same_term (terms_of body) term) (λ told. agree (terms_of-Mentions body term ((in_terms-Decides body term).0 told)))
+    where
+      by : (answer : Bool) → (answer ≡ true → m term ≡ other term) → cond answer (m term) (other term) ≡ other term
+      by true same = same refl
+      by false same = refl
+
+  module _ (head : List (Fact Term)) (flat : (term : Term) → Mentions head term → IsFlat term) (keeps : Keeps Const m) (also : Keeps Const other)
+      (same : map m (frontier body head) ≡ map other (frontier body head)) where
+    joint_keeps : Keeps Const joint
+    joint_keeps text = joint_other (Const text) (λ inside. keeps text ∙ sym (also text)) ∙ also text
+
+    at_head : (term : Term) → Mentions head term → joint term ≡ other term
+    at_head term in_head = joint_other term (by (flat term in_head))
+      where
+        by : IsFlat term → Mentions body term → m term ≡ other term
+        by (inl (text, is)) in_body = ap m is ∙ keeps text ∙ sym (also text) ∙ ap other (sym is)
+        by (inr (variable, is)) in_body = agree-from_map m other (frontier body head) term same (subst (Contains (frontier body head)) (sym is)
+            (frontier_has body head variable (subst (Mentions body) is in_body) (subst (Mentions head) is in_head)))
+
+    joint_sends : (facts : List (Fact Term)) → Sends other head facts → Sends joint head facts
+    joint_sends facts sends atom inside =
+        let terms = map_agree joint other atom.terms (λ term among. at_head term (atom, inside, among)) in
+        subst (λ them. Contains facts (record { relation = atom.relation; terms = them })) (sym terms) (sends atom inside)
+
+module _ (body head : List (Fact Term)) (is : IsTupleRule body head) (one two : Coded) (grown : Grows one.texts two.texts) (tell : AreTelling two.texts)
+    (known : HaveTexts one.texts (frontier body head)) (given wanted : List (List ℕ))
+    (of_body : AreCodedAnswers one (record { head = frontier body head; body = body }) given)
+    (of_head : AreCodedAnswers two (record { head = frontier body head; body = head }) wanted)
+    (facts : List (Fact Term)) (before : StandFor one facts) (after : StandFor two facts) where
+  -- a match of the body goes on to the head where what it makes of the frontier is one of the wanted rows
+  goes_on : ((row : List ℕ) → Contains given row → Contains wanted row) → IsMet facts (tuple body head)
+  goes_on part m keeps sends =
+      let own = answer_row one (frontier body head) body given of_body known (body_fixed body head) facts before m keeps sends in
+      let found = (of_head facts after own.0).0 (part own.0 own.1) in
+      let other = found.2.0 in
+      let terms : map m (frontier body head) ≡ map other (frontier body head) =
+      one_terms two.texts tell (map m (frontier body head)) found.0 own.0 (codes_grow one.texts two.texts grown (map m (frontier body head)) own.0 own.2) found.1
+      ∙ found.2.3 in
+      (joint body m other, joint_keeps body m other head is.flat_head keeps found.2.1 terms,
+        (λ term inside. sym (joint_body body m other term inside)), joint_sends body m other head is.flat_head keeps found.2.1 terms facts found.2.2)
+
+  -- and where it goes on the row is wanted
+  is_wanted : IsMet facts (tuple body head) → (row : List ℕ) → Contains given row → Contains wanted row
+  is_wanted met row inside =
+      let own = (of_body facts before row).0 inside in
+      let m = own.2.0 in
+      let found = met m own.2.1 own.2.2 in
+      let terms : own.0 ≡ map found.0 (frontier body head) =
+      own.2.3 ∙ map_agree m found.0 (frontier body head) (λ term among. found.2 term (frontier_body body head term among)) in
+      (of_head facts after row).1 (own.0, codes_grow one.texts two.texts grown own.0 row own.1, (found.0, found.1, found.3, terms))
+
+-- the head's rows tell whether the facts meet the rule
+pub tuple_answered : (body head : List (Fact Term)) → IsTupleRule body head → (one two : Coded) → StaysFor one two → AreTelling two.texts
+    → HaveTexts one.texts (frontier body head) → (given wanted : List (List ℕ)) (answer : Bool)
+    → AreCodedAnswers one (record { head = frontier body head; body = body }) given
+    → AreCodedAnswers two (record { head = frontier body head; body = head }) wanted
+    → IsTrue answer ↔ ((row : List ℕ) → Contains given row → Contains wanted row) → AnswersWhether one (tuple body head) answer
+tuple_answered body head is one two stays tell known given wanted answer of_body of_head told facts stand = (
+  λ part. goes_on body head is one two stays.grown tell known given wanted of_body of_head facts stand (stays.facts facts stand) (told.0 part),
+  λ met. told.1 (is_wanted body head is one two stays.grown tell known given wanted of_body of_head facts stand (stays.facts facts stand) met),
+)
+
+-- nothing is asked of the head where the body has no match
+pub tuple_unasked : (body head : List (Fact Term)) (one : Coded) → HaveTexts one.texts (frontier body head) → (given : List (List ℕ)) → length given ≡ 0
+    → AreCodedAnswers one (record { head = frontier body head; body = body }) given → AnswersWhether one (tuple body head) true
+tuple_unasked body head one known given empty of_body facts stand = (
+  λ told m keeps sends.
+      let own = answer_row one (frontier body head) body given of_body known (body_fixed body head) facts stand m keeps sends in
+      let within = own.1.1 in absurd (omega (arith, within, empty)),
+  λ met. refl,
+)
