@@ -1,9 +1,10 @@
 -- Codes that stand for terms, and rows of codes that stand for facts.
-use Rattle.std.proofs.Common.{◌≡◌, ◌≢◌, ◌⊎◌, inl, inr, ℕ, ◌+◌, ◌≤◌, ◌<◌, List, [], ◌∷◌, ◌++◌, map, length, Some, slice_get, Contains, refl, sym, ap, ◌∙◌, subst}
+use Rattle.std.proofs.Common.{◌≡◌, ◌≢◌, ◌⊎◌, inl, inr, ℕ, ◌+◌, ◌≤◌, ◌<◌, List, [], ◌∷◌, ◌++◌, map, length, get_or, take, Some, slice_get, Contains, refl, sym, ap, ◌∙◌, subst}
 use Rattle.std.proofs.Common.{arith}
 use Rattle.std.specs.Prelude.{AllPairs}
 use Rattle.std.specs.List.{AllZip}
 use Rattle.std.proofs.lemmas.Bool.{cases_eq}
+use Rattle.std.proofs.lemmas.List.{append_assoc}
 use Rattle.std.proofs.lemmas.List.Elements.{Contains-append_left, Contains-append_right, Contains-append_cases}
 use Rattle.std.proofs.lemmas.Option.{same_Some, slice_get_within}
 use Rattle.esto_columns.specs.Interned.{Grows, AreCodedRows}
@@ -12,7 +13,7 @@ use Rattle.esto_semantics.specs.declared.fact.Fact.{Fact}
 use Rattle.esto_term.specs.declared.term.Term.{Term}
 use Rattle.esto_term.specs.declared.term.Term.TheVariants.{Const, Plain}
 use Rattle.esto_term.proofs.ListLemmas.{Contains-nil, at_left}
-use Rattle.esto_term.proofs.PlaceLemmas.{one_place}
+use Rattle.esto_term.proofs.PlaceLemmas.{one_place, take-item}
 use Rattle.esto_term.proofs.ZipLemmas.{zip_weaker, zip_append, zip_left, zip_right}
 use Rattle.esto_coded.specs.Coded.{Coded, IsCodeOf, AreCodesOf, StandFor, rows_in}
 use Rattle.esto_coded.specs.declared.coded.TheConstants.{FIRST_NODE}
@@ -33,6 +34,10 @@ module _ (old new : List (List ℕ)) (grown : Grows old new) where
   pub codes_more : (terms : List Term) (codes : List ℕ) (term : Term) (code : ℕ) → AreCodesOf old terms codes → IsCodeOf new term code
       → AreCodesOf new (terms ++ term ∷ []) (codes ++ code ∷ [])
   codes_more terms codes term code are is = zip_append (IsCodeOf new) terms (term ∷ []) codes (code ∷ []) (codes_grow terms codes are) (is, tt)
+
+pub codes_same : (texts : List (List ℕ)) (terms others : List Term) (codes more : List ℕ) → terms ≡ others → more ≡ codes → AreCodesOf texts terms codes
+    → AreCodesOf texts others more
+codes_same texts terms others codes more same is are = subst (λ them. AreCodesOf texts them more) same (subst (AreCodesOf texts terms) (sym is) are)
 
 -- the same rows stand for the same facts
 pub stand_grow : (old new : Coded) (facts : List (Fact Term)) → Grows old.texts new.texts → new.relations ≡ old.relations → StandFor old facts
@@ -123,6 +128,12 @@ module _ (old new : Coded) (number : ℕ) (added : List (List ℕ)) (grown : Gro
           (own.0, Contains-append_right facts more own.0 own.1, own.2.0 ∙ sym same, own.2.1)
     ];
   }
+
+-- the first facts after others, and one more
+pub one_more : {X : Type 0} (all facts : List X) (count : ℕ) (fact : X) → count < length facts → fact ≡ get_or facts count fact
+    → (all ++ take count facts) ++ fact ∷ [] ≡ all ++ take (count + 1) facts
+one_more all facts count fact below is =
+    append_assoc all (take count facts) (fact ∷ []) ∙ ap (λ them. all ++ them) (sym (take-item facts count fact below is))
 
 -- ---- rows of texts as facts
 
