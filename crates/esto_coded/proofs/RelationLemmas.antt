@@ -2,7 +2,7 @@
 use Rattle.std.proofs.Common.{◌≡◌, ◌≢◌, inl, inr, ℕ, zero, suc, ◌≤◌, ◌<◌, List, [], ◌∷◌, ◌++◌, map, length, set, get_or, Some, slice_get, Contains, refl, sym, ap, ◌∙◌, subst}
 use Rattle.std.proofs.Common.{arith}
 use Rattle.std.specs.List.{AllZip}
-use Rattle.std.proofs.lemmas.List.{append-nil, length-map}
+use Rattle.std.proofs.lemmas.List.{append-nil}
 use Rattle.std.proofs.lemmas.Option.{same_Some, slice_get_within}
 use Rattle.esto_columns.specs.CodedRows.{CodedRows}
 use Rattle.esto_columns.specs.Interned.{Grows}
@@ -10,7 +10,7 @@ use Rattle.esto_columns.specs.declared.stored.StoredRows.{StoredRows}
 use Rattle.esto_relmodel.specs.RowFacts.{row_fact}
 use Rattle.esto_semantics.specs.declared.fact.Fact.{Fact}
 use Rattle.esto_term.specs.declared.term.Term.{Term}
-use Rattle.esto_term.proofs.ListLemmas.{Contains-nil, Contains-head, Contains-rest, Contains-cases, Contains-map_from, map_at-from, map_then, map_itself}
+use Rattle.esto_term.proofs.ListLemmas.{Contains-nil, Contains-head, Contains-rest, Contains-cases, Contains-map_from, map_at-from}
 use Rattle.esto_term.proofs.PlaceLemmas.{item_at}
 use Rattle.esto_coded.specs.Coded.{StandFor, arities_of, rows_in}
 use Rattle.esto_coded.specs.Relations.{AreWhole, coded_of, no_rows}
@@ -89,8 +89,8 @@ module _ (own new : StoredRows) where
   whole_set [] number at same whole relation inside = absurd (cc)
   whole_set (first ∷ rest) zero at same whole relation inside = elim (Contains-cases new rest relation inside) [
     | inl is ↦
-      let here : first ≡ own = cc in
-      ap (λ (it : StoredRows). it.ways) (sym is) ∙ same ∙ ap (λ (it : StoredRows). it.ways) (sym here) ∙ whole first (Contains-head first rest)
+        let here : first ≡ own = cc in
+        ap (λ (it : StoredRows). it.ways) (sym is) ∙ same ∙ ap (λ (it : StoredRows). it.ways) (sym here) ∙ whole first (Contains-head first rest)
     | inr later ↦ whole relation (Contains-rest first rest relation later)
   ]
   whole_set (first ∷ rest) (suc number) at same whole relation inside = elim (Contains-cases first (set rest number new) relation inside) [
@@ -109,7 +109,7 @@ module _ (own new : StoredRows) where
   rows_here : (relations : List StoredRows) (number : ℕ) (added : List (List ℕ)) → slice_get relations number ≡ Some own
       → new.rows.rows ≡ own.rows.rows ++ added
       → rows_in (map (λ (stored : StoredRows). stored.rows) (set relations number new)) number
-        ≡ rows_in (map (λ (stored : StoredRows). stored.rows) relations) number ++ added
+      ≡ rows_in (map (λ (stored : StoredRows). stored.rows) relations) number ++ added
   rows_here [] number added at more = absurd (cc)
   rows_here (first ∷ rest) zero added at more =
       let here : first ≡ own = cc in more ∙ ap (λ (it : StoredRows). it.rows.rows ++ added) (sym here)
@@ -117,7 +117,7 @@ module _ (own new : StoredRows) where
 
   rows_others : (relations : List StoredRows) (number other : ℕ) → other ≢ number
       → rows_in (map (λ (stored : StoredRows). stored.rows) (set relations number new)) other
-        ≡ rows_in (map (λ (stored : StoredRows). stored.rows) relations) other
+      ≡ rows_in (map (λ (stored : StoredRows). stored.rows) relations) other
   rows_others [] number other apart = refl
   rows_others (first ∷ rest) zero zero apart = absurd (apart refl)
   rows_others (first ∷ rest) zero (suc other) apart = refl

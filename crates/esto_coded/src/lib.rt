@@ -4,11 +4,11 @@
 
 mod answers;
 mod coded;
+mod facts;
 mod meets;
 mod relations;
 mod same;
 mod shown;
-mod terms;
 
 pub use coded::{CodedFacts, FIRST_NODE};
 pub use same::hold_same;

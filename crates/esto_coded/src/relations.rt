@@ -17,10 +17,7 @@ fn no_rows(alloc: Global, arity: usize) -> Result<StoredRows, OutOfMemory>
 }
 
 /// Such a relation for each arity.
-pub(crate) fn no_relations(
-    alloc: Global,
-    arities: &[usize],
-) -> Result<Vec<StoredRows>, OutOfMemory>
+pub(crate) fn no_relations(alloc: Global, arities: &[usize]) -> Result<Vec<StoredRows>, OutOfMemory>
     ensures { IfOk result (λ it. it.items ≡ map no_rows arities.now) }
 {
     let mut relations = Vec::new(alloc);

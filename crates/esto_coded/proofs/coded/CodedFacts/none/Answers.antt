@@ -1,4 +1,3 @@
-use Rattle.std.proofs.Common.{[]}
 use Rattle.esto_coded.proofs.RelationLemmas.{none_whole, none_arities, none_stand}
 use Rattle.esto_coded.proofs.coded.CodedFacts.none.Goals as goal
 

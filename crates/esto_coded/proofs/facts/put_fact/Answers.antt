@@ -6,7 +6,7 @@ use Rattle.esto_term.proofs.ZipLemmas.{zip_length}
 use Rattle.esto_coded.specs.Coded.{IsCodeOf}
 use Rattle.esto_coded.proofs.RelationLemmas.{place_within, place_long, whole_set, arities_set, stand_set}
 use Rattle.esto_coded.proofs.StandLemmas.{codes_same}
-use Rattle.esto_coded.proofs.terms.add_fact.Goals as goal
+use Rattle.esto_coded.proofs.facts.put_fact.Goals as goal
 
 pub read_codes-requires : goal.read_codes-requires
 read_codes-requires c = λ term inside. c.requires.flat term (subst (λ them. Contains them term) c.items.ensures inside)
@@ -44,7 +44,12 @@ returns-clause-facts c = on_ok_weaker c.add.result
     c.args.codes.now c.read_codes.new.codes c.args.relations.now.items c.args.fact.now.relation (c.items-2.result.now ∷ []) c.read_codes.ensures.grown
     (item_at c.args.relations.now.items c.args.fact.now.relation c.index_mut-relation.result.now
     (place_within c.args.codes.now c.args.relations.now.items c.args.fact.now.relation _ c.requires.place) c.index_mut-relation.ensures.value)
-    (ap (λ (it : CodedRows). it.rows) is) all (c.args.fact.now ∷ [])
-    ((refl, codes_same c.read_codes.new.codes c.items.result.now c.args.fact.now.terms c.read_codes.new.row c.items-2.result.now c.items.ensures
-    c.items-2.ensures c.in_ok-read_codes.ensures.codes), tt) stand)
+    (ap (λ (it : CodedRows). it.rows) is) all (c.args.fact.now ∷ []) (
+      (
+        refl,
+        codes_same c.read_codes.new.codes c.items.result.now c.args.fact.now.terms c.read_codes.new.row c.items-2.result.now c.items.ensures
+            c.items-2.ensures c.in_ok-read_codes.ensures.codes,
+      ),
+      tt,
+    ) stand)
     c.add.ensures.ok

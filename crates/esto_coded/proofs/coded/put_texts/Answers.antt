@@ -4,7 +4,7 @@ use Rattle.esto_columns.specs.CodedRows.{CodedRows}
 use Rattle.esto_term.proofs.PlaceLemmas.{item_at}
 use Rattle.esto_coded.proofs.RelationLemmas.{past_facts, place_long, whole_set, arities_set, stand_set}
 use Rattle.esto_coded.proofs.StandLemmas.{text_rows}
-use Rattle.esto_coded.proofs.coded.add_coded.Goals as goal
+use Rattle.esto_coded.proofs.coded.put_texts.Goals as goal
 
 pub returns-then-number-len-clause-facts : goal.returns-then-number-len-clause-facts
 returns-then-number-len-clause-facts c = past_facts c.args.codes.now c.args.relations.now.items c.args.number c.args.rows c.requires (omega arith)
