@@ -11,5 +11,6 @@ mod same;
 mod shown;
 
 pub use coded::{CodedFacts, FIRST_NODE};
+pub use relations::put_rows;
 pub use same::hold_same;
 pub use shown::least_node;

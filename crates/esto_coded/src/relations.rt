@@ -62,7 +62,7 @@ fn add_each(alloc: Global, rows: &Rows, into: &mut Rows) -> Result<(), OutOfMemo
 }
 
 /// Puts the rows after the others; where there are no others they are moved and not copied.
-pub(crate) fn put_rows(alloc: Global, rows: Rows, into: &mut Rows) -> Result<(), OutOfMemory>
+pub fn put_rows(alloc: Global, rows: Rows, into: &mut Rows) -> Result<(), OutOfMemory>
     requires { into.old.arity ≡ rows.arity }
     ensures { OnOk result (into.new
         ≡ record { arity = into.old.arity; rows = into.old.rows ++ rows.rows }) }
