@@ -1,9 +1,10 @@
 -- Codes that stand for terms, and rows of codes that stand for facts.
-use Rattle.std.proofs.Common.{◌≡◌, ◌≢◌, ◌⊎◌, inl, inr, ℕ, ◌+◌, ◌≤◌, ◌<◌, List, [], ◌∷◌, ◌++◌, map, length, Some, slice_get, Contains, refl, sym, ap, ◌∙◌, subst}
+use Rattle.std.proofs.Common.{◌≡◌, ◌≢◌, ◌⊎◌, inl, inr, ℕ, ◌+◌, ◌≤◌, ◌<◌, List, [], ◌∷◌, ◌++◌, map, length, get_or, take, Some, slice_get, Contains, refl, sym, ap, ◌∙◌, subst}
 use Rattle.std.proofs.Common.{arith}
 use Rattle.std.specs.Prelude.{AllPairs}
 use Rattle.std.specs.List.{AllZip}
 use Rattle.std.proofs.lemmas.Bool.{cases_eq}
+use Rattle.std.proofs.lemmas.List.{append_assoc}
 use Rattle.std.proofs.lemmas.List.Elements.{Contains-append_left, Contains-append_right, Contains-append_cases}
 use Rattle.std.proofs.lemmas.Option.{same_Some, slice_get_within}
 use Rattle.esto_columns.specs.Interned.{Grows, AreCodedRows}
@@ -11,8 +12,8 @@ use Rattle.esto_relmodel.specs.RowFacts.{row_fact}
 use Rattle.esto_semantics.specs.declared.fact.Fact.{Fact}
 use Rattle.esto_term.specs.declared.term.Term.{Term}
 use Rattle.esto_term.specs.declared.term.Term.TheVariants.{Const, Plain}
-use Rattle.esto_term.proofs.ListLemmas.{Contains-nil, at_left}
-use Rattle.esto_term.proofs.PlaceLemmas.{one_place}
+use Rattle.esto_term.proofs.ListLemmas.{at_left}
+use Rattle.esto_term.proofs.PlaceLemmas.{one_place, take-item}
 use Rattle.esto_term.proofs.ZipLemmas.{zip_weaker, zip_append, zip_left, zip_right}
 use Rattle.esto_coded.specs.Coded.{Coded, IsCodeOf, AreCodesOf, StandFor, rows_in}
 use Rattle.esto_coded.specs.declared.coded.TheConstants.{FIRST_NODE}
@@ -34,13 +35,19 @@ module _ (old new : List (List ℕ)) (grown : Grows old new) where
       → AreCodesOf new (terms ++ term ∷ []) (codes ++ code ∷ [])
   codes_more terms codes term code are is = zip_append (IsCodeOf new) terms (term ∷ []) codes (code ∷ []) (codes_grow terms codes are) (is, tt)
 
+pub codes_same : (texts : List (List ℕ)) (terms others : List Term) (codes more : List ℕ) → terms ≡ others → more ≡ codes → AreCodesOf texts terms codes
+    → AreCodesOf texts others more
+codes_same texts terms others codes more same is are = subst (λ them. AreCodesOf texts them more) same (subst (AreCodesOf texts terms) (sym is) are)
+
 -- the same rows stand for the same facts
 pub stand_grow : (old new : Coded) (facts : List (Fact Term)) → Grows old.texts new.texts → new.relations ≡ old.relations → StandFor old facts
     → StandFor new facts
 stand_grow old new facts grown same stand = record {
-  has = λ fact inside. let own = stand.has fact inside in
-      (own.0, codes_grow old.texts new.texts grown fact.terms own.0 own.1,
-        subst (λ them. Contains (rows_in them fact.relation) own.0) (sym same) own.2);
+  has = λ fact inside. let own = stand.has fact inside in (
+    own.0,
+    codes_grow old.texts new.texts grown fact.terms own.0 own.1,
+    subst (λ them. Contains (rows_in them fact.relation) own.0) (sym same) own.2,
+  );
   only = λ relation codes inside.
       let own = stand.only relation codes (subst (λ them. Contains (rows_in them relation) codes) same inside) in
       (own.0, own.1, own.2, codes_grow old.texts new.texts grown own.0.terms codes own.3);
@@ -52,32 +59,32 @@ pub one_term : (texts : List (List ℕ)) → length texts ≤ FIRST_NODE → (te
     → term ≡ other
 one_term texts few term other code is also = elim is [
   | inl text ↦ elim also [
-      | inl next ↦ text.1 ∙ ap Const (same_Some text.0 next.0 (sym text.2 ∙ next.2)) ∙ sym next.1
-      | inr node ↦ absurd (let below = slice_get_within texts code text.0 text.2 in let past = node.2 in omega (arith, below, past, few))
-    ]
+    | inl next ↦ text.1 ∙ ap Const (same_Some text.0 next.0 (sym text.2 ∙ next.2)) ∙ sym next.1
+    | inr node ↦ absurd (let below = slice_get_within texts code text.0 text.2 in let past = node.2 in omega (arith, below, past, few))
+  ]
   | inr node ↦ elim also [
-      | inl text ↦ absurd (let below = slice_get_within texts code text.0 text.2 in let past = node.2 in omega (arith, below, past, few))
-      | inr next ↦
+    | inl text ↦ absurd (let below = slice_get_within texts code text.0 text.2 in let past = node.2 in omega (arith, below, past, few))
+    | inr next ↦
         let one = node.2 in let other_one = next.2 in
         let same : node.0 ≡ next.0 = omega (arith, one, other_one) in node.1 ∙ ap Plain same ∙ sym next.1
-    ]
+  ]
 ]
 
 pub one_code : (texts : List (List ℕ)) → AllPairs ◌≢◌ texts → (term : Term) (code other : ℕ) → IsCodeOf texts term code → IsCodeOf texts term other
     → code ≡ other
 one_code texts distinct term code other is also = elim is [
   | inl text ↦ elim also [
-      | inl next ↦
+    | inl next ↦
         let same : text.0 ≡ next.0 = let one = text.1 in let other_one = next.1 in cc in
         one_place texts distinct code other text.0 text.2 (next.2 ∙ ap Some (sym same))
-      | inr node ↦ absurd (let one = text.1 in let other_one = node.1 in cc)
-    ]
+    | inr node ↦ absurd (let one = text.1 in let other_one = node.1 in cc)
+  ]
   | inr node ↦ elim also [
-      | inl text ↦ absurd (let one = text.1 in let other_one = node.1 in cc)
-      | inr next ↦
+    | inl text ↦ absurd (let one = text.1 in let other_one = node.1 in cc)
+    | inr next ↦
         let same : node.0 ≡ next.0 = let one = node.1 in let other_one = next.1 in cc in
         node.2 ∙ ap (λ number. FIRST_NODE + number) same ∙ sym next.2
-    ]
+  ]
 ]
 
 -- ---- rows of codes put into a relation
@@ -112,9 +119,12 @@ module _ (old new : Coded) (number : ℕ) (added : List (List ℕ)) (grown : Gro
     has = λ fact inside. elim (Contains-append_cases facts more fact inside) [
       | inl before ↦ let own = stand.has fact before in
           (own.0, codes_grow old.texts new.texts grown fact.terms own.0 own.1, row_kept fact.relation own.0 own.2)
-      | inr among ↦ let own = zip_left (IsRowFor new.texts number) more added are fact among in
-          (own.0, own.2.1, subst (λ it. Contains (rows_in new.relations it) own.0) (sym own.2.0)
-            (subst (λ them. Contains them own.0) (sym here) (Contains-append_right (rows_in old.relations number) added own.0 own.1)))
+      | inr among ↦ let own = zip_left (IsRowFor new.texts number) more added are fact among in (
+        own.0,
+        own.2.1,
+        subst (λ it. Contains (rows_in new.relations it) own.0) (sym own.2.0)
+            (subst (λ them. Contains them own.0) (sym here) (Contains-append_right (rows_in old.relations number) added own.0 own.1)),
+      )
     ];
     only = λ relation codes inside. elim (row_cases relation codes inside) [
       | inl before ↦ let own = stand.only relation codes before in
@@ -123,6 +133,12 @@ module _ (old new : Coded) (number : ℕ) (added : List (List ℕ)) (grown : Gro
           (own.0, Contains-append_right facts more own.0 own.1, own.2.0 ∙ sym same, own.2.1)
     ];
   }
+
+-- the first facts after others, and one more
+pub one_more : {X : Type 0} (all facts : List X) (count : ℕ) (fact : X) → count < length facts → fact ≡ get_or facts count fact
+    → (all ++ take count facts) ++ fact ∷ [] ≡ all ++ take (count + 1) facts
+one_more all facts count fact below is =
+    append_assoc all (take count facts) (fact ∷ []) ∙ ap (λ them. all ++ them) (sym (take-item facts count fact below is))
 
 -- ---- rows of texts as facts
 

@@ -8,8 +8,8 @@ ghost use Rattle.esto_term.specs.declared.term.Term.{Term};
 ghost use Rattle.esto_coded.specs.Coded.{StandFor, HasPlace, arities_of};
 ghost use Rattle.esto_coded.specs.Relations.{AreWhole, coded_of};
 
+use crate::facts::put_facts;
 use crate::relations::{no_relations, put_rows};
-use crate::terms::add_each;
 use esto_columns::{Codes, Rows, StoredRows, code_taken_rows};
 use esto_semantics::Facts;
 use esto_term::{OutOfMemory, TextRows};
@@ -39,7 +39,7 @@ impl Model for CodedFacts {
 }
 
 /// Puts the rows of texts, as rows of codes, into the relation of the number.
-fn add_coded(
+fn put_texts(
     alloc: Global,
     number: usize,
     rows: TextRows,
@@ -90,7 +90,7 @@ impl CodedFacts {
         ensures facts { OnOk result ((facts : List (Fact Term)) → StandFor self.old facts
             → StandFor self.new (facts ++ map (row_fact relation) rows)) }
     {
-        add_coded(alloc, relation, rows, &mut self.codes, &mut self.relations)
+        put_texts(alloc, relation, rows, &mut self.codes, &mut self.relations)
     }
 
     /// Puts the facts. Want of memory is answered too where a node's number has no code.
@@ -101,7 +101,7 @@ impl CodedFacts {
         ensures facts { OnOk result ((all : List (Fact Term)) → StandFor self.old all
             → StandFor self.new (all ++ facts.now)) }
     {
-        add_each(alloc, facts.items(), &mut self.codes, &mut self.relations)
+        put_facts(alloc, facts.items(), &mut self.codes, &mut self.relations)
     }
 
     /// The rows of texts as rows of codes, in order. New texts get codes.

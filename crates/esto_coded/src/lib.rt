@@ -4,12 +4,13 @@
 
 mod answers;
 mod coded;
+mod facts;
 mod meets;
 mod relations;
 mod same;
 mod shown;
-mod terms;
 
 pub use coded::{CodedFacts, FIRST_NODE};
+pub use relations::put_rows;
 pub use same::hold_same;
 pub use shown::least_node;

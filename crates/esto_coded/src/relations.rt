@@ -17,10 +17,7 @@ fn no_rows(alloc: Global, arity: usize) -> Result<StoredRows, OutOfMemory>
 }
 
 /// Such a relation for each arity.
-pub(crate) fn no_relations(
-    alloc: Global,
-    arities: &[usize],
-) -> Result<Vec<StoredRows>, OutOfMemory>
+pub(crate) fn no_relations(alloc: Global, arities: &[usize]) -> Result<Vec<StoredRows>, OutOfMemory>
     ensures { IfOk result (λ it. it.items ≡ map no_rows arities.now) }
 {
     let mut relations = Vec::new(alloc);
@@ -65,7 +62,7 @@ fn add_each(alloc: Global, rows: &Rows, into: &mut Rows) -> Result<(), OutOfMemo
 }
 
 /// Puts the rows after the others; where there are no others they are moved and not copied.
-pub(crate) fn put_rows(alloc: Global, rows: Rows, into: &mut Rows) -> Result<(), OutOfMemory>
+pub fn put_rows(alloc: Global, rows: Rows, into: &mut Rows) -> Result<(), OutOfMemory>
     requires { into.old.arity ≡ rows.arity }
     ensures { OnOk result (into.new
         ≡ record { arity = into.old.arity; rows = into.old.rows ++ rows.rows }) }

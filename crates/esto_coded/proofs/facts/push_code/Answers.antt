@@ -2,7 +2,7 @@ use Rattle.std.proofs.Common.{◌++◌, ◌∷◌, [], sym, subst}
 use Rattle.std.proofs.lemmas.Result.{on_ok_weaker}
 use Rattle.esto_coded.specs.Coded.{AreCodesOf}
 use Rattle.esto_coded.proofs.StandLemmas.{codes_more}
-use Rattle.esto_coded.proofs.terms.push_code.Goals as goal
+use Rattle.esto_coded.proofs.facts.push_code.Goals as goal
 
 pub returns-clause-code : goal.returns-clause-code
 returns-clause-code c = on_ok_weaker c.push.result

@@ -3,7 +3,7 @@ use Rattle.esto_semantics.specs.declared.fact.Fact.{Fact}
 use Rattle.esto_term.specs.declared.term.Term.{Term}
 use Rattle.esto_coded.specs.Coded.{StandFor, arities_of}
 use Rattle.esto_coded.specs.Relations.{AreWhole, coded_of}
-use Rattle.esto_coded.proofs.terms.add_each.Given as goal
+use Rattle.esto_coded.proofs.facts.put_facts.Given as goal
 
 abbrev pub invariant-facts : goal.invariant-facts
 invariant-facts l = record {

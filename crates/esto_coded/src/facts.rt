@@ -1,5 +1,5 @@
 //! Facts put as rows of codes.
-ghost use Rattle.std.specs.Prelude.{◌≡◌, ◌+◌, ◌∷◌, [], ◌++◌, List, Contains, IfOk, OnOk, MatchOption};
+ghost use Rattle.std.specs.Prelude.{◌≡◌, ◌+◌, ◌∷◌, [], ◌++◌, List, Contains, IfOk, OnOk};
 ghost use Rattle.esto_columns.specs.Interned.{Grows};
 ghost use Rattle.esto_columns.specs.declared.stored.StoredRows.{StoredRows};
 ghost use Rattle.esto_semantics.specs.Maps.{AreFlat};
@@ -43,11 +43,7 @@ fn code_of(term: &Term, codes: &mut Codes) -> Result<u64, OutOfMemory>
 }
 
 /// Puts the code of the term, which is no made one, after the codes of others.
-fn push_code(
-    term: &Term,
-    codes: &mut Codes,
-    row: &mut Values<u64>,
-) -> Result<(), OutOfMemory>
+fn push_code(term: &Term, codes: &mut Codes, row: &mut Values<u64>) -> Result<(), OutOfMemory>
     requires { IsFlat term.now }
     ensures code { OnOk result ((terms : List Term) → AreCodesOf codes.old terms row.old
         → AreCodesOf codes.new (terms ++ term.now ∷ []) row.new) }
@@ -58,11 +54,7 @@ fn push_code(
 }
 
 /// Makes these codes those of the terms, of which none is made.
-fn read_codes(
-    terms: &[Term],
-    codes: &mut Codes,
-    row: &mut Values<u64>,
-) -> Result<(), OutOfMemory>
+fn read_codes(terms: &[Term], codes: &mut Codes, row: &mut Values<u64>) -> Result<(), OutOfMemory>
     requires { (term : Term) → Contains terms.now term → IsFlat term }
     ensures codes { OnOk result (AreCodesOf codes.new terms.now row.new) }
     ensures grown { Grows codes.old codes.new }
@@ -75,7 +67,7 @@ fn read_codes(
 }
 
 /// Puts the row of the fact into its relation. The codes are read into the list.
-fn add_fact(
+fn put_fact(
     fact: &Atom,
     codes: &mut Codes,
     relations: &mut Vec<StoredRows>,
@@ -96,7 +88,7 @@ fn add_fact(
 }
 
 /// Puts the rows of the facts into their relations.
-pub(crate) fn add_each(
+pub(crate) fn put_facts(
     alloc: Global,
     facts: &[Atom],
     codes: &mut Codes,
@@ -114,7 +106,7 @@ pub(crate) fn add_each(
 {
     let mut row = Values::new(alloc);
     'facts: for fact in facts {
-        add_fact(fact, codes, relations, &mut row)?;
+        put_fact(fact, codes, relations, &mut row)?;
     }
     Ok(())
 }
