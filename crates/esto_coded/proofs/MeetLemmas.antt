@@ -1,15 +1,20 @@
 -- Whether facts meet a rule, by the codes of answers.
 use Rattle.std.proofs.Common.{◌≡◌, ◌≢◌, ◌↔◌, ◌⊎◌, inl, inr, ℕ, ◌<◌, Bool, true, false, cond, List, [], ◌∷◌, ◌++◌, map, length, get_or, Some, slice_get, Contains, refl, sym, ap, ◌∙◌}
-use Rattle.std.proofs.Common.{subst, arith, IsTrue}
+use Rattle.std.proofs.Common.{subst, arith, eqb, IsTrue, Result, Ok, Err}
 use Rattle.std.specs.List.{AllZip, filter}
+use Rattle.std.specs.Cmp.Lexicographic.{pointwise}
+use Rattle.std.specs.Result.{IfOk}
 use Rattle.std.specs.Set.{is_member}
 use Rattle.std.proofs.lemmas.Bool.{and_parts}
+use Rattle.std.proofs.lemmas.Bool.Decides.{Decides-eqb}
 use Rattle.std.proofs.lemmas.List.{append_assoc}
+use Rattle.std.proofs.lemmas.Slice.Eq.{slice_eq-Decides}
 use Rattle.esto_columns.specs.Interned.{Grows}
 use Rattle.esto_term.specs.Order.{same_term}
+use Rattle.esto_term.specs.declared.list.OutOfMemory.{OutOfMemory}
 use Rattle.esto_term.specs.declared.term.Term.{Term, out-Term}
 use Rattle.esto_term.specs.declared.term.Term.TheVariants.{Const, Plain}
-use Rattle.esto_term.proofs.ListLemmas.{Contains-nil, Contains-head, Contains-rest, Contains-map, Contains-map_from, Contains-filter_from, agree-from_map, map_agree, place-from_Contains}
+use Rattle.esto_term.proofs.ListLemmas.{Contains-nil, Contains-head, Contains-rest, Contains-cases, Contains-one, Contains-map, Contains-map_from, Contains-filter_from, agree-from_map, map_agree, place-from_Contains}
 use Rattle.esto_term.proofs.ZipLemmas.{zip_left}
 use Rattle.esto_semantics.specs.Facts.{image, Mentions, terms_of}
 use Rattle.esto_semantics.specs.Maps.{IsFlat, IsFixedBy, Keeps, Sends, AgreeOn}
@@ -23,7 +28,7 @@ use Rattle.esto_chase_laws.proofs.JoinedLemmas.{joined_from}
 use Rattle.esto_chase_laws.proofs.MakingLemmas.{in_terms-Decides, terms_of-Mentions, frontier_body, frontier_has}
 use Rattle.esto_coded.specs.Answered.{AreCodedAnswers}
 use Rattle.esto_coded.specs.Coded.{Coded, IsCodeOf, AreCodesOf, AreTelling, StandFor}
-use Rattle.esto_coded.specs.Met.{StaysFor, AnswersWhether}
+use Rattle.esto_coded.specs.Met.{IsCodedAnswer, StaysFor, AnswersWhether}
 use Rattle.esto_coded.proofs.StandLemmas.{codes_grow, one_term, one_code}
 
 -- ---- codes of terms, one each
@@ -141,6 +146,15 @@ equality_answered coded body left right rows answer tell known fixed answers tol
       (met own.2.0 own.2.1 own.2.2)),
 )
 
+pub agree_told : (rows : List (List ℕ)) (left right : List ℕ) (answer : Bool) → left ≡ map (λ row. get_or row 0 0) rows
+    → right ≡ map (λ row. get_or row 1 0) rows → answer ≡ pointwise eqb left right
+    → IsTrue answer ↔ ((row : List ℕ) → Contains rows row → get_or row 0 0 ≡ get_or row 1 0)
+agree_told rows left right answer is also tested =
+    let told = slice_eq-Decides Decides-eqb left right (pointwise eqb left right) refl in (
+      λ all row inside. agree-from_map (λ it. get_or it 0 0) (λ it. get_or it 1 0) rows row (sym is ∙ told.0 (sym tested ∙ all) ∙ also) inside,
+      λ each. tested ∙ told.1 (is ∙ map_agree (λ it. get_or it 0 0) (λ it. get_or it 1 0) rows each ∙ sym also),
+    )
+
 -- ---- tuple rules
 
 pub frontier_head : (body head : List (Fact Term)) (term : Term) → Contains (frontier body head) term → Mentions head term
@@ -192,50 +206,97 @@ module _ (body : List (Fact Term)) (m other : Term → Term) where
         let terms = map_agree joint other atom.terms (λ term among. at_head term (atom, inside, among)) in
         subst (λ them. Contains facts (record { relation = atom.relation; terms = them })) (sym terms) (sends atom inside)
 
-module _ (body head : List (Fact Term)) (is : IsTupleRule body head) (one two : Coded) (grown : Grows one.texts two.texts) (tell : AreTelling two.texts)
-    (known : HaveTexts one.texts (frontier body head)) (given wanted : List (List ℕ))
-    (of_body : AreCodedAnswers one (record { head = frontier body head; body = body }) given)
-    (of_head : AreCodedAnswers two (record { head = frontier body head; body = head }) wanted)
-    (facts : List (Fact Term)) (before : StandFor one facts) (after : StandFor two facts) where
-  -- a match of the body goes on to the head where what it makes of the frontier is one of the wanted rows
-  goes_on : ((row : List ℕ) → Contains given row → Contains wanted row) → IsMet facts (tuple body head)
-  goes_on part m keeps sends =
-      let own = answer_row one (frontier body head) body given of_body known (body_fixed body head) facts before m keeps sends in
-      let found = (of_head facts after own.0).0 (part own.0 own.1) in
+-- ---- whether rows are answers
+
+pub part_told : (coded : Coded) (head : List Term) (body : List (Fact Term)) (rows answers : List (List ℕ))
+    → AreCodedAnswers coded (record { head = head; body = body }) answers → (answer : Bool) → IsTrue answer ↔ ((row : List ℕ) → Contains rows row → Contains answers row)
+    → (facts : List (Fact Term)) → StandFor coded facts
+    → IsTrue answer ↔ ((row : List ℕ) → Contains rows row → IsCodedAnswer coded (record { head = head; body = body }) facts row)
+part_told coded head body rows answers are answer told facts stand = (
+  λ part row inside. (are facts stand row).0 (told.0 part row inside),
+  λ each. told.1 (λ row inside. (are facts stand row).1 (each row inside)),
+)
+
+module _ (body head : List (Fact Term)) (is : IsTupleRule body head) (one two : Coded) (stays : StaysFor one two) (tell : AreTelling two.texts)
+    (known : HaveTexts one.texts (frontier body head)) (given : List (List ℕ))
+    (of_body : AreCodedAnswers one (record { head = frontier body head; body = body }) given) (facts : List (Fact Term)) (stand : StandFor one facts) where
+  -- each row that the body gives is one that the head gives
+  abbrev GoesOn : Type 0
+  GoesOn = (row : List ℕ) → Contains given row → IsCodedAnswer two (record { head = frontier body head; body = head }) facts row
+
+  -- then each match of the body goes on to the head
+  goes_on : GoesOn → IsMet facts (tuple body head)
+  goes_on each m keeps sends =
+      let own = answer_row one (frontier body head) body given of_body known (body_fixed body head) facts stand m keeps sends in
+      let found = each own.0 own.1 in
       let other = found.2.0 in
       let terms : map m (frontier body head) ≡ map other (frontier body head) =
-      one_terms two.texts tell (map m (frontier body head)) found.0 own.0 (codes_grow one.texts two.texts grown (map m (frontier body head)) own.0 own.2) found.1
+      one_terms two.texts tell (map m (frontier body head)) found.0 own.0
+      (codes_grow one.texts two.texts stays.grown (map m (frontier body head)) own.0 own.2) found.1
       ∙ found.2.3 in
       (joint body m other, joint_keeps body m other head is.flat_head keeps found.2.1 terms,
         (λ term inside. sym (joint_body body m other term inside)), joint_sends body m other head is.flat_head keeps found.2.1 terms facts found.2.2)
 
-  -- and where it goes on the row is wanted
-  is_wanted : IsMet facts (tuple body head) → (row : List ℕ) → Contains given row → Contains wanted row
-  is_wanted met row inside =
-      let own = (of_body facts before row).0 inside in
+  -- and where each match goes on, each row is given
+  is_given : IsMet facts (tuple body head) → GoesOn
+  is_given met row inside =
+      let own = (of_body facts stand row).0 inside in
       let m = own.2.0 in
       let found = met m own.2.1 own.2.2 in
       let terms : own.0 ≡ map found.0 (frontier body head) =
       own.2.3 ∙ map_agree m found.0 (frontier body head) (λ term among. found.2 term (frontier_body body head term among)) in
-      (of_head facts after row).1 (own.0, codes_grow one.texts two.texts grown own.0 row own.1, (found.0, found.1, found.3, terms))
+      (own.0, codes_grow one.texts two.texts stays.grown own.0 row own.1, (found.0, found.1, found.3, terms))
 
--- the head's rows tell whether the facts meet the rule
-pub tuple_answered : (body head : List (Fact Term)) → IsTupleRule body head → (one two : Coded) → StaysFor one two → AreTelling two.texts
-    → HaveTexts one.texts (frontier body head) → (given wanted : List (List ℕ)) (answer : Bool)
-    → AreCodedAnswers one (record { head = frontier body head; body = body }) given
-    → AreCodedAnswers two (record { head = frontier body head; body = head }) wanted
-    → IsTrue answer ↔ ((row : List ℕ) → Contains given row → Contains wanted row) → AnswersWhether one (tuple body head) answer
-tuple_answered body head is one two stays tell known given wanted answer of_body of_head told facts stand = (
-  λ part. goes_on body head is one two stays.grown tell known given wanted of_body of_head facts stand (stays.facts facts stand) (told.0 part),
-  λ met. told.1 (is_wanted body head is one two stays.grown tell known given wanted of_body of_head facts stand (stays.facts facts stand) met),
-)
+pub tuple_answered : (body head : List (Fact Term)) → IsTupleRule body head → (shared : List Term) → shared ≡ frontier body head → (one two : Coded)
+    → StaysFor one two → AreTelling two.texts → HaveTexts one.texts shared → (given : List (List ℕ)) (answer : Bool)
+    → AreCodedAnswers one (record { head = shared; body = body }) given
+    → ((facts : List (Fact Term)) → StandFor two facts
+    → IsTrue answer ↔ ((row : List ℕ) → Contains given row → IsCodedAnswer two (record { head = shared; body = head }) facts row))
+    → AnswersWhether one (tuple body head) answer
+tuple_answered body head is shared same one two stays tell known given answer of_body told facts stand =
+    let have = subst (HaveTexts one.texts) same known in
+    let are = subst (λ terms. AreCodedAnswers one (record { head = terms; body = body }) given) same of_body in
+    let each = subst (λ terms. IsTrue answer ↔ ((row : List ℕ) → Contains given row → IsCodedAnswer two (record { head = terms; body = head }) facts row))
+    same (told facts (stays.facts facts stand)) in (
+      λ yes. goes_on body head is one two stays tell have given are facts stand (each.0 yes),
+      λ met. each.1 (is_given body head is one two stays tell have given are facts stand met),
+    )
+
+-- the same of what a call answers
+pub over_told : (result : Result Bool OutOfMemory) (body head : List (Fact Term)) → IsTupleRule body head → (shared : List Term) → shared ≡ frontier body head
+    → (old one two : Coded) → StaysFor old one → StaysFor one two → HaveTexts one.texts shared → (given : List (List ℕ))
+    → AreCodedAnswers one (record { head = shared; body = body }) given → IfOk result (λ it. AreTelling two.texts)
+    → IfOk result (λ answer. (facts : List (Fact Term)) → StandFor two facts
+    → IsTrue answer ↔ ((row : List ℕ) → Contains given row → IsCodedAnswer two (record { head = shared; body = head }) facts row))
+    → IfOk result (AnswersWhether old (tuple body head))
+over_told (Ok answer) body head is shared same old one two before stays known given of_body tell told =
+    whether_before (tuple body head) old one answer before (tuple_answered body head is shared same one two stays tell known given answer of_body told)
+over_told (Err error) body head is shared same old one two before stays known given of_body tell told = tt
 
 -- nothing is asked of the head where the body has no match
-pub tuple_unasked : (body head : List (Fact Term)) (one : Coded) → HaveTexts one.texts (frontier body head) → (given : List (List ℕ)) → length given ≡ 0
-    → AreCodedAnswers one (record { head = frontier body head; body = body }) given → AnswersWhether one (tuple body head) true
-tuple_unasked body head one known given empty of_body facts stand = (
+pub tuple_unasked : (body head : List (Fact Term)) (shared : List Term) → shared ≡ frontier body head → (one : Coded) → HaveTexts one.texts shared
+    → (given : List (List ℕ)) → length given ≡ 0 → AreCodedAnswers one (record { head = shared; body = body }) given
+    → AnswersWhether one (tuple body head) true
+tuple_unasked body head shared same one known given empty of_body facts stand = (
   λ told m keeps sends.
-      let own = answer_row one (frontier body head) body given of_body known (body_fixed body head) facts stand m keeps sends in
+      let own = answer_row one shared body given of_body known
+      (λ term inside. body_fixed body head term (subst (λ terms. Contains terms term) same inside)) facts stand m keeps sends in
       let within = own.1.1 in absurd (omega (arith, within, empty)),
   λ met. refl,
 )
+
+-- what the frontier has is fixed
+pub shared_body : (body head : List (Fact Term)) (shared : List Term) → shared ≡ frontier body head → (term : Term) → Contains shared term → IsFixedBy body term
+shared_body body head shared same term inside = body_fixed body head term (subst (λ terms. Contains terms term) same inside)
+
+pub shared_head : (body head : List (Fact Term)) (shared : List Term) → shared ≡ frontier body head → (term : Term) → Contains shared term → IsFixedBy head term
+shared_head body head shared same term inside = head_fixed body head term (subst (λ terms. Contains terms term) same inside)
+
+-- and the sides of an equality rule
+pub sides_fixed : (body : List (Fact Term)) (left right : Term) (sides : List Term) → sides ≡ left ∷ right ∷ [] → IsFixedBy body left → IsFixedBy body right
+    → (term : Term) → Contains sides term → IsFixedBy body term
+sides_fixed body left right sides same one other term inside =
+    elim (Contains-cases left (right ∷ []) term (subst (λ terms. Contains terms term) same inside)) [
+      | inl is ↦ subst (IsFixedBy body) is one
+      | inr later ↦ subst (IsFixedBy body) (Contains-one right term later) other
+    ]

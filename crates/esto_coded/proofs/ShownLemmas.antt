@@ -1,11 +1,14 @@
 -- Codes of nodes in columns.
-use Rattle.std.proofs.Common.{◌≡◌, ◌↔◌, inl, inr, ℕ, ◌+◌, ◌<◌, ◌≤◌, Bool, false, List, map, length, get_or, Some, slice_get, Contains, refl, sym, ap, ◌∙◌}
+use Rattle.std.proofs.Common.{◌≡◌, ◌↔◌, inl, inr, ℕ, zero, suc, ◌+◌, ◌<◌, ◌≤◌, Bool, false, List, [], ◌∷◌, map, length, get_or, Some, slice_get, Contains, refl, sym, ap, ◌∙◌}
 use Rattle.std.proofs.Common.{subst, arith, IsTrue}
 use Rattle.std.proofs.lemmas.Bool.{cases_order, false≢true}
 use Rattle.std.proofs.lemmas.Option.{slice_get_within, slice_get-get_or, get_or_from_slice_get}
-use Rattle.esto_term.proofs.ListLemmas.{Contains-map, Contains-map_from}
+use Rattle.esto_columns.specs.declared.stored.StoredRows.{StoredRows}
+use Rattle.esto_term.proofs.ListLemmas.{Contains-nil, Contains-map, Contains-map_from}
+use Rattle.esto_coded.specs.Coded.{rows_in}
 use Rattle.esto_coded.specs.Shown.{HasNodeAt}
 use Rattle.esto_coded.specs.declared.coded.TheConstants.{FIRST_NODE}
+use Rattle.esto_coded.proofs.SameLemmas.{is_not}
 
 -- one of the rows has the code of a node in the column
 abbrev pub NodeIn : List (List ℕ) → ℕ → Type 0
@@ -49,3 +52,19 @@ is_least rows count before row lesser inside node = elim (cases_order lesser cou
   | inr (inl less) ↦ absurd (before row lesser inside less node)
   | inr (inr past) ↦ omega (arith, past)
 ]
+
+-- ---- the rows of a relation
+
+pub held_there : (relations : List StoredRows) (number : ℕ) (own : StoredRows) → number < length relations → own ≡ get_or relations number own
+    → rows_in (map (λ (stored : StoredRows). stored.rows) relations) number ≡ own.rows.rows
+held_there [] number own within is = absurd (omega (arith, within))
+held_there (first ∷ rest) zero own within is = ap (λ (it : StoredRows). it.rows.rows) (sym is)
+held_there (first ∷ rest) (suc number) own within is = held_there rest number own (omega (arith, within)) is
+
+pub held_past : (relations : List StoredRows) (number : ℕ) → length relations ≤ number → rows_in (map (λ (stored : StoredRows). stored.rows) relations) number ≡ []
+held_past [] number past = refl
+held_past (first ∷ rest) zero past = absurd (omega (arith, past))
+held_past (first ∷ rest) (suc number) past = held_past rest number (omega (arith, past))
+
+pub none_in : (rows : List (List ℕ)) (column : ℕ) → rows ≡ [] → IsTrue false ↔ NodeIn rows column
+none_in rows column empty = is_not (λ node. Contains-nil node.0 (subst (λ them. Contains them node.0) empty node.1))

@@ -1,13 +1,14 @@
 //! Whether facts meet a rule.
-ghost use Rattle.std.specs.Prelude.{◌≡◌, ◌↔◌, [], ◌∷◌, List, ℕ, length, Contains, slice_index_or, IsTrue, IfOk};
+ghost use Rattle.std.specs.Prelude.{◌≡◌, ◌↔◌, [], ◌∷◌, List, ℕ, Contains, slice_index_or, IsTrue, IfOk};
 ghost use Rattle.esto_columns.specs.Interned.{Grows};
 ghost use Rattle.esto_constraint.specs.Constraints.{rule_of};
 ghost use Rattle.esto_semantics.specs.Maps.{IsFixedBy};
 ghost use Rattle.esto_semantics.specs.Rules.{IsMet, IsTupleRule, tuple, equality, denial};
 ghost use Rattle.esto_semantics.specs.declared.fact.Fact.{Fact};
 ghost use Rattle.esto_term.specs.declared.term.Term.{Term};
-ghost use Rattle.esto_coded.specs.Coded.{StandFor, arities_of};
-ghost use Rattle.esto_coded.specs.Met.{StaysFor, AnswersWhether};
+ghost use Rattle.esto_chase_laws.specs.Making.{frontier};
+ghost use Rattle.esto_coded.specs.Coded.{AreTelling, StandFor, arities_of};
+ghost use Rattle.esto_coded.specs.Met.{IsCodedAnswer, StaysFor, AnswersWhether};
 
 use crate::coded::CodedFacts;
 use crate::same::is_part;
@@ -64,8 +65,47 @@ impl CodedFacts {
         Ok(agree(&rows))
     }
 
-    /// Whether the facts meet the tuple rule of the body and the head: what the body gives of their common variables the
-    /// head is to give too.
+    /// Whether each of the rows stands for an answer of the query of that head and body.
+    fn are_answers(
+        &mut self,
+        alloc: Global,
+        head: &[Term],
+        body: &[Atom],
+        rows: &Rows,
+    ) -> Result<bool, OutOfMemory>
+        requires { (term : Term) → Contains head.now term → IsFixedBy body.now term }
+        ensures stays { StaysFor self.old self.new }
+        ensures texts { IfOk result (λ _. AreTelling self.new.texts) }
+        ensures each { IfOk result (λ it. (facts : List (Fact Term)) → StandFor self.new facts
+            → IsTrue it ↔ ((row : List ℕ) → Contains rows.now.rows row
+            → IsCodedAnswer self.new (record { head = head.now; body = body.now }) facts row)) }
+    {
+        let answers = self.answers(alloc, head, body)?;
+        is_part(alloc, rows, &answers)
+    }
+
+    /// Whether what the body gives of the terms that it shares with the head is given by the head too. Nothing is asked of
+    /// the head where the body gives nothing.
+    fn meets_over(
+        &mut self,
+        alloc: Global,
+        shared: &[Term],
+        body: &[Atom],
+        head: &[Atom],
+    ) -> Result<bool, OutOfMemory>
+        requires rule { IsTupleRule body.now head.now }
+        requires shared { shared.now ≡ frontier body.now head.now }
+        ensures stays { StaysFor self.old self.new }
+        ensures met { IfOk result (AnswersWhether self.old (tuple body.now head.now)) }
+    {
+        let given = self.answers(alloc, shared, body)?;
+        if given.len() == 0 {
+            return Ok(true);
+        }
+        self.are_answers(alloc, shared, head, &given)
+    }
+
+    /// Whether the facts meet the tuple rule of the body and the head.
     fn meets_tuple(
         &mut self,
         alloc: Global,
@@ -77,13 +117,7 @@ impl CodedFacts {
         ensures met { IfOk result (AnswersWhether self.old (tuple body.now head.now)) }
     {
         let shared = frontier_of(alloc, body, head)?;
-        let given = self.answers(alloc, shared.items(), body)?;
-        if given.len() == 0 {
-            return Ok(true);
-        }
-        let wanted = self.answers(alloc, shared.items(), head)?;
-        let part = is_part(alloc, &given, &wanted)?;
-        Ok(part)
+        self.meets_over(alloc, shared.items(), body, head)
     }
 
     /// Whether the facts meet the rule.
