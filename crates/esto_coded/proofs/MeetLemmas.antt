@@ -1,5 +1,5 @@
 -- Whether facts meet a rule, by the codes of answers.
-use Rattle.std.proofs.Common.{◌≡◌, ◌≢◌, ◌↔◌, ◌⊎◌, inl, inr, ℕ, ◌<◌, Bool, true, false, cond, List, [], ◌∷◌, ◌++◌, map, length, get_or, Some, slice_get, Contains, refl, sym, ap, ◌∙◌}
+use Rattle.std.proofs.Common.{◌≡◌, ◌↔◌, inl, inr, ℕ, Bool, true, false, cond, List, [], ◌∷◌, map, length, get_or, Contains, refl, sym, ap, ◌∙◌}
 use Rattle.std.proofs.Common.{subst, arith, eqb, IsTrue, Result, Ok, Err}
 use Rattle.std.specs.List.{AllZip, filter}
 use Rattle.std.specs.Cmp.Lexicographic.{pointwise}
@@ -7,18 +7,15 @@ use Rattle.std.specs.Result.{IfOk}
 use Rattle.std.specs.Set.{is_member}
 use Rattle.std.proofs.lemmas.Bool.{and_parts}
 use Rattle.std.proofs.lemmas.Bool.Decides.{Decides-eqb}
-use Rattle.std.proofs.lemmas.List.{append_assoc}
 use Rattle.std.proofs.lemmas.Slice.Eq.{slice_eq-Decides}
-use Rattle.esto_columns.specs.Interned.{Grows}
 use Rattle.esto_term.specs.Order.{same_term}
 use Rattle.esto_term.specs.declared.list.OutOfMemory.{OutOfMemory}
 use Rattle.esto_term.specs.declared.term.Term.{Term, out-Term}
-use Rattle.esto_term.specs.declared.term.Term.TheVariants.{Const, Plain}
+use Rattle.esto_term.specs.declared.term.Term.TheVariants.{Const}
 use Rattle.esto_term.proofs.ListLemmas.{Contains-nil, Contains-head, Contains-rest, Contains-cases, Contains-one, Contains-map, Contains-map_from, Contains-filter_from, agree-from_map, map_agree, place-from_Contains}
 use Rattle.esto_term.proofs.ZipLemmas.{zip_left}
 use Rattle.esto_semantics.specs.Facts.{image, Mentions, terms_of}
-use Rattle.esto_semantics.specs.Maps.{IsFlat, IsFixedBy, Keeps, Sends, AgreeOn}
-use Rattle.esto_semantics.specs.Queries.{ConjunctiveQuery, IsAnswerInto}
+use Rattle.esto_semantics.specs.Maps.{IsFlat, IsFixedBy, Keeps, Sends}
 use Rattle.esto_semantics.specs.Rules.{Rule, IsMet, IsTupleRule, tuple, equality, denial}
 use Rattle.esto_semantics.specs.declared.fact.Fact.{Fact}
 use Rattle.esto_semantics.proofs.CanonicalLemmas.{Mentions-terms_of}
@@ -83,7 +80,7 @@ module _ (coded : Coded) (facts : List (Fact Term)) (stand : StandFor coded fact
           (code.0, subst (λ it. IsCodeOf coded.texts it code.0) own.2 code.1)
 
 -- so what a match makes of the head has its row among the answers
-answer_row : (coded : Coded) (head : List Term) (body : List (Fact Term)) (rows : List (List ℕ))
+pub answer_row : (coded : Coded) (head : List Term) (body : List (Fact Term)) (rows : List (List ℕ))
     → AreCodedAnswers coded (record { head = head; body = body }) rows → HaveTexts coded.texts head → ((term : Term) → Contains head term → IsFixedBy body term)
     → (facts : List (Fact Term)) → StandFor coded facts → (m : Term → Term) → Keeps Const m → Sends m body facts
     → (row : List ℕ) × Contains rows row × AreCodesOf coded.texts (map m head) row
@@ -95,14 +92,6 @@ answer_row coded head body rows answers known fixed facts stand m keeps sends =
 
 pub whether_before : (rule : Rule) (old new : Coded) (answer : Bool) → StaysFor old new → AnswersWhether new rule answer → AnswersWhether old rule answer
 whether_before rule old new answer stays whether facts stand = whether facts (stays.facts facts stand)
-
-pub stays_on : (old between new : Coded) → StaysFor old between → StaysFor between new → StaysFor old new
-stays_on old between new one other = record {
-  arities = other.arities ∙ one.arities;
-  facts = λ facts stand. other.facts facts (one.facts facts stand);
-  grown = (one.grown.0 ++ other.grown.0,
-    other.grown.1 ∙ ap (λ it. it ++ other.grown.0) one.grown.1 ∙ append_assoc old.texts one.grown.0 other.grown.0);
-}
 
 -- ---- denials
 
@@ -161,9 +150,9 @@ pub frontier_head : (body head : List (Fact Term)) (term : Term) → Contains (f
 frontier_head body head term inside = elim (joined_from same_term same_term-Decides (filter (is_variable_of head) (terms_of body)) [] term inside) [
   | inl wrong ↦ absurd (Contains-nil term wrong)
   | inr passed ↦
-    let told = (Contains-filter_from (is_variable_of head) (terms_of body) term passed).1 in
-    terms_of-Mentions head term ((in_terms-Decides head term).0
-    (and_parts (is_variable_level (out-Term term)) (is_member same_term (terms_of head) term) told).1)
+      let told = (Contains-filter_from (is_variable_of head) (terms_of body) term passed).1 in
+      terms_of-Mentions head term ((in_terms-Decides head term).0
+      (and_parts (is_variable_level (out-Term term)) (is_member same_term (terms_of head) term) told).1)
 ]
 
 pub body_fixed : (body head : List (Fact Term)) (term : Term) → Contains (frontier body head) term → IsFixedBy body term
@@ -233,9 +222,12 @@ module _ (body head : List (Fact Term)) (is : IsTupleRule body head) (one two : 
       let terms : map m (frontier body head) ≡ map other (frontier body head) =
       one_terms two.texts tell (map m (frontier body head)) found.0 own.0
       (codes_grow one.texts two.texts stays.grown (map m (frontier body head)) own.0 own.2) found.1
-      ∙ found.2.3 in
-      (joint body m other, joint_keeps body m other head is.flat_head keeps found.2.1 terms,
-        (λ term inside. sym (joint_body body m other term inside)), joint_sends body m other head is.flat_head keeps found.2.1 terms facts found.2.2)
+      ∙ found.2.3 in (
+        joint body m other,
+        joint_keeps body m other head is.flat_head keeps found.2.1 terms,
+        (λ term inside. sym (joint_body body m other term inside)),
+        joint_sends body m other head is.flat_head keeps found.2.1 terms facts found.2.2,
+      )
 
   -- and where each match goes on, each row is given
   is_given : IsMet facts (tuple body head) → GoesOn

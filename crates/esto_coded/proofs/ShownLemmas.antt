@@ -1,5 +1,5 @@
 -- Codes of nodes in columns.
-use Rattle.std.proofs.Common.{◌≡◌, ◌↔◌, inl, inr, ℕ, zero, suc, ◌+◌, ◌<◌, ◌≤◌, Bool, false, List, [], ◌∷◌, map, length, get_or, Some, slice_get, Contains, refl, sym, ap, ◌∙◌}
+use Rattle.std.proofs.Common.{◌≡◌, ◌↔◌, inl, inr, ℕ, zero, suc, ◌+◌, ◌<◌, ◌≤◌, Bool, false, List, [], ◌∷◌, map, length, get_or, Some, Contains, refl, sym, ap, ◌∙◌}
 use Rattle.std.proofs.Common.{subst, arith, IsTrue}
 use Rattle.std.proofs.lemmas.Bool.{cases_order, false≢true}
 use Rattle.std.proofs.lemmas.Option.{slice_get_within, slice_get-get_or, get_or_from_slice_get}
@@ -25,9 +25,12 @@ module _ (rows : List (List ℕ)) (arity column : ℕ) (long : (it : List ℕ) �
     λ yes. let found = told.0 yes in
         let own = Contains-map_from (λ row. get_or row column 0) rows found.0 (subst (λ them. Contains them found.0) (same ∙ is) found.1) in
         (own.0, own.1, (found.0, slice_get-get_or own.0 column 0 (subst (λ count. column < count) (sym (long own.0 own.1)) within) ∙ ap Some own.2, found.2)),
-    λ (row, inside, (code, at, past)). told.1 (code,
-        subst (λ them. Contains them code) (sym (same ∙ is)) (subst (Contains (map (λ it. get_or it column 0) rows))
-        (get_or_from_slice_get row column code 0 at) (Contains-map (λ it. get_or it column 0) rows row inside)), past),
+    λ (row, inside, (code, at, past)). told.1 (
+      code,
+      subst (λ them. Contains them code) (sym (same ∙ is)) (subst (Contains (map (λ it. get_or it column 0) rows))
+          (get_or_from_slice_get row column code 0 at) (Contains-map (λ it. get_or it column 0) rows row inside)),
+      past,
+    ),
   )
 
   pub none_told : arity ≤ column → IsTrue false ↔ NodeIn rows column

@@ -1,5 +1,5 @@
 -- Codes of nodes in rows.
-use Rattle.std.specs.Prelude.{◌≡◌, ◌≤◌, ◌<◌, ℕ, List, Some, None, Option, slice_get, Contains}
+use Rattle.std.specs.Prelude.{◌≡◌, ◌≤◌, ℕ, List, Some, None, Option, slice_get, Contains}
 use Rattle.esto_coded.specs.declared.coded.TheConstants.{FIRST_NODE}
 
 -- The row has the code of a node in that column, counted from 0.

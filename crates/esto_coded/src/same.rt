@@ -66,12 +66,7 @@ fn is_among(rows: &Rows, index: &Index, row: &[u64]) -> bool
 }
 
 /// Whether each row of the one is a row of the other, whose index this is.
-fn are_among(
-    alloc: Global,
-    one: &Rows,
-    other: &Rows,
-    index: &Index,
-) -> Result<bool, OutOfMemory>
+fn are_among(alloc: Global, one: &Rows, other: &Rows, index: &Index) -> Result<bool, OutOfMemory>
     requires { IsIndexOf index.now other.now.rows }
     ensures { IfOk result (λ it. IsTrue it
         ↔ ((row : List ℕ) → Contains one.now.rows row → Contains other.now.rows row)) }

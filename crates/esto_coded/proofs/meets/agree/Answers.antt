@@ -1,5 +1,4 @@
-use Rattle.std.proofs.Common.{eqb, ap, ◌∙◌}
-use Rattle.std.specs.Cmp.Lexicographic.{pointwise}
+use Rattle.std.proofs.Common.{◌∙◌}
 use Rattle.esto_coded.proofs.MeetLemmas.{agree_told}
 use Rattle.esto_coded.proofs.meets.agree.Goals as goal
 

@@ -1,4 +1,4 @@
-use Rattle.std.proofs.Common.{ℕ, ◌≤◌, ◌<◌, get_or, arith}
+use Rattle.std.proofs.Common.{◌≤◌, get_or, arith}
 use Rattle.std.proofs.lemmas.List.{get_or_default}
 use Rattle.esto_term.proofs.ListLemmas.{each_more, each_seen}
 use Rattle.esto_coded.specs.declared.coded.TheConstants.{FIRST_NODE}

@@ -1,4 +1,4 @@
-use Rattle.std.proofs.Common.{◌<◌, subst, sym, ◌∙◌, arith}
+use Rattle.std.proofs.Common.{sym, ◌∙◌, arith}
 use Rattle.std.proofs.lemmas.Bool.{false≢true}
 use Rattle.esto_coded.proofs.ShownLemmas.{none_more, is_least, node_within}
 use Rattle.esto_coded.proofs.shown.least_node.Goals as goal

@@ -1,5 +1,5 @@
-use Rattle.std.proofs.Common.{◌<◌, ◌≤◌, subst, sym, ◌∙◌}
-use Rattle.esto_coded.proofs.ShownLemmas.{node_told, none_told}
+use Rattle.std.proofs.Common.{◌<◌, subst}
+use Rattle.esto_coded.proofs.ShownLemmas.{node_told}
 use Rattle.esto_coded.proofs.shown.node_at.Goals as goal
 
 pub returns : goal.returns

@@ -1,6 +1,5 @@
-use Rattle.std.proofs.Common.{◌≡◌, ◌↔◌, ◌<◌, ◌≤◌, ℕ, List, Contains, IsTrue, sym, ap, ◌∙◌, subst}
+use Rattle.std.proofs.Common.{◌↔◌, ◌<◌, ◌≤◌, ℕ, List, IsTrue, sym, ap, ◌∙◌, subst}
 use Rattle.esto_coded.specs.Coded.{Coded, rows_in}
-use Rattle.esto_coded.specs.Shown.{HasNodeAt}
 use Rattle.esto_coded.proofs.ShownLemmas.{NodeIn, held_there, held_past, none_in}
 use Rattle.esto_coded.proofs.coded.CodedFacts.has_node.Goals as goal
 

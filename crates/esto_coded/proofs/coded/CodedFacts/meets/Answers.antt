@@ -2,7 +2,7 @@ use Rattle.std.proofs.Common.{sym, ap, subst, ◌∙◌, List}
 use Rattle.std.specs.Result.{IfOk}
 use Rattle.esto_term.specs.declared.term.Term.{Term}
 use Rattle.esto_semantics.specs.Maps.{IsFixedBy}
-use Rattle.esto_semantics.specs.Rules.{Rule, IsTupleRule, tuple, equality, denial}
+use Rattle.esto_semantics.specs.Rules.{Rule, tuple, equality, denial}
 use Rattle.esto_semantics.specs.declared.fact.Fact.{Fact}
 use Rattle.esto_constraint.specs.Constraints.{rule_of}
 use Rattle.esto_constraint.proofs.RuleLemmas.{tuple_sound, equality_sound}
