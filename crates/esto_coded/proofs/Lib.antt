@@ -3,3 +3,5 @@ pub mod RelationLemmas
 pub mod SameLemmas
 pub mod ShownLemmas
 pub mod MeetLemmas
+pub mod WholeLemmas
+pub mod AnswerLemmas

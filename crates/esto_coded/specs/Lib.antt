@@ -3,3 +3,4 @@ pub mod Answered
 pub mod Relations
 pub mod Shown
 pub mod Met
+pub mod Whole

@@ -4,15 +4,91 @@ ghost use Rattle.esto_columns.specs.Interned.{Grows};
 ghost use Rattle.esto_semantics.specs.Maps.{IsFixedBy};
 ghost use Rattle.esto_semantics.specs.declared.fact.Fact.{Fact};
 ghost use Rattle.esto_term.specs.declared.term.Term.{Term};
-ghost use Rattle.esto_coded.specs.Answered.{AreCodedAnswers};
 ghost use Rattle.esto_term.specs.declared.term.Term.TheVariants.{Const};
+ghost use Rattle.esto_coded.specs.Answered.{AreCodedAnswers};
 ghost use Rattle.esto_coded.specs.Coded.{AreTelling, StandFor, arities_of};
+ghost use Rattle.esto_coded.specs.Relations.{AreWhole, coded_of};
+ghost use Rattle.esto_coded.specs.Whole.{AreWholeSteps, TellsOver, TellsAllOver};
 
-use crate::coded::CodedFacts;
-use esto_columns::Rows;
+use crate::coded::{CodedFacts, FIRST_NODE};
+use crate::steps::steps_of;
+use esto_columns::{Codes, Rows, StoredRows};
+use esto_exec::run_plan;
 use esto_semantics::Atom;
+use esto_steps::Steps;
 use esto_term::{OutOfMemory, Term};
 use std::alloc::Global;
+
+// Whether the atom's relation is there, with as many columns as the atom has terms.
+fn is_over(atom: &Atom, relations: &[StoredRows]) -> bool
+    ensures { TellsOver relations.now atom.now result }
+{
+    match relations.get(atom.relation) {
+        Some(relation) => relation.rows.arity() == atom.terms.len(),
+        None => false,
+    }
+}
+
+// The same of each of the atoms.
+fn are_over(body: &[Atom], relations: &[StoredRows]) -> bool
+    ensures { TellsAllOver relations.now body.now result }
+{
+    'atoms: for atom in body {
+        if !is_over(atom, relations) {
+            return false;
+        }
+    }
+    true
+}
+
+// The answers of the query over the relations, by its steps. Where an atom is not over the relations there are none.
+fn answers_by(
+    alloc: Global,
+    head: &[Term],
+    body: &[Atom],
+    steps: &Steps,
+    codes: &Codes,
+    relations: &[StoredRows],
+) -> Result<Rows, OutOfMemory>
+    requires whole { AreWhole relations.now }
+    requires fixed { (term : Term) → Contains head.now term → IsFixedBy body.now term }
+    requires steps { AreWholeSteps codes.now
+        (record { head = head.now; body = body.now }) steps.now }
+    ensures texts { IfOk result (λ _. AreTelling codes.now) }
+    ensures arity { IfOk result (λ it. it.arity ≡ length head.now) }
+    ensures rows { IfOk result (λ it. AreCodedAnswers (coded_of codes.now relations.now)
+        (record { head = head.now; body = body.now }) it.rows) }
+{
+    if codes.len() > FIRST_NODE {
+        return Err(OutOfMemory);
+    }
+    if !are_over(body, relations) {
+        return Rows::new(alloc, head.len());
+    }
+    run_plan(alloc, steps, relations)
+}
+
+// The answers of the query over the relations. Constants of the query get codes.
+fn answers_over(
+    alloc: Global,
+    head: &[Term],
+    body: &[Atom],
+    codes: &mut Codes,
+    relations: &[StoredRows],
+) -> Result<Rows, OutOfMemory>
+    requires whole { AreWhole relations.now }
+    requires fixed { (term : Term) → Contains head.now term → IsFixedBy body.now term }
+    ensures grown { Grows codes.old codes.new }
+    ensures texts { IfOk result (λ _. AreTelling codes.new) }
+    ensures constants { IfOk result (λ _. (text : List ℕ) → Contains head.now (Const text)
+        → Contains codes.new text) }
+    ensures arity { IfOk result (λ it. it.arity ≡ length head.now) }
+    ensures rows { IfOk result (λ it. AreCodedAnswers (coded_of codes.new relations.now)
+        (record { head = head.now; body = body.now }) it.rows) }
+{
+    let steps = steps_of(alloc, head, body, codes)?;
+    answers_by(alloc, head, body, &steps, codes, relations)
+}
 
 impl CodedFacts {
     /// The answers of the query of that head and body over the facts, as rows of codes, in no stated order. Constants of the
@@ -34,6 +110,12 @@ impl CodedFacts {
         ensures rows { IfOk result (λ it. AreCodedAnswers self.new
             (record { head = head.now; body = body.now }) it.rows) }
     {
-        Err(OutOfMemory)
+        answers_over(
+            alloc,
+            head,
+            body,
+            &mut self.codes,
+            self.relations.as_slice(),
+        )
     }
 }

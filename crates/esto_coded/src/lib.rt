@@ -9,6 +9,7 @@ mod meets;
 mod relations;
 mod same;
 mod shown;
+mod steps;
 
 pub use coded::{CodedFacts, FIRST_NODE};
 pub use relations::put_rows;
