@@ -23,9 +23,9 @@ use Rattle.esto_semantics.proofs.TermLemmas.{same_term-Decides}
 use Rattle.esto_chase_laws.specs.Making.{is_variable_of, is_variable_level, frontier}
 use Rattle.esto_chase_laws.proofs.JoinedLemmas.{joined_from}
 use Rattle.esto_chase_laws.proofs.MakingLemmas.{in_terms-Decides, terms_of-Mentions, frontier_body, frontier_has}
-use Rattle.esto_coded.specs.Answered.{AreCodedAnswers}
+use Rattle.esto_coded.specs.Answered.{IsCodedAnswer, AreCodedAnswers}
 use Rattle.esto_coded.specs.Coded.{Coded, IsCodeOf, AreCodesOf, AreTelling, StandFor}
-use Rattle.esto_coded.specs.Met.{IsCodedAnswer, StaysFor, AnswersWhether}
+use Rattle.esto_coded.specs.Met.{StaysFor, AnswersWhether}
 use Rattle.esto_coded.proofs.StandLemmas.{codes_grow, one_term, one_code}
 
 -- ---- codes of terms, one each

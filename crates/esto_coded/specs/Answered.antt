@@ -6,8 +6,11 @@ use Rattle.esto_semantics.specs.Queries.{ConjunctiveQuery, IsAnswerInto}
 use Rattle.esto_semantics.specs.declared.fact.Fact.{Fact}
 use Rattle.esto_coded.specs.Coded.{Coded, AreCodesOf, StandFor}
 
+-- The row of codes stands for an answer of the query over the facts.
+abbrev pub IsCodedAnswer : Coded → ConjunctiveQuery → List (Fact Term) → List ℕ → Type 0
+IsCodedAnswer coded query facts row = (terms : List Term) × AreCodesOf coded.texts terms row × IsAnswerInto Const query (Contains facts) terms
+
 -- The rows of codes are exactly those that stand for answers of the query over the facts, whichever these are.
 abbrev pub AreCodedAnswers : Coded → ConjunctiveQuery → List (List ℕ) → Type 0
 AreCodedAnswers coded query rows =
-    (facts : List (Fact Term)) → StandFor coded facts → (row : List ℕ) → Contains rows row
-    ↔ ((terms : List Term) × AreCodesOf coded.texts terms row × IsAnswerInto Const query (Contains facts) terms)
+    (facts : List (Fact Term)) → StandFor coded facts → (row : List ℕ) → Contains rows row ↔ IsCodedAnswer coded query facts row

@@ -7,8 +7,9 @@ ghost use Rattle.esto_semantics.specs.Rules.{IsMet, IsTupleRule, tuple, equality
 ghost use Rattle.esto_semantics.specs.declared.fact.Fact.{Fact};
 ghost use Rattle.esto_term.specs.declared.term.Term.{Term};
 ghost use Rattle.esto_chase_laws.specs.Making.{frontier};
+ghost use Rattle.esto_coded.specs.Answered.{IsCodedAnswer};
 ghost use Rattle.esto_coded.specs.Coded.{AreTelling, StandFor, arities_of};
-ghost use Rattle.esto_coded.specs.Met.{IsCodedAnswer, StaysFor, AnswersWhether};
+ghost use Rattle.esto_coded.specs.Met.{StaysFor, AnswersWhether};
 
 use crate::coded::CodedFacts;
 use crate::same::is_part;
