@@ -1,5 +1,5 @@
 -- Whether facts meet a rule, by the codes of answers.
-use Rattle.std.proofs.Common.{◌≡◌, ◌↔◌, inl, inr, ℕ, Bool, true, false, cond, List, [], ◌∷◌, map, length, get_or, Contains, refl, sym, ap, ◌∙◌}
+use Rattle.std.proofs.Common.{◌≡◌, ◌↔◌, inl, inr, ℕ, Bool, true, false, cond, List, [], ◌∷◌, ◌++◌, map, length, get_or, Contains, refl, sym, ap, ◌∙◌}
 use Rattle.std.proofs.Common.{subst, arith, eqb, IsTrue, Result, Ok, Err}
 use Rattle.std.specs.List.{AllZip, filter}
 use Rattle.std.specs.Cmp.Lexicographic.{pointwise}
@@ -7,6 +7,7 @@ use Rattle.std.specs.Result.{IfOk}
 use Rattle.std.specs.Set.{is_member}
 use Rattle.std.proofs.lemmas.Bool.{and_parts}
 use Rattle.std.proofs.lemmas.Bool.Decides.{Decides-eqb}
+use Rattle.std.proofs.lemmas.List.Elements.{Contains-append_left, Contains-append_right, Contains-append_cases}
 use Rattle.std.proofs.lemmas.Slice.Eq.{slice_eq-Decides}
 use Rattle.esto_term.specs.Order.{same_term}
 use Rattle.esto_term.specs.declared.list.OutOfMemory.{OutOfMemory}
@@ -15,7 +16,7 @@ use Rattle.esto_term.specs.declared.term.Term.TheVariants.{Const}
 use Rattle.esto_term.proofs.ListLemmas.{Contains-nil, Contains-head, Contains-rest, Contains-cases, Contains-one, Contains-map, Contains-map_from, Contains-filter_from, agree-from_map, map_agree, place-from_Contains}
 use Rattle.esto_term.proofs.ZipLemmas.{zip_left}
 use Rattle.esto_semantics.specs.Facts.{image, Mentions, terms_of}
-use Rattle.esto_semantics.specs.Maps.{IsFlat, IsFixedBy, Keeps, Sends}
+use Rattle.esto_semantics.specs.Maps.{AgreeOn, IsFlat, IsFixedBy, Keeps, Sends}
 use Rattle.esto_semantics.specs.Rules.{Rule, IsMet, IsTupleRule, tuple, equality, denial}
 use Rattle.esto_semantics.specs.declared.fact.Fact.{Fact}
 use Rattle.esto_semantics.proofs.CanonicalLemmas.{Mentions-terms_of}
@@ -146,20 +147,8 @@ agree_told rows left right answer is also tested =
 
 -- ---- tuple rules
 
-pub frontier_head : (body head : List (Fact Term)) (term : Term) → Contains (frontier body head) term → Mentions head term
-frontier_head body head term inside = elim (joined_from same_term same_term-Decides (filter (is_variable_of head) (terms_of body)) [] term inside) [
-  | inl wrong ↦ absurd (Contains-nil term wrong)
-  | inr passed ↦
-      let told = (Contains-filter_from (is_variable_of head) (terms_of body) term passed).1 in
-      terms_of-Mentions head term ((in_terms-Decides head term).0
-      (and_parts (is_variable_level (out-Term term)) (is_member same_term (terms_of head) term) told).1)
-]
-
 pub body_fixed : (body head : List (Fact Term)) (term : Term) → Contains (frontier body head) term → IsFixedBy body term
 body_fixed body head term inside = inr (frontier_body body head term inside)
-
-pub head_fixed : (body head : List (Fact Term)) (term : Term) → Contains (frontier body head) term → IsFixedBy head term
-head_fixed body head term inside = inr (frontier_head body head term inside)
 
 -- the one map at the terms of the body, and the other at all others
 module _ (body : List (Fact Term)) (m other : Term → Term) where
@@ -195,6 +184,20 @@ module _ (body : List (Fact Term)) (m other : Term → Term) where
         let terms = map_agree joint other atom.terms (λ term among. at_head term (atom, inside, among)) in
         subst (λ them. Contains facts (record { relation = atom.relation; terms = them })) (sym terms) (sends atom inside)
 
+-- a map of both bodies is one of the later
+sends_later : (m : Term → Term) (body head facts : List (Fact Term)) → Sends m (body ++ head) facts → Sends m head facts
+sends_later m body head facts sends atom inside = sends atom (Contains-append_right body head atom inside)
+
+-- and one that agrees with a map of the body, and sends the head, is one of both
+sends_both : (m more : Term → Term) (body head facts : List (Fact Term)) → Sends m body facts → AgreeOn ◌≡◌ body m more → Sends more head facts
+    → Sends more (body ++ head) facts
+sends_both m more body head facts sends agree also atom inside = elim (Contains-append_cases body head atom inside) [
+  | inl early ↦
+      let terms = map_agree m more atom.terms (λ term among. agree term (atom, early, among)) in
+      subst (λ them. Contains facts (record { relation = atom.relation; terms = them })) terms (sends atom early)
+  | inr later ↦ also atom later
+]
+
 -- ---- whether rows are answers
 
 pub part_told : (coded : Coded) (head : List Term) (body : List (Fact Term)) (rows answers : List (List ℕ))
@@ -206,12 +209,22 @@ part_told coded head body rows answers are answer told facts stand = (
   λ each. told.1 (λ row inside. (are facts stand row).1 (each row inside)),
 )
 
+-- and the same where the body is another list that is equal
+pub told_over : (result : Result Bool OutOfMemory) (coded : Coded) (head : List Term) (body both : List (Fact Term)) (rows : List (List ℕ)) → body ≡ both
+    → IfOk result (λ answer. (facts : List (Fact Term)) → StandFor coded facts
+    → IsTrue answer ↔ ((row : List ℕ) → Contains rows row → IsCodedAnswer coded (record { head = head; body = body }) facts row))
+    → IfOk result (λ answer. (facts : List (Fact Term)) → StandFor coded facts
+    → IsTrue answer ↔ ((row : List ℕ) → Contains rows row → IsCodedAnswer coded (record { head = head; body = both }) facts row))
+told_over result coded head body both rows same told =
+    subst (λ them. IfOk result (λ answer. (facts : List (Fact Term)) → StandFor coded facts
+    → IsTrue answer ↔ ((row : List ℕ) → Contains rows row → IsCodedAnswer coded (record { head = head; body = them }) facts row))) same told
+
 module _ (body head : List (Fact Term)) (is : IsTupleRule body head) (one two : Coded) (stays : StaysFor one two) (tell : AreTelling two.texts)
     (known : HaveTexts one.texts (frontier body head)) (given : List (List ℕ))
     (of_body : AreCodedAnswers one (record { head = frontier body head; body = body }) given) (facts : List (Fact Term)) (stand : StandFor one facts) where
-  -- each row that the body gives is one that the head gives
+  -- each row that the body gives is one that body and head give together
   abbrev GoesOn : Type 0
-  GoesOn = (row : List ℕ) → Contains given row → IsCodedAnswer two (record { head = frontier body head; body = head }) facts row
+  GoesOn = (row : List ℕ) → Contains given row → IsCodedAnswer two (record { head = frontier body head; body = body ++ head }) facts row
 
   -- then each match of the body goes on to the head
   goes_on : GoesOn → IsMet facts (tuple body head)
@@ -226,7 +239,7 @@ module _ (body head : List (Fact Term)) (is : IsTupleRule body head) (one two : 
         joint body m other,
         joint_keeps body m other head is.flat_head keeps found.2.1 terms,
         (λ term inside. sym (joint_body body m other term inside)),
-        joint_sends body m other head is.flat_head keeps found.2.1 terms facts found.2.2,
+        joint_sends body m other head is.flat_head keeps found.2.1 terms facts (sends_later other body head facts found.2.2),
       )
 
   -- and where each match goes on, each row is given
@@ -237,18 +250,18 @@ module _ (body head : List (Fact Term)) (is : IsTupleRule body head) (one two : 
       let found = met m own.2.1 own.2.2 in
       let terms : own.0 ≡ map found.0 (frontier body head) =
       own.2.3 ∙ map_agree m found.0 (frontier body head) (λ term among. found.2 term (frontier_body body head term among)) in
-      (own.0, codes_grow one.texts two.texts stays.grown own.0 row own.1, (found.0, found.1, found.3, terms))
+      (own.0, codes_grow one.texts two.texts stays.grown own.0 row own.1, (found.0, found.1, sends_both m found.0 body head facts own.2.2 found.2 found.3, terms))
 
 pub tuple_answered : (body head : List (Fact Term)) → IsTupleRule body head → (shared : List Term) → shared ≡ frontier body head → (one two : Coded)
     → StaysFor one two → AreTelling two.texts → HaveTexts one.texts shared → (given : List (List ℕ)) (answer : Bool)
     → AreCodedAnswers one (record { head = shared; body = body }) given
     → ((facts : List (Fact Term)) → StandFor two facts
-    → IsTrue answer ↔ ((row : List ℕ) → Contains given row → IsCodedAnswer two (record { head = shared; body = head }) facts row))
+    → IsTrue answer ↔ ((row : List ℕ) → Contains given row → IsCodedAnswer two (record { head = shared; body = body ++ head }) facts row))
     → AnswersWhether one (tuple body head) answer
 tuple_answered body head is shared same one two stays tell known given answer of_body told facts stand =
     let have = subst (HaveTexts one.texts) same known in
     let are = subst (λ terms. AreCodedAnswers one (record { head = terms; body = body }) given) same of_body in
-    let each = subst (λ terms. IsTrue answer ↔ ((row : List ℕ) → Contains given row → IsCodedAnswer two (record { head = terms; body = head }) facts row))
+    let each = subst (λ terms. IsTrue answer ↔ ((row : List ℕ) → Contains given row → IsCodedAnswer two (record { head = terms; body = body ++ head }) facts row))
     same (told facts (stays.facts facts stand)) in (
       λ yes. goes_on body head is one two stays tell have given are facts stand (each.0 yes),
       λ met. each.1 (is_given body head is one two stays tell have given are facts stand met),
@@ -259,7 +272,7 @@ pub over_told : (result : Result Bool OutOfMemory) (body head : List (Fact Term)
     → (old one two : Coded) → StaysFor old one → StaysFor one two → HaveTexts one.texts shared → (given : List (List ℕ))
     → AreCodedAnswers one (record { head = shared; body = body }) given → IfOk result (λ it. AreTelling two.texts)
     → IfOk result (λ answer. (facts : List (Fact Term)) → StandFor two facts
-    → IsTrue answer ↔ ((row : List ℕ) → Contains given row → IsCodedAnswer two (record { head = shared; body = head }) facts row))
+    → IsTrue answer ↔ ((row : List ℕ) → Contains given row → IsCodedAnswer two (record { head = shared; body = body ++ head }) facts row))
     → IfOk result (AnswersWhether old (tuple body head))
 over_told (Ok answer) body head is shared same old one two before stays known given of_body tell told =
     whether_before (tuple body head) old one answer before (tuple_answered body head is shared same one two stays tell known given answer of_body told)
@@ -281,8 +294,11 @@ tuple_unasked body head shared same one known given empty of_body facts stand = 
 pub shared_body : (body head : List (Fact Term)) (shared : List Term) → shared ≡ frontier body head → (term : Term) → Contains shared term → IsFixedBy body term
 shared_body body head shared same term inside = body_fixed body head term (subst (λ terms. Contains terms term) same inside)
 
-pub shared_head : (body head : List (Fact Term)) (shared : List Term) → shared ≡ frontier body head → (term : Term) → Contains shared term → IsFixedBy head term
-shared_head body head shared same term inside = head_fixed body head term (subst (λ terms. Contains terms term) same inside)
+pub shared_both : (body head : List (Fact Term)) (shared : List Term) → shared ≡ frontier body head → (term : Term) → Contains shared term
+    → IsFixedBy (body ++ head) term
+shared_both body head shared same term inside =
+    let own = frontier_body body head term (subst (λ terms. Contains terms term) same inside) in
+    inr (own.0, Contains-append_left body head own.0 own.1, own.2)
 
 -- and the sides of an equality rule
 pub sides_fixed : (body : List (Fact Term)) (left right : Term) (sides : List Term) → sides ≡ left ∷ right ∷ [] → IsFixedBy body left → IsFixedBy body right

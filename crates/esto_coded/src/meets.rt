@@ -1,5 +1,5 @@
 //! Whether facts meet a rule.
-ghost use Rattle.std.specs.Prelude.{◌≡◌, ◌↔◌, [], ◌∷◌, List, ℕ, Contains, slice_index_or, IsTrue, IfOk};
+ghost use Rattle.std.specs.Prelude.{◌≡◌, ◌↔◌, [], ◌∷◌, ◌++◌, List, ℕ, Contains, slice_index_or, IsTrue, IfOk, OnOk};
 ghost use Rattle.esto_columns.specs.Interned.{Grows};
 ghost use Rattle.esto_constraint.specs.Constraints.{rule_of};
 ghost use Rattle.esto_semantics.specs.Maps.{IsFixedBy};
@@ -26,6 +26,26 @@ fn both_of(alloc: Global, left: &Term, right: &Term) -> Result<Terms, OutOfMemor
     let mut both = List::new(alloc);
     both.push(left.copy(alloc)?)?;
     both.push(right.copy(alloc)?)?;
+    Ok(both)
+}
+
+/// Puts copies of the atoms at the end of the list.
+fn put_atoms(alloc: Global, atoms: &[Atom], into: &mut List<Atom>) -> Result<(), OutOfMemory>
+    ensures { OnOk result (into.new ≡ into.old ++ atoms.now) }
+{
+    'atoms: for atom in atoms {
+        into.push(atom.copy(alloc)?)?;
+    }
+    Ok(())
+}
+
+/// The atoms of the one, and after them those of the other.
+fn joined(alloc: Global, one: &[Atom], other: &[Atom]) -> Result<List<Atom>, OutOfMemory>
+    ensures { IfOk result (λ it. it ≡ one.now ++ other.now) }
+{
+    let mut both = List::new(alloc);
+    put_atoms(alloc, one, &mut both)?;
+    put_atoms(alloc, other, &mut both)?;
     Ok(both)
 }
 
@@ -85,8 +105,29 @@ impl CodedFacts {
         is_part(alloc, rows, &answers)
     }
 
-    /// Whether what the body gives of the terms that it shares with the head is given by the head too. Nothing is asked of
-    /// the head where the body gives nothing.
+    /// The same of the query over the atoms of the body and of the head together. Atoms of the head that share variables
+    /// with the body alone are linked by it.
+    fn go_on(
+        &mut self,
+        alloc: Global,
+        shared: &[Term],
+        body: &[Atom],
+        head: &[Atom],
+        rows: &Rows,
+    ) -> Result<bool, OutOfMemory>
+        requires { (term : Term) → Contains shared.now term → IsFixedBy (body.now ++ head.now) term }
+        ensures stays { StaysFor self.old self.new }
+        ensures texts { IfOk result (λ _. AreTelling self.new.texts) }
+        ensures each { IfOk result (λ it. (facts : List (Fact Term)) → StandFor self.new facts
+            → IsTrue it ↔ ((row : List ℕ) → Contains rows.now.rows row
+            → IsCodedAnswer self.new (record { head = shared.now; body = body.now ++ head.now }) facts row)) }
+    {
+        let both = joined(alloc, body, head)?;
+        self.are_answers(alloc, shared, both.items(), rows)
+    }
+
+    /// Whether what the body gives of the terms that it shares with the head is given by body and head together too.
+    /// Nothing is asked of the head where the body gives nothing.
     fn meets_over(
         &mut self,
         alloc: Global,
@@ -103,7 +144,7 @@ impl CodedFacts {
         if given.len() == 0 {
             return Ok(true);
         }
-        self.are_answers(alloc, shared, head, &given)
+        self.go_on(alloc, shared, body, head, &given)
     }
 
     /// Whether the facts meet the tuple rule of the body and the head.

@@ -1,6 +1,6 @@
 use Rattle.std.proofs.Common.{true, sym, ◌∙◌}
 use Rattle.esto_semantics.specs.Rules.{tuple}
-use Rattle.esto_coded.proofs.MeetLemmas.{whether_before, tuple_unasked, over_told, shared_body, shared_head}
+use Rattle.esto_coded.proofs.MeetLemmas.{whether_before, tuple_unasked, over_told, shared_body, shared_both}
 use Rattle.esto_coded.proofs.coded.CodedFacts.meets_over.Goals as goal
 
 pub answers-requires : goal.answers-requires
@@ -13,12 +13,12 @@ returns-then-len-eq0-clause-met c =
     (tuple_unasked c.args.body.now c.args.head.now c.args.shared.now c.requires.shared c.answers.new.self c.in_ok-given.ensures.constants
     c.in_ok-given.given.rows (sym c.len.ensures ∙ c.if-len-eq0.true) c.in_ok-given.ensures.rows)
 
-pub are_answers-requires : goal.are_answers-requires
-are_answers-requires c = shared_head c.args.body.now c.args.head.now c.args.shared.now c.requires.shared
+pub go_on-requires : goal.go_on-requires
+go_on-requires c = shared_both c.args.body.now c.args.head.now c.args.shared.now c.requires.shared
 
 pub returns-clause-met : goal.returns-clause-met
 returns-clause-met c =
-    over_told c.are_answers.result c.args.body.now c.args.head.now c.requires.rule c.args.shared.now c.requires.shared c.args.self.now c.answers.new.self
-    c.are_answers.new.self (record { arities = c.answers.ensures.arities; facts = c.answers.ensures.facts; grown = c.answers.ensures.grown })
-    c.are_answers.ensures.stays c.in_ok-given.ensures.constants c.in_ok-given.given.rows c.in_ok-given.ensures.rows c.are_answers.ensures.texts
-    c.are_answers.ensures.each
+    over_told c.go_on.result c.args.body.now c.args.head.now c.requires.rule c.args.shared.now c.requires.shared c.args.self.now c.answers.new.self
+    c.go_on.new.self (record { arities = c.answers.ensures.arities; facts = c.answers.ensures.facts; grown = c.answers.ensures.grown })
+    c.go_on.ensures.stays c.in_ok-given.ensures.constants c.in_ok-given.given.rows c.in_ok-given.ensures.rows c.go_on.ensures.texts
+    c.go_on.ensures.each
