@@ -5,3 +5,4 @@ pub mod ShownLemmas
 pub mod MeetLemmas
 pub mod WholeLemmas
 pub mod AnswerLemmas
+pub mod MirrorLemmas

@@ -31,7 +31,7 @@ use Rattle.esto_coded.proofs.StandLemmas.{codes_grow, one_term, one_code}
 
 -- ---- codes of terms, one each
 
-one_terms : (texts : List (List ℕ)) → AreTelling texts → (terms others : List Term) (codes : List ℕ) → AreCodesOf texts terms codes → AreCodesOf texts others codes
+pub one_terms : (texts : List (List ℕ)) → AreTelling texts → (terms others : List Term) (codes : List ℕ) → AreCodesOf texts terms codes → AreCodesOf texts others codes
     → terms ≡ others
 one_terms texts tell [] [] codes are also = refl
 one_terms texts tell [] (other ∷ others) [] are also = absurd also
@@ -152,14 +152,14 @@ body_fixed body head term inside = inr (frontier_body body head term inside)
 
 -- the one map at the terms of the body, and the other at all others
 module _ (body : List (Fact Term)) (m other : Term → Term) where
-  abbrev joint : Term → Term
+  abbrev pub joint : Term → Term
   joint term = cond (is_member same_term (terms_of body) term) (m term) (other term)
 
-  joint_body : (term : Term) → Mentions body term → joint term ≡ m term
+  pub joint_body : (term : Term) → Mentions body term → joint term ≡ m term
   joint_body term inside = ap (λ it. cond it (m term) (other term)) ((in_terms-Decides body term).1 (Mentions-terms_of body term inside))
 
   -- it is the other, if this agrees at the term in the body
-  joint_other : (term : Term) → (Mentions body term → m term ≡ other term) → joint term ≡ other term
+  pub joint_other : (term : Term) → (Mentions body term → m term ≡ other term) → joint term ≡ other term
   joint_other term agree = by (is_member same_term (terms_of body) term) (λ told. agree (terms_of-Mentions body term ((in_terms-Decides body term).0 told)))
     where
       by : (answer : Bool) → (answer ≡ true → m term ≡ other term) → cond answer (m term) (other term) ≡ other term

@@ -4,3 +4,4 @@ pub mod Relations
 pub mod Shown
 pub mod Met
 pub mod Whole
+pub mod Mirrored

@@ -6,6 +6,7 @@ mod answers;
 mod coded;
 mod facts;
 mod meets;
+mod mirrored;
 mod relations;
 mod same;
 mod shown;

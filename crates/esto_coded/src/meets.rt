@@ -3,15 +3,17 @@ ghost use Rattle.std.specs.Prelude.{◌≡◌, ◌↔◌, [], ◌∷◌, ◌++�
 ghost use Rattle.esto_columns.specs.Interned.{Grows};
 ghost use Rattle.esto_constraint.specs.Constraints.{rule_of};
 ghost use Rattle.esto_semantics.specs.Maps.{IsFixedBy};
-ghost use Rattle.esto_semantics.specs.Rules.{IsMet, IsTupleRule, tuple, equality, denial};
+ghost use Rattle.esto_semantics.specs.Rules.{IsEqualityRule, IsMet, IsTupleRule, tuple, equality, denial};
 ghost use Rattle.esto_semantics.specs.declared.fact.Fact.{Fact};
 ghost use Rattle.esto_term.specs.declared.term.Term.{Term};
 ghost use Rattle.esto_chase_laws.specs.Making.{frontier};
 ghost use Rattle.esto_coded.specs.Answered.{IsCodedAnswer};
 ghost use Rattle.esto_coded.specs.Coded.{AreTelling, StandFor, arities_of};
 ghost use Rattle.esto_coded.specs.Met.{StaysFor, AnswersWhether};
+ghost use Rattle.esto_coded.specs.Mirrored.{IsMirrored};
 
 use crate::coded::CodedFacts;
+use crate::mirrored::{are_mirrored, are_told, with_first};
 use crate::same::is_part;
 use esto_columns::Rows;
 use esto_constraint::{Constraint, frontier_of};
@@ -68,8 +70,8 @@ impl CodedFacts {
         Ok(rows.len() == 0)
     }
 
-    /// Whether the facts meet the equality rule of the body and the two sides.
-    fn meets_equality(
+    /// Whether the facts meet the equality rule of the body and the two sides, by all pairs of what these stand for.
+    fn meets_sides(
         &mut self,
         alloc: Global,
         body: &[Atom],
@@ -84,6 +86,46 @@ impl CodedFacts {
         let sides = both_of(alloc, left, right)?;
         let rows = self.answers(alloc, sides.items(), body)?;
         Ok(agree(&rows))
+    }
+
+    /// Whether the facts meet each equality rule whose body begins with this half and is mirrored: those of its matches that
+    /// agree on the shared terms agree on the side.
+    fn meets_mirrored(
+        &mut self,
+        alloc: Global,
+        first: &[Atom],
+        left: &Term,
+        shared: &Terms,
+    ) -> Result<bool, OutOfMemory>
+        requires { (term : Term) → Contains (left.now ∷ shared.now) term → IsFixedBy first.now term }
+        ensures stays { StaysFor self.old self.new }
+        ensures met { IfOk result (λ it. (second : List (Fact Term)) (right : Term)
+            → IsMirrored first.now second left.now right shared.now
+            → AnswersWhether self.old (equality (first.now ++ second) left.now right) it) }
+    {
+        let head = with_first(alloc, left, shared)?;
+        let rows = self.answers(alloc, head.items(), first)?;
+        are_told(alloc, &rows)
+    }
+
+    /// Whether the facts meet the equality rule of the body and the two sides. A mirrored body is asked for one half alone.
+    fn meets_equality(
+        &mut self,
+        alloc: Global,
+        body: &[Atom],
+        left: &Term,
+        right: &Term,
+    ) -> Result<bool, OutOfMemory>
+        requires { IsEqualityRule body.now left.now right.now }
+        ensures stays { StaysFor self.old self.new }
+        ensures met { IfOk result (AnswersWhether self.old (equality body.now left.now right.now)) }
+    {
+        let (first, second) = body.split_at(body.len() / 2);
+        let shared = frontier_of(alloc, first, second)?;
+        if are_mirrored(alloc, first, second, left, right, shared.items())? {
+            return self.meets_mirrored(alloc, first, left, &shared);
+        }
+        self.meets_sides(alloc, body, left, right)
     }
 
     /// Whether each of the rows stands for an answer of the query of that head and body.

@@ -1,8 +1,7 @@
 use Rattle.std.proofs.Common.{sym, ap, subst, ◌∙◌, List}
 use Rattle.std.specs.Result.{IfOk}
 use Rattle.esto_term.specs.declared.term.Term.{Term}
-use Rattle.esto_semantics.specs.Maps.{IsFixedBy}
-use Rattle.esto_semantics.specs.Rules.{Rule, tuple, equality, denial}
+use Rattle.esto_semantics.specs.Rules.{Rule, IsEqualityRule, tuple, equality, denial}
 use Rattle.esto_semantics.specs.declared.fact.Fact.{Fact}
 use Rattle.esto_constraint.specs.Constraints.{rule_of}
 use Rattle.esto_constraint.proofs.RuleLemmas.{tuple_sound, equality_sound}
@@ -14,17 +13,11 @@ meets_tuple-requires c =
     let rule = c.in-Tuple.rule in
     rw (c.items.ensures, c.items-in-Tuple.ensures) (tuple_sound rule.body rule.head rule.names rule.sound).rule
 
-pub meets_equality-requires-clause-left : goal.meets_equality-requires-clause-left
-meets_equality-requires-clause-left c =
+pub meets_equality-requires : goal.meets_equality-requires
+meets_equality-requires c =
     let rule = c.in-Equal.rule in
-    subst (λ (body : List (Fact Term)). IsFixedBy body rule.left) (sym c.items-in-Equal.ensures)
-    (equality_sound rule.body rule.left rule.right rule.names rule.sound).rule.left_fixed
-
-pub meets_equality-requires-clause-right : goal.meets_equality-requires-clause-right
-meets_equality-requires-clause-right c =
-    let rule = c.in-Equal.rule in
-    subst (λ (body : List (Fact Term)). IsFixedBy body rule.right) (sym c.items-in-Equal.ensures)
-    (equality_sound rule.body rule.left rule.right rule.names rule.sound).rule.right_fixed
+    subst (λ (body : List (Fact Term)). IsEqualityRule body rule.left rule.right) (sym c.items-in-Equal.ensures)
+    (equality_sound rule.body rule.left rule.right rule.names rule.sound).rule
 
 pub returns-in-Tuple-clause-met : goal.returns-in-Tuple-clause-met
 returns-in-Tuple-clause-met c =

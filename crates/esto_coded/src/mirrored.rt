@@ -1,0 +1,236 @@
+//! Equality rules whose body is two halves, each of which is the other under another naming of variables. Whether facts
+//! meet such a rule is told by the matches of one half: those that agree on the shared variables agree on the side.
+ghost use Rattle.std.specs.Prelude.{◌≡◌, ◌↔◌, ◌+◌, ◌<◌, ◌∷◌, ℕ, List, length, take, drop, map, IsTrue, IfOk, OnOk, Contains};
+ghost use Rattle.esto_columns.specs.Indexed.{IsIndexOf};
+ghost use Rattle.esto_chase_laws.specs.Making.{frontier};
+ghost use Rattle.esto_semantics.specs.Facts.{image};
+ghost use Rattle.esto_semantics.specs.Maps.{AreFlat};
+ghost use Rattle.esto_coded.specs.Mirrored.{renamed, IsMirrored, IsContrary, HasNoContrary, AreTold};
+
+use esto_columns::{Index, Rows};
+use esto_constraint::frontier_of;
+use esto_semantics::Atom;
+use esto_term::{OutOfMemory, Replicate, Term, Terms, Values, has_term};
+use std::alloc::Global;
+
+// Whether the other term stands for the term, by the two lists.
+fn goes(from: &Terms, to: &Terms, term: &Term, other: &Term) -> bool
+    ensures { IsTrue result → renamed from.now to.now term.now ≡ other.now }
+{
+    if from.len() != to.len() {
+        return false;
+    }
+    'places: for place in 0..from.len() {
+        if from.item(place).equal(term) {
+            return to.item(place).equal(other);
+        }
+    }
+    term.equal(other)
+}
+
+// Whether the other terms stand for the terms, one each.
+fn all_go(from: &Terms, to: &Terms, terms: &[Term], others: &[Term]) -> bool
+    ensures { IsTrue result → map (renamed from.now to.now) terms.now ≡ others.now }
+{
+    if terms.len() != others.len() {
+        return false;
+    }
+    'places: for place in 0..terms.len() {
+        if !goes(from, to, &terms[place], &others[place]) {
+            return false;
+        }
+    }
+    true
+}
+
+// Whether the other atom stands for the atom.
+fn atom_goes(from: &Terms, to: &Terms, atom: &Atom, other: &Atom) -> bool
+    ensures { IsTrue result → image (renamed from.now to.now) atom.now ≡ other.now }
+{
+    if atom.relation != other.relation {
+        return false;
+    }
+    all_go(from, to, atom.terms.items(), other.terms.items())
+}
+
+// Whether the other atoms stand for the atoms, one each.
+fn atoms_go(from: &Terms, to: &Terms, atoms: &[Atom], others: &[Atom]) -> bool
+    ensures { IsTrue result → map (image (renamed from.now to.now)) atoms.now ≡ others.now }
+{
+    if atoms.len() != others.len() {
+        return false;
+    }
+    'places: for place in 0..atoms.len() {
+        if !atom_goes(from, to, &atoms[place], &others[place]) {
+            return false;
+        }
+    }
+    true
+}
+
+// Whether the other side stands for the side, and each of the shared terms for itself.
+fn sides_go(from: &Terms, to: &Terms, side: &Term, other: &Term, shared: &[Term]) -> bool
+    ensures { IsTrue result → (renamed from.now to.now side.now ≡ other.now)
+        × (map (renamed from.now to.now) shared.now ≡ shared.now) }
+{
+    if !goes(from, to, side, other) {
+        return false;
+    }
+    all_go(from, to, shared, shared)
+}
+
+// Whether the halves and the sides go over to one another, by the variables of the one half and those of the other.
+fn go_over(
+    first: &[Atom],
+    second: &[Atom],
+    left: &Term,
+    right: &Term,
+    shared: &[Term],
+    from: &Terms,
+    to: &Terms,
+) -> bool
+    requires flat { AreFlat first.now }
+    requires shared { shared.now ≡ frontier first.now second.now }
+    requires from { from.now ≡ frontier first.now first.now }
+    requires to { to.now ≡ frontier second.now second.now }
+    ensures { IsTrue result → IsMirrored first.now second.now left.now right.now shared.now }
+{
+    if !has_term(from.items(), left)
+        || !atoms_go(from, to, first, second)
+        || !atoms_go(to, from, second, first)
+    {
+        return false;
+    }
+    if !sides_go(from, to, left, right, shared) {
+        return false;
+    }
+    sides_go(to, from, right, left, shared)
+}
+
+// Whether the halves and the sides are mirrored over what both halves share.
+pub(crate) fn are_mirrored(
+    alloc: Global,
+    first: &[Atom],
+    second: &[Atom],
+    left: &Term,
+    right: &Term,
+    shared: &[Term],
+) -> Result<bool, OutOfMemory>
+    requires flat { AreFlat first.now }
+    requires shared { shared.now ≡ frontier first.now second.now }
+    ensures { IfOk result (λ it. IsTrue it
+        → IsMirrored first.now second.now left.now right.now shared.now) }
+{
+    let from = frontier_of(alloc, first, first)?;
+    let to = frontier_of(alloc, second, second)?;
+    let all = go_over(first, second, left, right, shared, &from, &to);
+    Ok(all)
+}
+
+// The term, and then the others.
+pub(crate) fn with_first(alloc: Global, term: &Term, others: &Terms) -> Result<Terms, OutOfMemory>
+    ensures { IfOk result (λ it. it ≡ term.now ∷ others.now) }
+{
+    let mut all = others.copy(alloc)?;
+    all.insert(0, term.copy(alloc)?)?;
+    Ok(all)
+}
+
+// The codes of the row after the first.
+fn key_of(row: &[u64]) -> &[u64]
+    ensures { result.now ≡ drop 1 row.now }
+{
+    match row.split_first() {
+        Some((_code, key)) => key,
+        None => row,
+    }
+}
+
+// Whether the rows have the same codes but for the first.
+fn is_contrary(row: &[u64], other: &[u64]) -> bool
+    ensures { IsTrue result ↔ IsContrary row.now other.now }
+{
+    let Some((code, key)) = row.split_first() else {
+        return false;
+    };
+    let Some((more, rest)) = other.split_first() else {
+        return false;
+    };
+    *code != *more && key == rest
+}
+
+// Puts the row at the place into the index of the keys before it. The row is read into the list.
+fn index_key(
+    rows: &Rows,
+    at: usize,
+    row: &mut Values<u64>,
+    index: &mut Index,
+) -> Result<(), OutOfMemory>
+    requires there { at < length rows.now.rows }
+    requires own { IsIndexOf index.old (map (drop 1) (take at rows.now.rows)) }
+    ensures { OnOk result (IsIndexOf index.new (map (drop 1) (take (at + 1) rows.now.rows))) }
+{
+    rows.read_row(at, row)?;
+    index.add(key_of(row.items()))
+}
+
+// The index of the rows by their codes after the first.
+fn index_keys(alloc: Global, rows: &Rows) -> Result<Index, OutOfMemory>
+    ensures { IfOk result (λ it. IsIndexOf it (map (drop 1) rows.now.rows)) }
+{
+    let mut index = Index::new(alloc, rows.len())?;
+    let mut row = Values::new(alloc);
+    'rows: for at in 0..rows.len() {
+        index_key(rows, at, &mut row, &mut index)?;
+    }
+    Ok(index)
+}
+
+// Whether one of the rows has the same codes as the row but for the first, by the index: only those of its bucket are
+// looked at. They are read into the list.
+fn has_contrary(
+    rows: &Rows,
+    index: &Index,
+    row: &[u64],
+    other: &mut Values<u64>,
+) -> Result<bool, OutOfMemory>
+    requires { IsIndexOf index.now (map (drop 1) rows.now.rows) }
+    ensures { IfOk result (λ it. IsTrue it
+        ↔ ((more : List ℕ) × Contains rows.now.rows more × IsContrary row.now more)) }
+{
+    let mut next = index.last_of(key_of(row));
+    'places: while next > 0 {
+        let place = next - 1;
+        rows.read_row(place, other)?;
+        if is_contrary(row, other.items()) {
+            return Ok(true);
+        }
+        next = index.before(place);
+    }
+    Ok(false)
+}
+
+// Whether in each of the rows the codes after the first tell the first, by the index.
+fn are_told_by(alloc: Global, rows: &Rows, index: &Index) -> Result<bool, OutOfMemory>
+    requires { IsIndexOf index.now (map (drop 1) rows.now.rows) }
+    ensures { IfOk result (λ it. IsTrue it ↔ AreTold rows.now.rows) }
+{
+    let mut row = Values::new(alloc);
+    let mut other = Values::new(alloc);
+    'rows: for at in 0..rows.len() {
+        rows.read_row(at, &mut row)?;
+        if has_contrary(rows, index, row.items(), &mut other)? {
+            return Ok(false);
+        }
+    }
+    Ok(true)
+}
+
+/// Whether in each of the rows the codes after the first tell the first.
+pub(crate) fn are_told(alloc: Global, rows: &Rows) -> Result<bool, OutOfMemory>
+    ensures { IfOk result (λ it. IsTrue it ↔ AreTold rows.now.rows) }
+{
+    let index = index_keys(alloc, rows)?;
+    let told = are_told_by(alloc, rows, &index)?;
+    Ok(told)
+}
