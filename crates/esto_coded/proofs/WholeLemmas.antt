@@ -1,11 +1,11 @@
 -- The steps of queries over relations that are asked as a whole.
-use Rattle.std.proofs.Common.{◌≡◌, ◌⊎◌, inl, inr, ℕ, ◌+◌, ◌<◌, ◌≤◌, Bool, true, List, [], ◌∷◌, ◌++◌, map, length, take, Some, slice_get, Contains}
+use Rattle.std.proofs.Common.{◌≡◌, ◌⊎◌, ◌↔◌, inl, inr, ℕ, ◌+◌, ◌<◌, ◌≤◌, Bool, true, List, [], ◌∷◌, ◌++◌, map, length, take, Some, slice_get, Contains}
 use Rattle.std.proofs.Common.{refl, sym, ap, ◌∙◌, subst, arith, get_or}
 use Rattle.std.specs.List.{AllZip}
 use Rattle.std.proofs.lemmas.List.{append_assoc, append-nil, length-take-le, take_all, take-append-le}
 use Rattle.std.proofs.lemmas.List.Concat.{flat_map-append}
 use Rattle.std.proofs.lemmas.List.Elements.{Contains-append_left, Contains-push, Contains-push_cases}
-use Rattle.std.proofs.lemmas.Option.{none-some, slice_get_within}
+use Rattle.std.proofs.lemmas.Option.{none-some, same_Some, slice_get_within, get_or_from_slice_get}
 use Rattle.std.proofs.lemmas.Slice.Zip.{all_zipped_more}
 use Rattle.esto_term.specs.declared.term.Term.{Term}
 use Rattle.esto_term.specs.declared.term.Term.TheVariants.{Const}
@@ -28,8 +28,11 @@ use Rattle.esto_steps.specs.declared.steps.Get.{Get}
 use Rattle.esto_steps.specs.declared.steps.Link.{Link}
 use Rattle.esto_steps.specs.declared.steps.Source.{Source}
 use Rattle.esto_steps.specs.declared.steps.Steps.{Steps}
+use Rattle.esto_steps.specs.Meaning.{Follows, Leads, IsResult}
+use Rattle.esto_steps.specs.Named.{NamesCodes}
+use Rattle.esto_steps.specs.Rows.{IsRowOf, held_by}
 use Rattle.esto_coded.specs.Relations.{AreWhole}
-use Rattle.esto_coded.specs.Whole.{IsLinked, AreFilters, IsWholeGet, AreWholeGets, AreWholeSteps, IsOver}
+use Rattle.esto_coded.specs.Whole.{IsLinked, AreFilters, IsWholeGet, AreWholeGets, AreWholeSteps, TakeWhole, IsOver}
 
 -- ---- growing texts
 
@@ -296,14 +299,64 @@ allowed shape links whole none = subst (λ (them : List Link). IsAllowed shape (
   way = ([], subst (λ them. Contains them []) (sym whole) (Contains-head [] []), λ column. ((λ inside. inside), λ inside. inside));
 })
 
-pub whole_steps_run : (texts : List (List ℕ)) (query : ConjunctiveQuery) (steps : Steps) (relations : List StoredRows) → AreWhole relations
-    → ((atom : Fact Term) → Contains query.body atom → IsOver relations atom) → AreWholeSteps texts query steps
-    → AreRunnable (map shape_of relations) steps.gets
-whole_steps_run texts query steps relations whole over are get inside =
+pub take_whole : (texts : List (List ℕ)) (query : ConjunctiveQuery) (steps : Steps) (relations : List StoredRows) → AreWhole relations
+    → ((atom : Fact Term) → Contains query.body atom → IsOver relations atom) → AreWholeSteps texts query steps → TakeWhole relations steps.gets
+take_whole texts query steps relations whole over are get inside =
     let named = get_named texts [] query.body steps.gets are.gets get inside in
     let relation = over named.0 named.1 in
-    let there : slice_get relations get.fragment ≡ Some relation.0 = ap (slice_get relations) named.2 ∙ relation.1 in (
-      shape_of relation.0,
-      map_at shape_of relations get.fragment relation.0 there,
-      allowed (shape_of relation.0) get.inputs (whole relation.0 (Contains-at relations get.fragment relation.0 there)) named.3,
-    )
+    let there : slice_get relations get.fragment ≡ Some relation.0 = ap (slice_get relations) named.2 ∙ relation.1 in
+    (named.3, (relation.0, there, whole relation.0 (Contains-at relations get.fragment relation.0 there)))
+
+pub takes_run : (relations : List StoredRows) (gets : List Get) → TakeWhole relations gets → AreRunnable (map shape_of relations) gets
+takes_run relations gets take get inside =
+    let own = take get inside in
+    let relation = own.1.0 in
+    (shape_of relation, map_at shape_of relations get.fragment relation own.1.1, allowed (shape_of relation) get.inputs own.1.2 own.0)
+
+-- ---- one get that filters nothing
+
+pub no_items : {X : Type 0} (items : List X) → length items ≡ 0 → items ≡ []
+no_items [] none = refl
+no_items (first ∷ rest) none = absurd (omega (arith, none))
+
+pub one_item : {X : Type 0} (items : List X) (item : X) → length items ≡ 1 → slice_get items 0 ≡ Some item → items ≡ item ∷ []
+one_item [] item one at = absurd (none-some item at)
+one_item (first ∷ rest) item one at =
+    let is : first ≡ item = same_Some first item at in let none : rest ≡ [] = no_items rest (omega (arith, one)) in λ i. is i ∷ none i
+
+-- the one get is what is read at its place
+pub read_get : (gets : List Get) (first : Get) → ((get : Get) × (gets ≡ get ∷ []) × (get.filters ≡ [])) → slice_get gets 0 ≡ Some first
+    → (gets ≡ first ∷ []) × (first.filters ≡ [])
+read_get gets first (get, is, filters) at =
+    let same : get ≡ first = same_Some get first (sym (ap (λ them. slice_get them 0) is) ∙ at) in
+    (is ∙ ap (λ it. it ∷ []) same, subst (λ (it : Get). it.filters ≡ []) same filters)
+
+module _ (relations : List StoredRows) (steps : Steps) (get : Get) (relation : StoredRows) (is : steps.gets ≡ get ∷ []) (inputs : get.inputs ≡ [])
+    (filters : get.filters ≡ []) (there : slice_get relations get.fragment ≡ Some relation) where
+  abbrev Holds : Fact ℕ → Type 0
+  Holds = IsRowOf (held_by (map (λ (stored : StoredRows). stored.rows.rows) relations))
+
+  rows_here : held_by (map (λ (stored : StoredRows). stored.rows.rows) relations) get.fragment ≡ relation.rows.rows
+  rows_here = get_or_from_slice_get (map (λ (stored : StoredRows). stored.rows.rows) relations) get.fragment relation.rows.rows []
+      (map_at (λ (stored : StoredRows). stored.rows.rows) relations get.fragment relation there)
+
+  follows : (row : List ℕ) → Follows get [] row
+  follows row = record {
+    inputs = λ link inside. absurd (Contains-nil link (subst (λ them. Contains them link) inputs inside));
+    filters = λ link inside. absurd (Contains-nil link (subst (λ them. Contains them link) filters inside));
+  }
+
+  -- the results are what the head names in the rows of the relation
+  pub plain_results : (row : List ℕ) → ((end : List ℕ) × Contains relation.rows.rows end × NamesCodes end steps.head row) ↔ IsResult Holds steps row
+  plain_results row = (
+    λ (end, inside, named). (
+      end,
+      subst (λ them. Leads Holds them [] end) (sym is) (end, subst (λ them. Contains them end) (sym rows_here) inside, follows end, refl),
+      named,
+    ),
+    λ (end, leads, named). let first = subst (λ them. Leads Holds them [] end) is leads in (
+      end,
+      subst (Contains relation.rows.rows) first.3 (subst (λ them. Contains them first.0) rows_here first.1),
+      named,
+    ),
+  )

@@ -43,6 +43,11 @@ pub record AreWholeSteps (texts : List (List ℕ)) (query : ConjunctiveQuery) (s
   pub gets : AreWholeGets texts [] query.body steps.gets
   pub head : AllZip (IsSource texts (terms_of query.body)) query.head steps.head
 
+-- Each of the gets takes all rows of one of the relations, which is asked as a whole.
+abbrev pub TakeWhole : List StoredRows → List Get → Type 0
+TakeWhole relations gets = (get : Get) → Contains gets get
+    → (get.inputs ≡ []) × ((relation : StoredRows) × (slice_get relations get.fragment ≡ Some relation) × (relation.ways ≡ [] ∷ []))
+
 -- The atom's relation is there, and each of its rows has as many codes as the atom has terms.
 abbrev pub IsOver : List StoredRows → Fact Term → Type 0
 IsOver relations atom = (relation : StoredRows) × (slice_get relations atom.relation ≡ Some relation) × HaveLength (length atom.terms) relation.rows.rows

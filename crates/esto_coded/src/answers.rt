@@ -1,21 +1,24 @@
 //! The answers of queries.
-ghost use Rattle.std.specs.Prelude.{◌≡◌, ℕ, List, length, Contains, IfOk};
+ghost use Rattle.std.specs.Prelude.{◌≡◌, ◌↔◌, ℕ, List, [], ◌∷◌, length, map, Contains, IsTrue, IfOk};
 ghost use Rattle.esto_columns.specs.Interned.{Grows};
 ghost use Rattle.esto_semantics.specs.Maps.{IsFixedBy};
 ghost use Rattle.esto_semantics.specs.declared.fact.Fact.{Fact};
+ghost use Rattle.esto_steps.specs.Meaning.{IsResult};
+ghost use Rattle.esto_steps.specs.Rows.{IsRowOf, held_by};
+ghost use Rattle.esto_steps.specs.declared.steps.Get.{Get};
 ghost use Rattle.esto_term.specs.declared.term.Term.{Term};
 ghost use Rattle.esto_term.specs.declared.term.Term.TheVariants.{Const};
 ghost use Rattle.esto_coded.specs.Answered.{AreCodedAnswers};
 ghost use Rattle.esto_coded.specs.Coded.{AreTelling, StandFor, arities_of};
 ghost use Rattle.esto_coded.specs.Relations.{AreWhole, coded_of};
-ghost use Rattle.esto_coded.specs.Whole.{AreWholeSteps, TellsOver, TellsAllOver};
+ghost use Rattle.esto_coded.specs.Whole.{AreWholeSteps, TakeWhole, TellsOver, TellsAllOver};
 
 use crate::coded::{CodedFacts, FIRST_NODE};
 use crate::steps::steps_of;
 use esto_columns::{Codes, Rows, StoredRows};
 use esto_exec::run_plan;
 use esto_semantics::Atom;
-use esto_steps::Steps;
+use esto_steps::{Steps, projected};
 use esto_term::{OutOfMemory, Term};
 use std::alloc::Global;
 
@@ -39,6 +42,28 @@ fn are_over(body: &[Atom], relations: &[StoredRows]) -> bool
         }
     }
     true
+}
+
+// Whether the steps have one get alone, which filters nothing.
+fn is_plain(steps: &Steps) -> bool
+    ensures { IsTrue result → (get : Get) × (steps.now.gets ≡ get ∷ []) × (get.filters ≡ []) }
+{
+    steps.gets.len() == 1 && steps.gets.item(0).filters.is_empty()
+}
+
+// The results of the steps over the relations. Of one get that filters nothing the rows are only projected, so that the same
+// row may come more than once.
+fn results(alloc: Global, steps: &Steps, relations: &[StoredRows]) -> Result<Rows, OutOfMemory>
+    requires { TakeWhole relations.now steps.now.gets }
+    ensures arity { IfOk result (λ it. it.arity ≡ length steps.now.head) }
+    ensures rows { IfOk result (λ it. (row : List ℕ) → Contains it.rows row
+        ↔ IsResult (IsRowOf (held_by (map (λ stored. stored.rows.rows) relations.now))) steps.now row) }
+{
+    if !is_plain(steps) {
+        return run_plan(alloc, steps, relations);
+    }
+    let number = steps.gets.item(0).fragment;
+    projected(alloc, &steps.head, &relations[number].rows)
 }
 
 // The answers of the query over the relations, by its steps. Where an atom is not over the relations there are none.
@@ -65,7 +90,7 @@ fn answers_by(
     if !are_over(body, relations) {
         return Rows::new(alloc, head.len());
     }
-    run_plan(alloc, steps, relations)
+    results(alloc, steps, relations)
 }
 
 // The answers of the query over the relations. Constants of the query get codes.
@@ -91,8 +116,8 @@ fn answers_over(
 }
 
 impl CodedFacts {
-    /// The answers of the query of that head and body over the facts, as rows of codes, in no stated order. Constants of the
-    /// query get codes. The executor joins the body's atoms in an order of its own.
+    /// The answers of the query of that head and body over the facts, as rows of codes, in no stated order, where the same row
+    /// may come more than once. Constants of the query get codes. The executor joins the body's atoms in an order of its own.
     pub fn answers(
         &mut self,
         alloc: Global,

@@ -8,7 +8,7 @@ use Rattle.esto_coded.specs.Answered.{AreCodedAnswers}
 use Rattle.esto_coded.specs.Relations.{coded_of}
 use Rattle.esto_coded.specs.declared.coded.TheConstants.{FIRST_NODE}
 use Rattle.esto_coded.proofs.AnswerLemmas.{no_answers, results_coded}
-use Rattle.esto_coded.proofs.WholeLemmas.{whole_steps_run}
+use Rattle.esto_coded.proofs.WholeLemmas.{take_whole}
 use Rattle.esto_coded.proofs.answers.answers_by.Goals as goal
 
 pub returns-then-not-are_over-clause-rows : goal.returns-then-not-are_over-clause-rows
@@ -20,22 +20,22 @@ returns-then-not-are_over-clause-rows c = let vain = c.if-not-are_over.ensures i
     (no_answers c.args.codes.now c.args.relations.now (record { head = c.args.head.now; body = c.args.body.now }) vain.0 vain.1 vain.2))
     c.new.ensures
 
-pub run_plan-requires : goal.run_plan-requires
-run_plan-requires c = whole_steps_run c.args.codes.now (record { head = c.args.head.now; body = c.args.body.now }) c.args.steps.now c.args.relations.now
+pub results-requires : goal.results-requires
+results-requires c = take_whole c.args.codes.now (record { head = c.args.head.now; body = c.args.body.now }) c.args.steps.now c.args.relations.now
     c.requires.whole c.if-not-are_over.ensures c.requires.steps
 
 pub returns-clause-arity : goal.returns-clause-arity
 returns-clause-arity c =
-    IfOk-weaker c.run_plan.result (λ (it : CodedRows). it.arity ≡ length c.args.steps.now.head) (λ (it : CodedRows). it.arity ≡ length c.args.head.now)
+    IfOk-weaker c.results.result (λ (it : CodedRows). it.arity ≡ length c.args.steps.now.head) (λ (it : CodedRows). it.arity ≡ length c.args.head.now)
     (λ it is. is ∙ sym (zip_length (IsSource c.args.codes.now (terms_of c.args.body.now)) c.args.head.now c.args.steps.now.head (c.requires.steps).head))
-    c.run_plan.ensures.arity
+    c.results.ensures.arity
 
 pub returns-clause-rows : goal.returns-clause-rows
 returns-clause-rows c =
     let count = c.len.ensures.count in
     let below = c.if-len-gt-FIRST_NODE.false in
     let few : length c.args.codes.now ≤ FIRST_NODE = omega (arith, count, below) in
-    IfOk-weaker c.run_plan.result _ _
+    IfOk-weaker c.results.result _ _
     (λ it told. results_coded c.args.codes.now c.args.relations.now (record { head = c.args.head.now; body = c.args.body.now }) c.args.steps.now it.rows
     (record { distinct = c.len.ensures.distinct; few = few }) c.requires.fixed c.if-not-are_over.ensures c.requires.steps told)
-    c.run_plan.ensures.rows
+    c.results.ensures.rows
