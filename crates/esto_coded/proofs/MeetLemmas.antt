@@ -1,28 +1,25 @@
 -- Whether facts meet a rule, by the codes of answers.
 use Rattle.std.proofs.Common.{◌≡◌, ◌↔◌, inl, inr, ℕ, Bool, true, false, cond, List, [], ◌∷◌, ◌++◌, map, length, get_or, Contains, refl, sym, ap, ◌∙◌}
 use Rattle.std.proofs.Common.{subst, arith, eqb, IsTrue, Result, Ok, Err}
-use Rattle.std.specs.List.{AllZip, filter}
+use Rattle.std.specs.List.{AllZip}
 use Rattle.std.specs.Cmp.Lexicographic.{pointwise}
 use Rattle.std.specs.Result.{IfOk}
 use Rattle.std.specs.Set.{is_member}
-use Rattle.std.proofs.lemmas.Bool.{and_parts}
 use Rattle.std.proofs.lemmas.Bool.Decides.{Decides-eqb}
 use Rattle.std.proofs.lemmas.List.Elements.{Contains-append_left, Contains-append_right, Contains-append_cases}
 use Rattle.std.proofs.lemmas.Slice.Eq.{slice_eq-Decides}
 use Rattle.esto_term.specs.Order.{same_term}
 use Rattle.esto_term.specs.declared.list.OutOfMemory.{OutOfMemory}
-use Rattle.esto_term.specs.declared.term.Term.{Term, out-Term}
+use Rattle.esto_term.specs.declared.term.Term.{Term}
 use Rattle.esto_term.specs.declared.term.Term.TheVariants.{Const}
-use Rattle.esto_term.proofs.ListLemmas.{Contains-nil, Contains-head, Contains-rest, Contains-cases, Contains-one, Contains-map, Contains-map_from, Contains-filter_from, agree-from_map, map_agree, place-from_Contains}
+use Rattle.esto_term.proofs.ListLemmas.{Contains-nil, Contains-head, Contains-rest, Contains-cases, Contains-one, Contains-map, Contains-map_from, agree-from_map, map_agree, place-from_Contains}
 use Rattle.esto_term.proofs.ZipLemmas.{zip_left}
 use Rattle.esto_semantics.specs.Facts.{image, Mentions, terms_of}
 use Rattle.esto_semantics.specs.Maps.{AgreeOn, IsFlat, IsFixedBy, Keeps, Sends}
 use Rattle.esto_semantics.specs.Rules.{Rule, IsMet, IsTupleRule, tuple, equality, denial}
 use Rattle.esto_semantics.specs.declared.fact.Fact.{Fact}
 use Rattle.esto_semantics.proofs.CanonicalLemmas.{Mentions-terms_of}
-use Rattle.esto_semantics.proofs.TermLemmas.{same_term-Decides}
-use Rattle.esto_chase_laws.specs.Making.{is_variable_of, is_variable_level, frontier}
-use Rattle.esto_chase_laws.proofs.JoinedLemmas.{joined_from}
+use Rattle.esto_chase_laws.specs.Making.{frontier}
 use Rattle.esto_chase_laws.proofs.MakingLemmas.{in_terms-Decides, terms_of-Mentions, frontier_body, frontier_has}
 use Rattle.esto_coded.specs.Answered.{IsCodedAnswer, AreCodedAnswers}
 use Rattle.esto_coded.specs.Coded.{Coded, IsCodeOf, AreCodesOf, AreTelling, StandFor}

@@ -1,7 +1,7 @@
 -- Equality rules whose body is two halves, each of which is the other under another naming of variables.
-use Rattle.std.proofs.Common.{◌≡◌, ◌≢◌, ◌↔◌, ◌⊎◌, inl, inr, ℕ, zero, suc, ◌+◌, ◌<◌, ◌≤◌, Bool, true, false, cond, List, [], ◌∷◌, ◌++◌, map, length, get_or, take, drop, Some, slice_get, Contains}
+use Rattle.std.proofs.Common.{◌≡◌, ◌≢◌, ◌↔◌, ◌⊎◌, inl, inr, ℕ, zero, suc, ◌+◌, ◌<◌, ◌≤◌, Bool, true, false, cond, List, [], ◌∷◌, ◌++◌, map, length, take, drop, Some, slice_get, Contains}
 use Rattle.std.proofs.Common.{refl, sym, ap, ◌∙◌, subst, arith, IsTrue, AllPairs}
-use Rattle.std.specs.List.{AllZip, filter}
+use Rattle.std.specs.List.{filter}
 use Rattle.std.specs.Set.{is_member}
 use Rattle.std.proofs.lemmas.Bool.{cases_order, false≢true, and_parts}
 use Rattle.std.proofs.lemmas.List.{map-append, length-map, take-append-drop}
@@ -9,12 +9,12 @@ use Rattle.std.proofs.lemmas.List.Elements.{Contains-append_left, Contains-appen
 use Rattle.std.proofs.lemmas.Option.{same_Some, slice_get_within}
 use Rattle.esto_term.specs.Order.{same_term}
 use Rattle.esto_term.specs.declared.term.Term.{Term, out-Term}
-use Rattle.esto_term.specs.declared.term.Term.TheVariants.{Const, Plain}
-use Rattle.esto_term.proofs.ListLemmas.{Contains-nil, Contains-head, Contains-rest, Contains-cases, Contains-map, Contains-at, Contains-filter_from, map_agree, map_at, map_then, map_itself, place-from_Contains, agree-from_map, each_seen}
+use Rattle.esto_term.specs.declared.term.Term.TheVariants.{Const}
+use Rattle.esto_term.proofs.ListLemmas.{Contains-nil, Contains-head, Contains-rest, Contains-cases, Contains-map, Contains-filter_from, map_agree, map_at, map_then, map_itself, place-from_Contains, agree-from_map, each_seen}
 use Rattle.esto_term.proofs.PlaceLemmas.{take-there}
 use Rattle.esto_semantics.specs.Facts.{image, Mentions, terms_of}
-use Rattle.esto_semantics.specs.Maps.{IsConstant, IsFlat, AreFlat, IsFixedBy, Keeps, Sends}
-use Rattle.esto_semantics.specs.Rules.{IsMet, equality}
+use Rattle.esto_semantics.specs.Maps.{IsConstant, AreFlat, IsFixedBy, Keeps, Sends}
+use Rattle.esto_semantics.specs.Rules.{IsEqualityRule, IsMet, equality}
 use Rattle.esto_semantics.specs.declared.fact.Fact.{Fact}
 use Rattle.esto_semantics.proofs.FactLemmas.{Mentions-sent}
 use Rattle.esto_semantics.proofs.TermLemmas.{same_term-Decides}
@@ -24,7 +24,7 @@ use Rattle.esto_chase_laws.specs.Making.{is_variable_of, is_variable_level, fron
 use Rattle.esto_chase_laws.proofs.JoinedLemmas.{joined_from}
 use Rattle.esto_chase_laws.proofs.MakingLemmas.{frontier_body, frontier_has}
 use Rattle.esto_coded.specs.Answered.{AreCodedAnswers}
-use Rattle.esto_coded.specs.Coded.{Coded, IsCodeOf, AreCodesOf, AreTelling, StandFor}
+use Rattle.esto_coded.specs.Coded.{Coded, IsCodeOf, AreCodesOf, AreTelling}
 use Rattle.esto_coded.specs.Met.{StaysFor, AnswersWhether}
 use Rattle.esto_coded.specs.Mirrored.{renamed, GoesOver, IsMirrored, IsContrary, HasNoContrary, AreTold}
 use Rattle.esto_coded.proofs.MeetLemmas.{HaveTexts, answer_row, joint, joint_body, joint_other, one_terms, whether_before}
@@ -348,3 +348,20 @@ front_flat first second body is flat term (atom, inside, among) =
 
 pub parts : (body first second : List (Fact Term)) (half : ℕ) → first ≡ take half body → second ≡ drop half body → first ++ second ≡ body
 parts body first second half front back = (λ i. front i ++ back i) ∙ take-append-drop half body
+
+-- ---- the sides turned
+
+pub turned_rule : (body : List (Fact Term)) (left right : Term) → IsEqualityRule body left right → IsEqualityRule body right left
+turned_rule body left right is = record {
+  has_body = is.has_body;
+  flat_body = is.flat_body;
+  left_fixed = is.right_fixed;
+  right_fixed = is.left_fixed;
+}
+
+pub turned_answer : (coded : Coded) (body : List (Fact Term)) (left right : Term) (answer : Bool) → AnswersWhether coded (equality body left right) answer
+    → AnswersWhether coded (equality body right left) answer
+turned_answer coded body left right answer whether facts stand = (
+  λ yes m keeps sends. sym ((whether facts stand).0 yes m keeps sends),
+  λ met. (whether facts stand).1 (λ m keeps sends. sym (met m keeps sends)),
+)

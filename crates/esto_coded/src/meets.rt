@@ -18,7 +18,7 @@ use crate::same::is_part;
 use esto_columns::Rows;
 use esto_constraint::{Constraint, frontier_of};
 use esto_semantics::Atom;
-use esto_term::{List, OutOfMemory, Replicate, Term, Terms};
+use esto_term::{List, OutOfMemory, Replicate, Term, Terms, has_term};
 use std::alloc::Global;
 
 /// Both terms, in order.
@@ -109,7 +109,7 @@ impl CodedFacts {
     }
 
     /// Whether the facts meet the equality rule of the body and the two sides. A mirrored body is asked for one half alone.
-    fn meets_equality(
+    fn meets_halves(
         &mut self,
         alloc: Global,
         body: &[Atom],
@@ -126,6 +126,26 @@ impl CodedFacts {
             return self.meets_mirrored(alloc, first, left, &shared);
         }
         self.meets_sides(alloc, body, left, right)
+    }
+
+    /// The same, with the sides turned where the left one is not in the first half.
+    fn meets_equality(
+        &mut self,
+        alloc: Global,
+        body: &[Atom],
+        left: &Term,
+        right: &Term,
+    ) -> Result<bool, OutOfMemory>
+        requires { IsEqualityRule body.now left.now right.now }
+        ensures stays { StaysFor self.old self.new }
+        ensures met { IfOk result (AnswersWhether self.old (equality body.now left.now right.now)) }
+    {
+        let (first, _) = body.split_at(body.len() / 2);
+        let own = frontier_of(alloc, first, first)?;
+        if has_term(own.items(), left) {
+            return self.meets_halves(alloc, body, left, right);
+        }
+        self.meets_halves(alloc, body, right, left)
     }
 
     /// Whether each of the rows stands for an answer of the query of that head and body.

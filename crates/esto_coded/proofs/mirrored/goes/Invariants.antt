@@ -1,4 +1,4 @@
-use Rattle.std.proofs.Common.{◌≡◌, drop, length}
+use Rattle.std.proofs.Common.{◌≡◌, drop}
 use Rattle.esto_coded.specs.Mirrored.{renamed}
 use Rattle.esto_coded.proofs.mirrored.goes.Given as goal
 

@@ -1,8 +1,8 @@
-use Rattle.std.proofs.Common.{◌≡◌, ◌+◌, ◌-◌, List, map, drop, length, get_or, sym, ap, subst, ◌∙◌, arith}
+use Rattle.std.proofs.Common.{◌≡◌, ◌+◌, ◌-◌, map, drop, length, get_or, sym, ap, subst, ◌∙◌, arith}
 use Rattle.std.proofs.lemmas.Bool.{false≢true}
 use Rattle.esto_columns.specs.Indexed.{LeadsOn, bucket_of}
 use Rattle.esto_coded.specs.Mirrored.{IsContrary}
-use Rattle.esto_coded.proofs.SameLemmas.{is_so, is_not}
+use Rattle.esto_coded.proofs.SameLemmas.{is_not}
 use Rattle.esto_coded.proofs.MirrorLemmas.{walk_start, walk_there, walk_on, walk_end}
 use Rattle.esto_coded.proofs.mirrored.has_contrary.Goals as goal
 

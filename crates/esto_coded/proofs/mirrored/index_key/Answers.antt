@@ -1,4 +1,3 @@
-use Rattle.std.proofs.Common.{◌∙◌, ap, drop}
 use Rattle.std.proofs.lemmas.Result.{on_ok_weaker}
 use Rattle.esto_coded.proofs.MirrorLemmas.{keys_more}
 use Rattle.esto_coded.proofs.mirrored.index_key.Goals as goal

@@ -1,32 +1,10 @@
-use Rattle.std.proofs.Common.{◌≡◌, ◌++◌, ◌/◌, List, length, subst}
 use Rattle.std.proofs.lemmas.Result.{IfOk-weaker}
-use Rattle.esto_term.specs.declared.term.Term.{Term}
-use Rattle.esto_semantics.specs.Rules.{equality}
-use Rattle.esto_semantics.specs.declared.fact.Fact.{Fact}
-use Rattle.esto_coded.specs.Met.{AnswersWhether}
-use Rattle.esto_coded.specs.Mirrored.{IsMirrored}
-use Rattle.esto_coded.proofs.MirrorLemmas.{front_flat, head_fixed, parts}
+use Rattle.esto_coded.proofs.MirrorLemmas.{turned_rule, turned_answer}
 use Rattle.esto_coded.proofs.coded.CodedFacts.meets_equality.Goals as goal
 
-pub are_mirrored-requires-clause-flat : goal.are_mirrored-requires-clause-flat
-are_mirrored-requires-clause-flat c =
-    front_flat c.split_at.result.0.now c.split_at.result.1.now c.args.body.now
-    (parts c.args.body.now c.split_at.result.0.now c.split_at.result.1.now (length c.args.body.now / 2) c.split_at.ensures.front c.split_at.ensures.back)
-    c.requires.flat_body
+pub meets_halves-requires-2 : goal.meets_halves-requires-2
+meets_halves-requires-2 c = turned_rule c.args.body.now c.args.left.now c.args.right.now c.requires
 
-pub meets_mirrored-requires : goal.meets_mirrored-requires
-meets_mirrored-requires c =
-    head_fixed c.split_at.result.0.now c.split_at.result.1.now c.args.left.now c.args.right.now c.in_ok-shared.shared
-    (subst (IsMirrored c.split_at.result.0.now c.split_at.result.1.now c.args.left.now c.args.right.now) c.items.ensures
-    (c.in_ok-are_mirrored.ensures c.if-branch.true))
-
-pub returns-then-branch-clause-met : goal.returns-then-branch-clause-met
-returns-then-branch-clause-met c =
-    let both : c.split_at.result.0.now ++ c.split_at.result.1.now ≡ c.args.body.now =
-    parts c.args.body.now c.split_at.result.0.now c.split_at.result.1.now (length c.args.body.now / 2) c.split_at.ensures.front c.split_at.ensures.back in
-    IfOk-weaker c.meets_mirrored.result _ _
-    (λ answer whether. subst (λ (body : List (Fact Term)). AnswersWhether c.args.self.now (equality body c.args.left.now c.args.right.now) answer) both
-    (whether c.split_at.result.1.now c.args.right.now
-    (subst (IsMirrored c.split_at.result.0.now c.split_at.result.1.now c.args.left.now c.args.right.now) c.items.ensures
-    (c.in_ok-are_mirrored.ensures c.if-branch.true))))
-    c.meets_mirrored.ensures.met
+pub returns-clause-met : goal.returns-clause-met
+returns-clause-met c =
+    IfOk-weaker c.meets_halves-2.result _ _ (turned_answer c.args.self.now c.args.body.now c.args.right.now c.args.left.now) c.meets_halves-2.ensures.met
