@@ -4,13 +4,13 @@ use Rattle.std.proofs.Common.{refl, sym, ap, ◌∙◌, subst, arith, IsTrue, Al
 use Rattle.std.specs.List.{filter}
 use Rattle.std.specs.Set.{is_member}
 use Rattle.std.proofs.lemmas.Bool.{cases_order, false≢true, and_parts}
-use Rattle.std.proofs.lemmas.List.{map-append, length-map, take-append-drop}
+use Rattle.std.proofs.lemmas.List.{map-append, length-map, take_all, take-append-drop}
 use Rattle.std.proofs.lemmas.List.Elements.{Contains-append_left, Contains-append_right, Contains-append_cases, Contains-push_cases}
 use Rattle.std.proofs.lemmas.Option.{same_Some, slice_get_within}
 use Rattle.esto_term.specs.Order.{same_term}
 use Rattle.esto_term.specs.declared.term.Term.{Term, out-Term}
 use Rattle.esto_term.specs.declared.term.Term.TheVariants.{Const}
-use Rattle.esto_term.proofs.ListLemmas.{Contains-nil, Contains-head, Contains-rest, Contains-cases, Contains-map, Contains-filter_from, map_agree, map_at, map_then, map_itself, place-from_Contains, agree-from_map, each_seen}
+use Rattle.esto_term.proofs.ListLemmas.{Contains-nil, Contains-head, Contains-rest, Contains-cases, Contains-map, Contains-filter_from, map_agree, map_at, map_then, map_itself, place-from_Contains, agree-from_map, at_left, thing_at, Contains-at}
 use Rattle.esto_term.proofs.PlaceLemmas.{take-there}
 use Rattle.esto_semantics.specs.Facts.{image, Mentions, terms_of}
 use Rattle.esto_semantics.specs.Maps.{IsConstant, AreFlat, IsFixedBy, Keeps, Sends}
@@ -26,7 +26,7 @@ use Rattle.esto_chase_laws.proofs.MakingLemmas.{frontier_body, frontier_has}
 use Rattle.esto_coded.specs.Answered.{AreCodedAnswers}
 use Rattle.esto_coded.specs.Coded.{Coded, IsCodeOf, AreCodesOf, AreTelling}
 use Rattle.esto_coded.specs.Met.{StaysFor, AnswersWhether}
-use Rattle.esto_coded.specs.Mirrored.{renamed, GoesOver, IsMirrored, IsContrary, HasNoContrary, AreTold}
+use Rattle.esto_coded.specs.Mirrored.{renamed, GoesOver, IsMirrored, IsContrary, HasNoContrary, AreTold, ShowsApart}
 use Rattle.esto_coded.proofs.MeetLemmas.{HaveTexts, answer_row, joint, joint_body, joint_other, one_terms, whether_before}
 use Rattle.esto_coded.proofs.StandLemmas.{one_term, one_code}
 
@@ -156,19 +156,58 @@ module _ (rows : List (List ℕ)) (row : List ℕ) (count : ℕ) where
 
 -- ---- rows that are told
 
--- one more row
-pub told_more : (rows : List (List ℕ)) (at : ℕ) (row given : List ℕ) (answer : Bool) → slice_get rows at ≡ Some row → given ≡ row → answer ≡ false
-    → IsTrue answer ↔ ((more : List ℕ) × Contains rows more × IsContrary given more)
-    → ((other : List ℕ) → Contains (take at rows) other → HasNoContrary rows other) → (other : List ℕ) → Contains (take (at + 1) rows) other
-    → HasNoContrary rows other
-told_more rows at row given answer there same is told before other inside more within contrary =
-    elim (Contains-push_cases (take at rows) row other (subst (λ them. Contains them other) (take-there rows at row there) inside)) [
-      | inl early ↦ before other early more within contrary
-      | inr here ↦ false≢true (sym is ∙ told.1 (more, within, subst (λ it. IsContrary it more) (sym (same ∙ here)) contrary))
-    ]
+contrary_turned : (row other : List ℕ) → IsContrary row other → IsContrary other row
+contrary_turned [] other contrary = absurd contrary
+contrary_turned (code ∷ key) [] contrary = absurd contrary
+contrary_turned (code ∷ key) (more ∷ rest) contrary = (λ is. contrary.0 (sym is), sym contrary.1)
 
-pub told_all : (rows : List (List ℕ)) (at : ℕ) → length rows ≤ at → ((other : List ℕ) → Contains (take at rows) other → HasNoContrary rows other) → AreTold rows
-told_all rows at past before = each_seen (HasNoContrary rows) rows at past before
+contrary_other : (row : List ℕ) → IsContrary row row → ⊥
+contrary_other [] contrary = contrary
+contrary_other (code ∷ key) contrary = contrary.0 refl
+
+-- one more row, with none contrary before it
+told_pushed : (rows : List (List ℕ)) (row : List ℕ) → AreTold rows → HasNoContrary rows row → AreTold (rows ++ row ∷ [])
+told_pushed rows row told none one inside other within contrary = elim (Contains-push_cases rows row one inside) [
+  | inl early ↦ elim (Contains-push_cases rows row other within) [
+    | inl also ↦ told one early other also contrary
+    | inr here ↦ none one early (contrary_turned one row (subst (IsContrary one) (sym here) contrary))
+  ]
+  | inr here ↦ elim (Contains-push_cases rows row other within) [
+    | inl also ↦ none other also (subst (λ it. IsContrary it other) (sym here) contrary)
+    | inr both ↦ contrary_other row (subst (IsContrary row) (sym both) (subst (λ it. IsContrary it other) (sym here) contrary))
+  ]
+]
+
+-- a row before the place, in both lists
+pub taken_there : (rows : List (List ℕ)) (at place : ℕ) → place < length (take at rows)
+    → (row : List ℕ) × (slice_get (take at rows) place ≡ Some row) × (slice_get rows place ≡ Some row)
+taken_there rows at place within =
+    let found = thing_at (take at rows) place within in
+    (found.0, found.1, subst (λ them. slice_get them place ≡ Some found.0) (take-append-drop at rows) (at_left (take at rows) (drop at rows) place found.0 found.1))
+
+pub below_all : (rows : List (List ℕ)) (at place : ℕ) → place < length (take at rows) → place < length rows
+below_all rows at place within = let found = taken_there rows at place within in slice_get_within rows place found.0 found.2
+
+pub taken_same : (rows : List (List ℕ)) (at place : ℕ) (row : List ℕ) → place < length (take at rows) → slice_get rows place ≡ Some row
+    → slice_get (take at rows) place ≡ Some row
+taken_same rows at place row within there =
+    let found = taken_there rows at place within in found.1 ∙ ap Some (same_Some found.0 row (sym found.2 ∙ there))
+
+pub shows_apart : (rows : List (List ℕ)) (at : ℕ) (row given : List ℕ) (answer : Bool) → slice_get rows at ≡ Some row → given ≡ row
+    → IsTrue answer ↔ ((more : List ℕ) × Contains (take at rows) more × IsContrary given more) → AreTold (take at rows) → ShowsApart rows at answer
+shows_apart rows at row given true there same told before = λ all.
+    let found = told.0 refl in
+    let early = place-from_Contains (take at rows) found.0 found.1 in
+    let whole = taken_there rows at early.0 (slice_get_within (take at rows) early.0 found.0 early.1) in
+    let is : whole.0 ≡ found.0 = same_Some whole.0 found.0 (sym whole.1 ∙ early.1) in
+    all row (Contains-at rows at row there) found.0 (subst (Contains rows) is (Contains-at rows early.0 whole.0 whole.2))
+    (subst (λ it. IsContrary it found.0) same found.2)
+shows_apart rows at row given false there same told before =
+    subst AreTold (sym (take-there rows at row there)) (told_pushed (take at rows) row before
+    (λ more inside contrary. false≢true (told.1 (more, inside, subst (λ it. IsContrary it more) (sym same) contrary))))
+
+pub told_all : (rows : List (List ℕ)) (at : ℕ) → length rows ≤ at → AreTold (take at rows) → AreTold rows
+told_all rows at past before = subst AreTold (take_all at rows past) before
 
 -- ---- whether facts meet the rule
 

@@ -1,11 +1,11 @@
 //! Equality rules whose body is two halves, each of which is the other under another naming of variables. Whether facts
 //! meet such a rule is told by the matches of one half: those that agree on the shared variables agree on the side.
-ghost use Rattle.std.specs.Prelude.{◌≡◌, ◌↔◌, ◌+◌, ◌<◌, ◌∷◌, ℕ, List, length, take, drop, map, IsTrue, IfOk, OnOk, Contains};
+ghost use Rattle.std.specs.Prelude.{◌≡◌, ◌↔◌, ◌+◌, ◌<◌, [], ◌∷◌, ℕ, List, length, take, drop, map, IsTrue, IfOk, Contains};
 ghost use Rattle.esto_columns.specs.Indexed.{IsIndexOf};
 ghost use Rattle.esto_chase_laws.specs.Making.{frontier};
 ghost use Rattle.esto_semantics.specs.Facts.{image};
 ghost use Rattle.esto_semantics.specs.Maps.{AreFlat};
-ghost use Rattle.esto_coded.specs.Mirrored.{renamed, IsMirrored, IsContrary, HasNoContrary, AreTold};
+ghost use Rattle.esto_coded.specs.Mirrored.{renamed, IsMirrored, IsContrary, AreTold, ShowsApart};
 
 use esto_columns::{Index, Rows};
 use esto_constraint::frontier_of;
@@ -159,49 +159,37 @@ fn is_contrary(row: &[u64], other: &[u64]) -> bool
     *code != *more && key == rest
 }
 
-// Puts the row at the place into the index of the keys before it. The row is read into the list.
-fn index_key(
-    rows: &Rows,
-    at: usize,
-    row: &mut Values<u64>,
-    index: &mut Index,
-) -> Result<(), OutOfMemory>
-    requires there { at < length rows.now.rows }
-    requires own { IsIndexOf index.old (map (drop 1) (take at rows.now.rows)) }
-    ensures { OnOk result (IsIndexOf index.new (map (drop 1) (take (at + 1) rows.now.rows))) }
+// Whether the two rows are the same.
+fn is_same(row: &[u64], other: &[u64]) -> bool
+    ensures { IsTrue result ↔ (row.now ≡ other.now) }
 {
-    rows.read_row(at, row)?;
-    index.add(key_of(row.items()))
+    row == other
 }
 
-// The index of the rows by their codes after the first.
-fn index_keys(alloc: Global, rows: &Rows) -> Result<Index, OutOfMemory>
-    ensures { IfOk result (λ it. IsIndexOf it (map (drop 1) rows.now.rows)) }
-{
-    let mut index = Index::new(alloc, rows.len())?;
-    let mut row = Values::new(alloc);
-    'rows: for at in 0..rows.len() {
-        index_key(rows, at, &mut row, &mut index)?;
-    }
-    Ok(index)
-}
-
-// Whether one of the rows has the same codes as the row but for the first, by the index: only those of its bucket are
-// looked at. They are read into the list.
+// Whether one of the rows before the place has the same codes as the row but for the first, by the index of these: only
+// those of its bucket are looked at, and none after the row itself. They are read into the list.
 fn has_contrary(
     rows: &Rows,
+    at: usize,
     index: &Index,
     row: &[u64],
     other: &mut Values<u64>,
 ) -> Result<bool, OutOfMemory>
-    requires { IsIndexOf index.now (map (drop 1) rows.now.rows) }
+    requires own { IsIndexOf index.now (map (drop 1) (take at rows.now.rows)) }
+    requires told { AreTold (take at rows.now.rows) }
     ensures { IfOk result (λ it. IsTrue it
-        ↔ ((more : List ℕ) × Contains rows.now.rows more × IsContrary row.now more)) }
+        ↔ ((more : List ℕ) × Contains (take at rows.now.rows) more × IsContrary row.now more)) }
 {
+    if at == 0 {
+        return Ok(false);
+    }
     let mut next = index.last_of(key_of(row));
     'places: while next > 0 {
         let place = next - 1;
         rows.read_row(place, other)?;
+        if is_same(row, other.items()) {
+            return Ok(false);
+        }
         if is_contrary(row, other.items()) {
             return Ok(true);
         }
@@ -210,16 +198,36 @@ fn has_contrary(
     Ok(false)
 }
 
-// Whether in each of the rows the codes after the first tell the first, by the index.
-fn are_told_by(alloc: Global, rows: &Rows, index: &Index) -> Result<bool, OutOfMemory>
-    requires { IsIndexOf index.now (map (drop 1) rows.now.rows) }
+// Whether the row at the place shows that the rows are not told, and puts it into the index of the rows before it. Rows
+// are read into the two lists.
+fn is_apart(
+    rows: &Rows,
+    at: usize,
+    index: &mut Index,
+    row: &mut Values<u64>,
+    other: &mut Values<u64>,
+) -> Result<bool, OutOfMemory>
+    requires there { at < length rows.now.rows }
+    requires own { IsIndexOf index.old (map (drop 1) (take at rows.now.rows)) }
+    requires told { AreTold (take at rows.now.rows) }
+    ensures own { IfOk result (λ _. IsIndexOf index.new (map (drop 1) (take (at + 1) rows.now.rows))) }
+    ensures apart { IfOk result (ShowsApart rows.now.rows at) }
+{
+    rows.read_row(at, row)?;
+    let apart = has_contrary(rows, at, index, row.items(), other)?;
+    index.add(key_of(row.items()))?;
+    Ok(apart)
+}
+
+// Whether in each of the rows the codes after the first tell the first. The index is empty before.
+fn are_told_by(alloc: Global, rows: &Rows, index: &mut Index) -> Result<bool, OutOfMemory>
+    requires { IsIndexOf index.old [] }
     ensures { IfOk result (λ it. IsTrue it ↔ AreTold rows.now.rows) }
 {
     let mut row = Values::new(alloc);
     let mut other = Values::new(alloc);
     'rows: for at in 0..rows.len() {
-        rows.read_row(at, &mut row)?;
-        if has_contrary(rows, index, row.items(), &mut other)? {
+        if is_apart(rows, at, index, &mut row, &mut other)? {
             return Ok(false);
         }
     }
@@ -230,7 +238,7 @@ fn are_told_by(alloc: Global, rows: &Rows, index: &Index) -> Result<bool, OutOfM
 pub(crate) fn are_told(alloc: Global, rows: &Rows) -> Result<bool, OutOfMemory>
     ensures { IfOk result (λ it. IsTrue it ↔ AreTold rows.now.rows) }
 {
-    let index = index_keys(alloc, rows)?;
-    let told = are_told_by(alloc, rows, &index)?;
+    let mut index = Index::new(alloc, rows.len())?;
+    let told = are_told_by(alloc, rows, &mut index)?;
     Ok(told)
 }

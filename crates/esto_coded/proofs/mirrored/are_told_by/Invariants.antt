@@ -1,6 +1,7 @@
-use Rattle.std.proofs.Common.{ℕ, List, take, Contains}
-use Rattle.esto_coded.specs.Mirrored.{HasNoContrary}
+use Rattle.std.proofs.Common.{map, take, drop}
+use Rattle.esto_columns.specs.Indexed.{IsIndexOf}
+use Rattle.esto_coded.specs.Mirrored.{AreTold}
 use Rattle.esto_coded.proofs.mirrored.are_told_by.Given as goal
 
 abbrev pub invariant-rows : goal.invariant-rows
-invariant-rows l = (row : List ℕ) → Contains (take l.at l.rows.rows) row → HasNoContrary l.rows.rows row
+invariant-rows l = IsIndexOf l.index (map (drop 1) (take l.at l.rows.rows)) × AreTold (take l.at l.rows.rows)
