@@ -1,7 +1,10 @@
 pub mod StepLemmas
 pub mod DatasetLemmas
 pub mod WantedLemmas
+pub mod CodedLemmas
 pub mod RowLemmas
+pub mod KeptLemmas
+pub mod CompareLemmas
 pub mod FindLemmas
 pub mod AlikeLemmas
 pub mod LoadLemmas

@@ -1,39 +1,41 @@
 -- The rows of the files of all fragments, opened one after the other.
 use Rattle.std.proofs.Common.{◌≡◌, ◌≢◌, ◌↔◌, ◌<◌, ◌≤◌, ◌+◌, ◌==◌, ℕ, zero, suc, false, List, [], ◌∷◌, ◌++◌, length, length-append, get_or, slice_get, Contains}
 use Rattle.std.proofs.Common.{Option, Some, Result, Ok, Err, refl, sym, ap, subst, ◌∙◌, arith, inl, inr}
+use Rattle.std.specs.Prelude.{OnOk}
 use Rattle.std.specs.Result.{IsErrAnd}
 use Rattle.std.proofs.lemmas.Bool.Decides.{nat_tests}
 use Rattle.std.proofs.lemmas.List.FromFn.{length-range_with_len, get_or-range_with_len}
 use Rattle.std.proofs.lemmas.Option.{same_Some, slice_get_within}
 use Rattle.esto_catalog.specs.declared.catalogue.Catalogue.{Catalogue}
 use Rattle.esto_catalog.specs.declared.catalogue.Store.{Store}
+use Rattle.esto_columns.specs.CodedRows.{CodedRows}
 use Rattle.esto_course.specs.Course.{Names, Stops, judges, gives}
 use Rattle.esto_course.specs.Course.Stops.{refused}
 use Rattle.esto_course.proofs.Asking.{quiet_judges}
 use Rattle.esto_course.proofs.Steps.{first_stops, then_goes, gives_goes}
+use Rattle.esto_fill.specs.Coding.{AreCodedLists}
 use Rattle.esto_steps.specs.Rows.{IsRowOf, held_by}
 use Rattle.esto_ports.specs.Files.{Files}
 use Rattle.esto_ports.specs.declared.file_fault.FileError.{FileError}
 use Rattle.esto_ports.specs.declared.file_fault.FileError.TheVariants.{Fault}
 use Rattle.esto_ports.specs.declared.file_fault.FileFault.{FileFault}
-use Rattle.esto_run.specs.Stores.{GivesRows, IsFileRow, IsRowIn, first_fault_in}
+use Rattle.esto_run.specs.Stores.{GivesRows, IsFileRow, IsRowIn}
 use Rattle.esto_semantics.specs.declared.fact.Fact.{Fact}
 use Rattle.esto_stores.specs.Rows.{Row}
 use Rattle.esto_term.proofs.ListLemmas.{Contains-nil, at_pushed, thing_at}
-use Rattle.esto_views.specs.declared.fragments.FragmentDef.{FragmentDef}
-use Rattle.esto_opening.specs.Answers.{IsWant, IsCaused}
+use Rattle.esto_opening.specs.Answers.{Answers, IsWant, IsCaused}
 use Rattle.esto_opening.specs.Asked.{AsksIn}
 use Rattle.esto_opening.specs.Fetch.{fetches}
 use Rattle.esto_fragments.specs.Fragments.{Stored, IsStoredAt, content_fault, reads_content, opens_fragment, no_contents, with_content, opens_next}
 use Rattle.esto_fragments.specs.Fragments.{opens_fragments}
 use Rattle.esto_opening.specs.declared.opening.TheConstants.{DATA_LIMIT}
 use Rattle.esto_opening.specs.declared.status.Status.{Status}
-use Rattle.esto_opening.specs.declared.status.Status.TheVariants.{BadFragment, OutOfMemory}
+use Rattle.esto_opening.specs.declared.status.Status.TheVariants.{BadFragment}
 use Rattle.esto_opening.proofs.AskedSteps.{exit_asks}
 use Rattle.esto_opening.proofs.FileSteps.{opened_asks, opened_goes, unfetched_asks, unfetched_stops, unread_asks, unread_stops}
-use Rattle.esto_fragments.proofs.FragmentLemmas.{next_way, content_there}
-use Rattle.esto_opening.proofs.LoopSteps.{IsAlong, along_end_asks, along_ends, along_goes, along_starts, along_stop_asks, along_stops, along_wants, kept_asks}
-use Rattle.esto_data.specs.Audit.{OpensNextRows, OpensRows, ReadsRows, all_fragments}
+use Rattle.esto_fragments.proofs.FragmentLemmas.{content_there}
+use Rattle.esto_opening.proofs.LoopSteps.{IsAlong, along_end_asks, along_ends, along_goes, along_starts, along_stop_asks, along_stops, kept_asks}
+use Rattle.esto_data.specs.Audit.{AddsRows, OpensNextRows, OpensRows, ReadsRows, all_fragments}
 
 -- ---- the content of one file
 
@@ -53,62 +55,53 @@ pub fault_given : (Has : Row → Type 0) (found : Option FileFault) (error : Fil
     → GivesRows Has found (Err error) → found ≡ Some fault
 fault_given Has found error fault is gives = subst (λ (it : FileError). GivesRows Has found (Err it)) is gives
 
--- the fragment and the store that were read are those of the number
-module _ (catalogue : Catalogue) (number : ℕ) (stored : Stored) (at : IsStoredAt catalogue number stored) (own : FragmentDef) (its : Store)
-    (there : slice_get catalogue.fragments number ≡ Some own) (store_there : slice_get catalogue.stores number ≡ Some its) (bytes same : List ℕ)
-    (is : same ≡ bytes) where
-  own_is : own ≡ stored.definition
-  own_is = same_Some own stored.definition (sym there ∙ at.definition)
+-- the bytes that were read are those of the file
+given_at : (stored : Stored) (bytes same : List ℕ) → same ≡ bytes → (result : Result (List Row) FileError)
+    → GivesRows (IsRowIn stored.store.shape same) (content_fault stored same) result
+    → GivesRows (IsRowIn stored.store.shape bytes) (content_fault stored bytes) result
+given_at stored bytes same is result gives =
+    subst (λ (it : List ℕ). GivesRows (IsRowIn stored.store.shape it) (content_fault stored it) result) is gives
 
-  its_is : its ≡ stored.store
-  its_is = same_Some its stored.store (sym store_there ∙ at.store)
+pub rows_read_at : (stored : Stored) (bytes same : List ℕ) → same ≡ bytes → (rows : List Row)
+    → GivesRows (IsRowIn stored.store.shape same) (content_fault stored same) (Ok rows) → ReadsRows stored bytes (Ok rows)
+rows_read_at stored bytes same is rows gives = rows_read stored bytes rows (given_at stored bytes same is (Ok rows) gives)
 
-  given_at : (result : Result (List Row) FileError) → GivesRows (IsRowIn its.shape same) (first_fault_in its.shape (length own.view.head) same) result
-      → GivesRows (IsRowIn stored.store.shape bytes) (content_fault stored bytes) result
-  given_at result gives =
-      subst (λ (it : List ℕ). GivesRows (IsRowIn stored.store.shape it) (content_fault stored it) result) is
-      (subst (λ (it : FragmentDef). GivesRows (IsRowIn stored.store.shape same) (first_fault_in stored.store.shape (length it.view.head) same) result) own_is
-      (subst (λ (it : Store). GivesRows (IsRowIn it.shape same) (first_fault_in it.shape (length own.view.head) same) result) its_is gives))
-
-  pub rows_read_at : (rows : List Row) → GivesRows (IsRowIn its.shape same) (first_fault_in its.shape (length own.view.head) same) (Ok rows)
-      → ReadsRows stored bytes (Ok rows)
-  rows_read_at rows gives = rows_read stored bytes rows (given_at (Ok rows) gives)
-
-  pub rows_refused_at : (error : FileError) (fault : FileFault) → error ≡ Fault fault
-      → GivesRows (IsRowIn its.shape same) (first_fault_in its.shape (length own.view.head) same) (Err error) → (name : List ℕ) → name ≡ own.name
-      → ReadsRows stored bytes (Err (BadFragment name fault))
-  rows_refused_at error fault error_is gives name name_is =
-      rows_refused stored bytes name fault
-      (fault_given (IsRowIn stored.store.shape bytes) (content_fault stored bytes) error fault error_is (given_at (Err error) gives))
-      (name_is ∙ ap (λ (it : FragmentDef). it.name) own_is)
+pub rows_refused_at : (stored : Stored) (bytes same : List ℕ) → same ≡ bytes → (error : FileError) (fault : FileFault) → error ≡ Fault fault
+    → GivesRows (IsRowIn stored.store.shape same) (content_fault stored same) (Err error) → (name : List ℕ) → name ≡ stored.definition.name
+    → ReadsRows stored bytes (Err (BadFragment name fault))
+rows_refused_at stored bytes same is error fault error_is gives name name_is =
+    rows_refused stored bytes name fault
+    (fault_given (IsRowIn stored.store.shape bytes) (content_fault stored bytes) error fault error_is (given_at stored bytes same is (Err error) gives)) name_is
 
 -- ---- one file
 
 module _ (files : Option Files) (catalogue : Catalogue) (number : ℕ) (stored : Stored) (at : IsStoredAt catalogue number stored) where
   -- an error that `?` hands on
-  pub rows_exit : {rose : Type 0} {before after : Option Names} (error : Status) (result : Result (List Row) Status)
-      → IsErrAnd result (λ handed. handed ≡ error) → Stops IsWant (IsCaused rose) (fetches files stored.store.file DATA_LIMIT) error
+  pub rows_exit : {rose : Type 0} {before after : Option Names} (texts more : List (List ℕ)) (old new : List CodedRows) (error : Status)
+      (result : Result (Unit {0}) Status) → IsErrAnd result (λ handed. handed ≡ error) → Stops IsWant (IsCaused rose) (fetches files stored.store.file DATA_LIMIT) error
       → AsksIn before after (fetches files stored.store.file DATA_LIMIT) (Err error)
-      → OpensNextRows files catalogue number rose before after result
-  rows_exit error (Ok _) handed stops asks = absurd handed
-  rows_exit error (Err handed_on) handed stops asks = rw handed (
+      → OpensNextRows files catalogue number texts more old new rose before after result
+  rows_exit texts more old new error (Ok _) handed stops asks = absurd handed
+  rows_exit texts more old new error (Err handed_on) handed stops asks = rw handed (
     unfetched_stops (IsStoredAt catalogue number) (λ it. it.store.file) DATA_LIMIT reads_content files stored at stops,
     unfetched_asks (IsStoredAt catalogue number) (λ it. it.store.file) DATA_LIMIT reads_content files stored at asks,
   )
 
   module _ (bytes : List ℕ) (fetched : (fetches files stored.store.file DATA_LIMIT).goes bytes) (before after : Option Names)
-      (asked : AsksIn before after (fetches files stored.store.file DATA_LIMIT) (Ok bytes)) where
+      (asked : AsksIn before after (fetches files stored.store.file DATA_LIMIT) (Ok bytes)) (texts more : List (List ℕ)) (old new : List CodedRows) where
     -- it is fetched and its content read
-    pub rows_by : (rose : Type 0) (result : Result (List Row) Status) → ReadsRows stored bytes result
-        → OpensNextRows files catalogue number rose before after result
-    rows_by rose (Ok rows) (good, are) = (
+    pub rows_by : (rose : Type 0) (result : Result (Unit {0}) Status) → Answers (reads_content stored bytes) ⊥ result
+        → OnOk result (AddsRows stored.store.shape bytes texts more old new)
+        → OpensNextRows files catalogue number texts more old new rose before after result
+    rows_by rose (Ok _) good adds = (
       bytes,
+      stored.store,
       opened_goes (IsStoredAt catalogue number) (λ it. it.store.file) DATA_LIMIT reads_content files stored at bytes fetched good,
-      (λ store there row. subst (λ (it : Store). Contains rows row ↔ IsRowIn it.shape bytes row) (same_Some stored.store store (sym at.store ∙ there))
-          (are row)),
+      at.store,
+      adds,
       opened_asks (IsStoredAt catalogue number) (λ it. it.store.file) DATA_LIMIT reads_content files stored at bytes (quiet_judges _ _) asked good,
     )
-    rows_by rose (Err refusal) stops = (
+    rows_by rose (Err refusal) stops adds = (
       unread_stops (IsStoredAt catalogue number) (λ it. it.store.file) DATA_LIMIT reads_content files stored at bytes fetched stops,
       unread_asks (IsStoredAt catalogue number) (λ it. it.store.file) DATA_LIMIT reads_content files stored at bytes (quiet_judges _ _) asked stops,
     )
@@ -116,11 +109,13 @@ module _ (files : Option Files) (catalogue : Catalogue) (number : ℕ) (stored :
 -- ---- all files
 
 -- of the first fragments, so many: the contents of their files, with which the course goes on, their rows, and the names that came to those that were asked for
-pub record SoFarRows (files : Option Files) (catalogue : Catalogue) (before : Option Names) (index : ℕ) (rows : List (List Row)) (now : Option Names)
-    : Type 0 where
+pub record SoFarRows (files : Option Files) (catalogue : Catalogue) (before : Option Names) (index : ℕ) (texts : List (List ℕ)) (lists : List CodedRows)
+    (now : Option Names) : Type 0 where
   pub contents : ℕ → List ℕ
   pub along : IsAlong (opens_next files catalogue) (all_fragments catalogue) (opens_fragments files catalogue (all_fragments catalogue)) before index contents
       now
+  pub rows : List (List Row)
+  pub coded : AreCodedLists texts lists rows
   pub long : length rows ≡ index
   pub are : (number : ℕ) (own : List Row) (store : Store) → slice_get rows number ≡ Some own → slice_get catalogue.stores number ≡ Some store
       → (row : Row) → Contains own row ↔ IsRowIn store.shape (contents number) row
@@ -129,23 +124,25 @@ pub elsewhere_than : (contents : ℕ → List ℕ) (number other : ℕ) (bytes :
 elsewhere_than contents number other bytes apart = let test : (other == number) ≡ false = grind (arith, nat_tests) in rw test refl
 
 -- a row that is held stands in the list at its number, and the other way round
-row_from : (rows : List (List Row)) (number : ℕ) (row : Row) → Contains (held_by rows number) row
+pub row_from : (rows : List (List Row)) (number : ℕ) (row : Row) → Contains (held_by rows number) row
     → (own : List Row) × (slice_get rows number ≡ Some own) × Contains own row
 row_from [] number row inside = absurd (Contains-nil row inside)
 row_from (own ∷ rows) zero row inside = (own, refl, inside)
 row_from (own ∷ rows) (suc number) row inside = row_from rows number row inside
 
-held_there : (rows : List (List Row)) (number : ℕ) (own : List Row) → slice_get rows number ≡ Some own → (row : Row) → Contains own row
+pub held_there : (rows : List (List Row)) (number : ℕ) (own : List Row) → slice_get rows number ≡ Some own → (row : Row) → Contains own row
     → Contains (held_by rows number) row
 held_there [] number own at row inside = absurd (cc)
 held_there (first ∷ rows) zero own at row inside = let is : first ≡ own = cc in subst (λ (it : List Row). Contains it row) (sym is) inside
 held_there (first ∷ rows) (suc number) own at row inside = held_there rows number own at row inside
 
 module _ (files : Option Files) (catalogue : Catalogue) (before : Option Names) where
-  pub rows_start : (rows : List (List Row)) → rows ≡ [] → SoFarRows files catalogue before 0 rows before
-  rows_start rows none = subst (λ (it : List (List Row)). SoFarRows files catalogue before 0 it before) (sym none) (record {
+  pub rows_start : (texts : List (List ℕ)) (lists : List CodedRows) → lists ≡ [] → SoFarRows files catalogue before 0 texts lists before
+  rows_start texts lists none = subst (λ (it : List CodedRows). SoFarRows files catalogue before 0 texts it before) (sym none) (record {
     contents = no_contents;
     along = along_starts (opens_next files catalogue) (all_fragments catalogue) no_contents before;
+    rows = [];
+    coded = tt;
     long = refl;
     are = λ number own store at. absurd (cc);
   })
@@ -156,8 +153,8 @@ module _ (files : Option Files) (catalogue : Catalogue) (before : Option Names) 
   counted : (index : ℕ) → index < length catalogue.fragments → index ≡ get_or (all_fragments catalogue) index index
   counted index below = let is = get_or-range_with_len 0 (length catalogue.fragments) index index below in omega (arith, is)
 
-  module _ (index : ℕ) (rows : List (List Row)) (now : Option Names) (so_far : SoFarRows files catalogue before index rows now)
-      (below : index < length catalogue.fragments) where
+  module _ (index : ℕ) (texts : List (List ℕ)) (lists : List CodedRows) (now : Option Names)
+      (so_far : SoFarRows files catalogue before index texts lists now) (below : index < length catalogue.fragments) where
     -- the file of one more is opened
     along_one : (bytes : List ℕ) → (opens_fragment files catalogue index).goes bytes → (later : Option Names)
         → AsksIn now later (opens_fragment files catalogue index) (Ok bytes)
@@ -170,45 +167,37 @@ module _ (files : Option Files) (catalogue : Catalogue) (before : Option Names) 
         (with_content so_far.contents index bytes) opens (gives_goes Status _ _ refl))
         (kept_asks (opens_fragment files catalogue index) (with_content so_far.contents index) bytes asked)
 
-    -- want of memory after it
-    pub rows_want : (bytes : List ℕ) → (opens_fragment files catalogue index).goes bytes → (later : Option Names)
-        → AsksIn now later (opens_fragment files catalogue index) (Ok bytes)
-        → AsksIn before later (opens_fragments files catalogue (all_fragments catalogue)) (Err OutOfMemory)
-    rows_want bytes opens later asked =
-        along_wants (opens_next files catalogue) (all_fragments catalogue) (opens_fragments files catalogue (all_fragments catalogue)) before (index + 1)
-        (with_content so_far.contents index bytes) later (along_one bytes opens later asked) (next_way files catalogue)
-
     -- one file more
-    pub rows_go : (more : List (List Row)) (own : List Row) (bytes : List ℕ) → more ≡ rows ++ own ∷ [] → (opens_fragment files catalogue index).goes bytes
-        → ((store : Store) → slice_get catalogue.stores index ≡ Some store → (row : Row) → Contains own row ↔ IsRowIn store.shape bytes row)
+    pub rows_go : (more : List (List ℕ)) (next : List CodedRows) (bytes : List ℕ) (store : Store) → (opens_fragment files catalogue index).goes bytes
+        → slice_get catalogue.stores index ≡ Some store → AddsRows store.shape bytes texts more lists next
         → (later : Option Names) → AsksIn now later (opens_fragment files catalogue index) (Ok bytes)
-        → SoFarRows files catalogue before (index + 1) more later
-    rows_go more own bytes pushed opens are later asked =
-        subst (λ (it : List (List Row)). SoFarRows files catalogue before (index + 1) it later) (sym pushed) (record {
+        → SoFarRows files catalogue before (index + 1) more next later
+    rows_go more next bytes store opens stored_in (own, are, adds) later asked =
+        record {
           contents = with_content so_far.contents index bytes;
           along = along_one bytes opens later asked;
-          long = longer;
-          are = λ number its store at there row. pushed_rows number its store at there row;
-        })
+          rows = so_far.rows ++ own ∷ [];
+          coded = adds so_far.rows so_far.coded;
+          long = length-append so_far.rows (own ∷ []) ∙ ap (λ (it : ℕ). it + 1) so_far.long;
+          are = added;
+        }
       where
-        longer : length (rows ++ own ∷ []) ≡ index + 1
-        longer = length-append rows (own ∷ []) ∙ ap (λ (it : ℕ). it + 1) so_far.long
-
-        pushed_rows : (number : ℕ) (its : List Row) (store : Store) → slice_get (rows ++ own ∷ []) number ≡ Some its
-            → slice_get catalogue.stores number ≡ Some store
-            → (row : Row) → Contains its row ↔ IsRowIn store.shape (with_content so_far.contents index bytes number) row
-        pushed_rows number its store at there row = elim (at_pushed rows own number its at) [
+        added : (number : ℕ) (its : List Row) (other : Store) → slice_get (so_far.rows ++ own ∷ []) number ≡ Some its
+            → slice_get catalogue.stores number ≡ Some other
+            → (row : Row) → Contains its row ↔ IsRowIn other.shape (with_content so_far.contents index bytes number) row
+        added number its other at there row = elim (at_pushed so_far.rows own number its at) [
           | inl earlier ↦
-              let less : number < index = omega (arith, slice_get_within rows number its earlier, so_far.long) in
-              subst (λ (it : List ℕ). Contains its row ↔ IsRowIn store.shape it row)
+              let less : number < index = omega (arith, slice_get_within so_far.rows number its earlier, so_far.long) in
+              subst (λ (it : List ℕ). Contains its row ↔ IsRowIn other.shape it row)
               (sym (elsewhere_than so_far.contents index number bytes (λ same. omega (arith, less, same))))
-              (so_far.are number its store earlier there row)
+              (so_far.are number its other earlier there row)
           | inr last ↦
               let is : number ≡ index = last.0 ∙ so_far.long in
-              subst (λ (it : ℕ). Contains its row ↔ IsRowIn store.shape (with_content so_far.contents index bytes it) row) (sym is)
-              (subst (λ (it : List ℕ). Contains its row ↔ IsRowIn store.shape it row) (sym (content_there so_far.contents index bytes))
-              (subst (λ (it : List Row). Contains it row ↔ IsRowIn store.shape bytes row) last.1
-              (are store (ap (slice_get catalogue.stores) (sym is) ∙ there) row)))
+              let stores : store ≡ other = same_Some store other (sym stored_in ∙ ap (slice_get catalogue.stores) (sym is) ∙ there) in
+              subst (λ (it : ℕ). Contains its row ↔ IsRowIn other.shape (with_content so_far.contents index bytes it) row) (sym is)
+              (subst (λ (it : List ℕ). Contains its row ↔ IsRowIn other.shape it row) (sym (content_there so_far.contents index bytes))
+              (subst (λ (it : Store). Contains its row ↔ IsRowIn it.shape bytes row) stores
+              (subst (λ (it : List Row). Contains it row ↔ IsRowIn store.shape bytes row) last.1 (are row))))
         ]
 
     -- the file is not opened
@@ -225,46 +214,46 @@ module _ (files : Option Files) (catalogue : Catalogue) (before : Option Names) 
         (exit_asks (opens_fragment files catalogue index) (λ it. gives (with_content so_far.contents index it)) asked)
 
   -- no file is left
-  pub rows_end : (rows : List (List Row)) (now : Option Names) → SoFarRows files catalogue before (length catalogue.fragments) rows now
-      → length catalogue.stores ≡ length catalogue.fragments → (rose : Type 0) → OpensRows files catalogue rose before now (Ok rows)
-  rows_end rows now so_far many rose = (
+  pub rows_end : (number : ℕ) (texts : List (List ℕ)) (lists : List CodedRows) (now : Option Names)
+      → SoFarRows files catalogue before number texts lists now → number ≡ length catalogue.fragments
+      → length catalogue.stores ≡ length catalogue.fragments → (rose : Type 0) → OpensRows files catalogue texts rose before now (Ok lists)
+  rows_end number texts lists now so_far is many rose = (
     so_far.contents,
     along_ends (opens_next files catalogue) (all_fragments catalogue) (opens_fragments files catalogue (all_fragments catalogue)) before
-        (length catalogue.fragments) so_far.contents now so_far.along all_done,
-    so_far.long,
-    (λ fact. (told fact, held fact)),
+        number so_far.contents now so_far.along all_done,
+    record {
+      rows = so_far.rows;
+      coded = so_far.coded;
+      are = record { many = so_far.long ∙ is; are = λ fact. (told fact, held fact) };
+    },
     along_end_asks (opens_next files catalogue) (all_fragments catalogue) (opens_fragments files catalogue (all_fragments catalogue)) before
-        (length catalogue.fragments) so_far.contents now so_far.along all_done,
+        number so_far.contents now so_far.along all_done,
   )
     where
-      all_done : length (all_fragments catalogue) ≤ length catalogue.fragments
-      all_done = omega (arith, length-range_with_len 0 (length catalogue.fragments))
+      all_done : length (all_fragments catalogue) ≤ number
+      all_done = omega (arith, is, length-range_with_len 0 (length catalogue.fragments))
 
-      told : (fact : Fact (List ℕ)) → IsRowOf (held_by rows) fact → IsFileRow catalogue.stores so_far.contents fact
+      told : (fact : Fact (List ℕ)) → IsRowOf (held_by so_far.rows) fact → IsFileRow catalogue.stores so_far.contents fact
       told fact inside =
-          let own = row_from rows fact.relation fact.terms inside in
-          let within : fact.relation < length catalogue.stores = omega (arith, slice_get_within rows fact.relation own.0 own.1, so_far.long, many) in
+          let own = row_from so_far.rows fact.relation fact.terms inside in
+          let within : fact.relation < length catalogue.stores =
+          omega (arith, slice_get_within so_far.rows fact.relation own.0 own.1, so_far.long, is, many) in
           let store = thing_at catalogue.stores fact.relation within in
           (store.0, store.1, (so_far.are fact.relation own.0 store.0 own.1 store.1 fact.terms).0 own.2)
 
-      held : (fact : Fact (List ℕ)) → IsFileRow catalogue.stores so_far.contents fact → IsRowOf (held_by rows) fact
-      held fact (store, there, is) =
-          let within : fact.relation < length rows = omega (arith, slice_get_within catalogue.stores fact.relation store there, so_far.long, many) in
-          let own = thing_at rows fact.relation within in
-          let inside = (so_far.are fact.relation own.0 store own.1 there fact.terms).1 is in
-          held_there rows fact.relation own.0 own.1 fact.terms inside
-
-  pub rows_end_at : (number : ℕ) (rows : List (List Row)) (now : Option Names) → SoFarRows files catalogue before number rows now
-      → number ≡ length catalogue.fragments → length catalogue.stores ≡ length catalogue.fragments
-      → (rose : Type 0) → OpensRows files catalogue rose before now (Ok rows)
-  rows_end_at number rows now so_far is many rose =
-      rows_end rows now (subst (λ (it : ℕ). SoFarRows files catalogue before it rows now) is so_far) many rose
+      held : (fact : Fact (List ℕ)) → IsFileRow catalogue.stores so_far.contents fact → IsRowOf (held_by so_far.rows) fact
+      held fact (store, there, own_is) =
+          let within : fact.relation < length so_far.rows =
+          omega (arith, slice_get_within catalogue.stores fact.relation store there, so_far.long, is, many) in
+          let own = thing_at so_far.rows fact.relation within in
+          let inside = (so_far.are fact.relation own.0 store own.1 there fact.terms).1 own_is in
+          held_there so_far.rows fact.relation own.0 own.1 fact.terms inside
 
 -- the error of one file that `?` hands on
-pub all_rows_exit : {rose : Type 0} {before after : Option Names} (files : Option Files) (catalogue : Catalogue) (error : Status)
-    (result : Result (List (List Row)) Status) → IsErrAnd result (λ handed. handed ≡ error)
+pub all_rows_exit : {rose : Type 0} {before after : Option Names} (files : Option Files) (catalogue : Catalogue) (texts : List (List ℕ)) (error : Status)
+    (result : Result (List CodedRows) Status) → IsErrAnd result (λ handed. handed ≡ error)
     → Stops IsWant (IsCaused rose) (opens_fragments files catalogue (all_fragments catalogue)) error
     → AsksIn before after (opens_fragments files catalogue (all_fragments catalogue)) (Err error)
-    → OpensRows files catalogue rose before after result
-all_rows_exit files catalogue error (Ok _) handed stops asks = absurd handed
-all_rows_exit files catalogue error (Err handed_on) handed stops asks = rw handed (stops, asks)
+    → OpensRows files catalogue texts rose before after result
+all_rows_exit files catalogue texts error (Ok _) handed stops asks = absurd handed
+all_rows_exit files catalogue texts error (Err handed_on) handed stops asks = rw handed (stops, asks)

@@ -2,7 +2,7 @@
 use Rattle.std.proofs.Common.{◌≡◌, ◌<◌, ℕ, List, length, slice_get, Option, Some, None, Result, Ok, Err, refl, subst, arith}
 use Rattle.std.specs.Prelude.{IfSome}
 use Rattle.esto_catalog.specs.declared.catalogue.Catalogue.{Catalogue}
-use Rattle.esto_fragments.specs.Fragments.{Stored, IsStoredAt, opens_fragments}
+use Rattle.esto_fragments.specs.Fragments.{Stored, IsStoredAt}
 use Rattle.esto_course.specs.Course.{Course, Stops, judges, gives, and_then}
 use Rattle.esto_course.specs.Course.Stops.{is_free, refused}
 use Rattle.esto_course.proofs.Asking.{quiet_gives, quiet_judges}
@@ -24,9 +24,9 @@ use Rattle.esto_semantics.specs.declared.fact.Value.{Value}
 use Rattle.esto_term.specs.declared.term.Term.{Term}
 use Rattle.esto_views.specs.declared.fragments.FragmentDef.{FragmentDef}
 use Rattle.esto_data.specs.Answer.{lists_texts}
-use Rattle.esto_opening.specs.Answers.{Answers, IsWant, IsCaused}
+use Rattle.esto_opening.specs.Answers.{IsWant, IsCaused}
 use Rattle.esto_opening.specs.Asked.{AsksIn}
-use Rattle.esto_data.specs.Audit.{AuditsFiles, all_fragments, audit_text, audits_facts, compares, judges_views}
+use Rattle.esto_data.specs.Audit.{AuditsFiles, compares, judges_views}
 use Rattle.esto_data.specs.Datasets.{Names, loads}
 use Rattle.esto_data.specs.Fill.{IsRowOfView, fill_status, fills_file, fills_fragment}
 use Rattle.esto_opening.specs.declared.reply.Reply.{Reply}
@@ -101,71 +101,6 @@ pub agrees_goes : (catalogue : Catalogue) (facts : List (Fact Term)) (contents :
     → (compares catalogue facts contents).goes tt
 unfolding judges
 agrees_goes catalogue facts contents agree = agree
-
-module _ (files : Option Files) (catalogue : Catalogue) (facts : List (Fact Term)) where
-  -- what follows the judgement of the views, and the opening of the files
-  abbrev then_compares : (ℕ → List ℕ) → Course Status Reply
-  then_compares contents = and_then (compares catalogue facts contents) (λ _. gives (Done (audit_text catalogue)))
-
-  abbrev then_opens : Unit {0} → Course Status Reply
-  then_opens _ = and_then (opens_fragments files catalogue (all_fragments catalogue)) then_compares
-
-  -- a row of a view holds a node
-  pub audit_judged : (rose : Type 0) (refusal : Status) → Stops IsWant (IsCaused ⊥) (judges_views catalogue facts) refusal
-      → Stops IsWant (IsCaused rose) (audits_facts files catalogue facts) refusal
-  audit_judged rose refusal stops = still_stops _ _ stops
-
-  pub audit_judged_asks : (told : Option (List (List ℕ))) (refusal : Status) → Stops IsWant (IsCaused ⊥) (judges_views catalogue facts) refusal
-      → AsksIn told told (audits_facts files catalogue facts) (Err refusal)
-  audit_judged_asks told refusal stops =
-      exit_asks (judges_views catalogue facts) then_opens (quiet_asks (judges_views catalogue facts) told (Err refusal) (quiet_judges _ _) stops)
-
-  module _ (texts : (judges_views catalogue facts).goes tt) where
-    judged_asks : {before after : Option (List (List ℕ))} {result : Result Reply Status} → AsksIn before after (then_opens tt) result
-        → AsksIn before after (audits_facts files catalogue facts) result
-    judged_asks {before = before} asks =
-        later_asks (judges_views catalogue facts) then_opens (quiet_asks (judges_views catalogue facts) before (Ok tt) (quiet_judges _ _) texts) asks
-
-    -- the file of a fragment is not opened
-    pub audit_unopened : (rose : Type 0) (refusal : Status)
-        → Stops IsWant (IsCaused rose) (opens_fragments files catalogue (all_fragments catalogue)) refusal
-        → Stops IsWant (IsCaused rose) (audits_facts files catalogue facts) refusal
-    audit_unopened rose refusal stops = then_stops _ _ tt texts (first_stops _ _ stops)
-
-    pub audit_unopened_asks : {before after : Option (List (List ℕ))} (refusal : Status)
-        → AsksIn before after (opens_fragments files catalogue (all_fragments catalogue)) (Err refusal)
-        → AsksIn before after (audits_facts files catalogue facts) (Err refusal)
-    audit_unopened_asks refusal asks = judged_asks (exit_asks (opens_fragments files catalogue (all_fragments catalogue)) then_compares asks)
-
-    module _ (contents : ℕ → List ℕ) (opened : (opens_fragments files catalogue (all_fragments catalogue)).goes contents) where
-      -- there is a difference, or none
-      pub audit_differs : (rose : Type 0) (refusal : Status) → Stops IsWant (IsCaused ⊥) (compares catalogue facts contents) refusal
-          → Stops IsWant (IsCaused rose) (audits_facts files catalogue facts) refusal
-      audit_differs rose refusal stops = then_stops _ _ tt texts (then_stops _ _ contents opened (still_stops _ _ stops))
-
-      pub audit_agrees : (compares catalogue facts contents).goes tt → (reply : Reply) → reply ≡ Done (audit_text catalogue)
-          → (audits_facts files catalogue facts).goes reply
-      audit_agrees agree reply is =
-          then_goes _ _ tt reply texts (then_goes _ _ contents reply opened (then_goes _ _ tt reply agree (gives_goes Status _ reply is)))
-
-    module _ {before after : Option (List (List ℕ))} (contents : ℕ → List ℕ)
-        (opened : AsksIn before after (opens_fragments files catalogue (all_fragments catalogue)) (Ok contents)) where
-      opened_asks : {result : Result Reply Status} → AsksIn after after (then_compares contents) result
-          → AsksIn before after (audits_facts files catalogue facts) result
-      opened_asks asks = judged_asks (later_asks (opens_fragments files catalogue (all_fragments catalogue)) then_compares opened asks)
-
-      pub audit_differs_asks : (refusal : Status) → Stops IsWant (IsCaused ⊥) (compares catalogue facts contents) refusal
-          → AsksIn before after (audits_facts files catalogue facts) (Err refusal)
-      audit_differs_asks refusal stops = opened_asks (exit_asks (compares catalogue facts contents) (λ _. gives (Done (audit_text catalogue)))
-          (quiet_asks (compares catalogue facts contents) after (Err refusal) (quiet_judges _ _) stops))
-
-      -- there is none, and its text is made or memory is wanting
-      pub audit_agrees_asks : (compares catalogue facts contents).goes tt → (result : Result Reply Status)
-          → Answers (gives (Done (audit_text catalogue))) ⊥ result
-          → AsksIn before after (audits_facts files catalogue facts) result
-      audit_agrees_asks agree result answer = opened_asks (later_asks (compares catalogue facts contents) (λ _. gives (Done (audit_text catalogue)))
-          (quiet_asks (compares catalogue facts contents) after (Ok tt) (quiet_judges _ _) agree)
-          (quiet_asks (gives (Done (audit_text catalogue))) after result (quiet_gives Status (Done (audit_text catalogue))) answer))
 
 -- the fragment of the number is stored
 pub fragment_stored : (catalogue : Catalogue) (number : ℕ) (definition : FragmentDef) → number < length catalogue.fragments

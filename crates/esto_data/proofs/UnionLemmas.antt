@@ -105,11 +105,6 @@ module _ (Needs Others : Dataset → Type 0) (same : (dataset : Dataset) → Nee
     rising = needed.rising;
   }
 
-  pub loads_moved : (files : Option Files) (datasets : List Dataset) (facts : List (Fact Term)) → (loads files datasets Needs).goes facts
-      → (loads files datasets Others).goes facts
-  unfolding and_then judges
-  loads_moved files datasets facts (numbers, needed, more) = (numbers, needed_moved datasets numbers needed, more)
-
   pub holds_for : (files : Files) (datasets : List Dataset) (facts : List (Fact Term)) → HoldFacts files datasets Needs facts
       → HoldFacts files datasets Others facts
   holds_for files datasets facts holds = record {

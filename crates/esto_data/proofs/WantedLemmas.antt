@@ -173,6 +173,10 @@ module _ (catalogue : Catalogue) (laws : List Rule) (facts some : List (Fact Ter
       → HaveTextsOnly (IsAnswer view (database_of facts))
   texts_in view inside texts values answer = texts values ((same_in view inside values).1 answer)
 
+  -- so it is the other way round
+  pub texts_back : AreTextViews its_views (database_of facts) → AreTextViews its_views (database_of some)
+  texts_back texts view inside values answer = texts view inside values ((same_in view inside values).0 answer)
+
   -- what is judged of the views over what is left is so over all facts
   pub judged_all : (result : Result (Unit {0}) Status) → Answers (judges_views catalogue some) ⊥ result → Answers (judges_views catalogue facts) ⊥ result
   judged_all result answers =

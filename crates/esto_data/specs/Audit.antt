@@ -1,16 +1,25 @@
 -- The command `audit`.
-use Rattle.std.specs.Prelude.{◌≡◌, ◌↔◌, ℕ, List, ◌++◌, length, map, codes, slice_get, Contains, Option, Some, None, Result, Ok, Err}
+use Rattle.std.specs.Prelude.{◌≡◌, ◌↔◌, ℕ, List, [], ◌∷◌, ◌++◌, length, map, codes, slice_get, Contains, Option, Some, None, Result, Ok, Err}
 use Rattle.std.specs.Fmt.{decimal}
 use Rattle.std.specs.List.{range_with_len}
 use Rattle.esto_catalog.specs.declared.catalogue.Catalogue.{Catalogue}
+use Rattle.esto_catalog.specs.declared.catalogue.Shape.{Shape}
 use Rattle.esto_catalog.specs.declared.catalogue.Store.{Store}
 use Rattle.esto_fragments.specs.Fragments.{Stored, opens_fragment, opens_fragments, reads_content}
 use Rattle.esto_constraint.specs.Constraints.{rules_of}
 use Rattle.esto_constraint.specs.EncodingRules.{written}
+use Rattle.esto_columns.specs.CodedRows.{CodedRows}
+use Rattle.esto_columns.specs.Interned.{AreCodedRows, Grows}
 use Rattle.esto_course.specs.Course.{Course, Names, Stops, judges, gives, and_then}
+use Rattle.esto_fill.specs.Coding.{AreCodedLists, IsCodedOf}
 use Rattle.esto_fill.specs.Databases.{database_of}
 use Rattle.esto_fill.specs.Differences.{Audits}
+use Rattle.esto_fill.specs.Files.{AreReadable}
 use Rattle.esto_fill.specs.Texts.{AreTextViews, IsFirstNodeView}
+use Rattle.esto_fill.specs.declared.coded_data.CodedData.{CodedData}
+use Rattle.esto_fill.specs.declared.datasets.DatasetBytes.{DatasetBytes}
+use Rattle.esto_fill.specs.declared.loaded.Loaded.{Loaded}
+use Rattle.esto_fill.specs.declared.wanted.Wanted.{Wanted}
 use Rattle.esto_ports.specs.declared.difference.Difference.{Difference}
 use Rattle.esto_steps.specs.Rows.{IsRowOf, held_by}
 use Rattle.esto_ports.specs.Files.{Files}
@@ -21,7 +30,7 @@ use Rattle.esto_term.specs.declared.term.Term.{Term}
 use Rattle.esto_views.specs.Fragments.{views_of}
 use Rattle.esto_opening.specs.Answers.{IsWant, IsCaused}
 use Rattle.esto_opening.specs.Asked.{AsksIn}
-use Rattle.esto_data.specs.Datasets.{IsAny, loads}
+use Rattle.esto_data.specs.Datasets.{AreFactsOfFiles, AreLawful, HoldsFiles, IsAny, loads}
 use Rattle.esto_data.specs.Fill.{names_of}
 use Rattle.esto_opening.specs.Opening.{opens_catalogue}
 use Rattle.esto_opening.specs.declared.reply.Reply.{Reply}
@@ -76,16 +85,65 @@ audits_catalogue files catalogue = and_then (loads files catalogue.datasets IsAn
 abbrev pub audit_course : Option Files → List ℕ → Course Status Reply
 audit_course files name = and_then (opens_catalogue files name) (audits_catalogue files)
 
+-- The files of all fragments are opened, and compared with the facts; the text is the reply.
+abbrev pub audits_rows : Option Files → Catalogue → List (Fact Term) → Course Status Reply
+audits_rows files catalogue facts =
+    and_then (opens_fragments files catalogue (all_fragments catalogue)) (λ contents.
+    and_then (compares catalogue facts contents) (λ _.
+    gives (Done (audit_text catalogue))))
+
+-- The facts and the contents of the fragments' files are compared; the text is the reply.
+abbrev pub tells : Catalogue → List (Fact Term) → (ℕ → List ℕ) → Course Status Reply
+tells catalogue facts contents = and_then (compares catalogue facts contents) (λ _. gives (Done (audit_text catalogue)))
+
 -- ---- what functions answer
 
--- The rows of all fragments are those of their files, all of which were opened; or the course stops. To the names that were asked for came those for which it
--- asked.
-abbrev pub OpensRows : Option Files → Catalogue → Type 0 → Option Names → Option Names → Result (List (List Row)) Status → Type 0
-OpensRows files catalogue rose before after (Ok rows) =
-    (contents : ℕ → List ℕ) × (opens_fragments files catalogue (all_fragments catalogue)).goes contents × (length rows ≡ length catalogue.fragments)
-    × ((fact : Fact (List ℕ)) → IsRowOf (held_by rows) fact ↔ IsFileRow catalogue.stores contents fact)
+-- The rows of codes stand for what they stood for, and texts that had codes have them still.
+pub record StaysData (old new : CodedData) : Type 0 where
+  pub kept : (loaded : Loaded) → IsCodedOf loaded old → IsCodedOf loaded new
+  pub grown : Grows old.facts.texts new.facts.texts
+
+-- The facts to audit are those of the files, which have no fault; they meet the laws, and the rows of the views over them are rows of texts.
+pub record AreFactsToAudit (catalogue : Catalogue) (files : List DatasetBytes) (facts : List (Fact Term)) : Type 0 where
+  pub readable : AreReadable catalogue.datasets files
+  pub are : AreFactsOfFiles catalogue.datasets files facts
+  pub lawful : AreLawful catalogue.datasets facts
+  pub texts : AreTextViews (views_of catalogue.fragments) (database_of facts)
+
+-- The rows of codes stand for what is left of the facts to audit.
+pub record HoldsAudit (catalogue : Catalogue) (wanted : Wanted) (files : List DatasetBytes) (facts : List (Fact Term)) (coded : CodedData) : Type 0 where
+  pub held : HoldsFiles catalogue.datasets wanted facts files coded
+  pub texts : AreTextViews (views_of catalogue.fragments) (database_of facts)
+
+-- The lists of rows, one for each fragment, are the rows of the contents of the fragments' files.
+pub record AreRowsOfFiles (catalogue : Catalogue) (contents : ℕ → List ℕ) (rows : List (List Row)) : Type 0 where
+  pub many : length rows ≡ length catalogue.fragments
+  pub are : (fact : Fact (List ℕ)) → IsRowOf (held_by rows) fact ↔ IsFileRow catalogue.stores contents fact
+
+-- The lists of rows of codes are those of the rows of the contents of the fragments' files.
+pub record HoldContents (catalogue : Catalogue) (contents : ℕ → List ℕ) (texts : List (List ℕ)) (lists : List CodedRows) : Type 0 where
+  pub rows : List (List Row)
+  pub coded : AreCodedLists texts lists rows
+  pub are : AreRowsOfFiles catalogue contents rows
+
+-- To the lists came one with the rows of texts of these rows of codes.
+abbrev pub AddsTexts : List (List ℕ) → List (List ℕ) → List (List Row) → List (List Row) → Type 0
+AddsTexts texts coded old new =
+    (own : List Row) × (new ≡ old ++ own ∷ [])
+    × ((rows : List Row) → AreCodedRows texts coded rows → (row : Row) → Contains own row ↔ Contains rows row)
+
+-- The lists have as many lists as the others, and those the same rows.
+pub record HoldSameRows (lists others : List (List Row)) : Type 0 where
+  pub many : length lists ≡ length others
+  pub same : (fact : Fact (List ℕ)) → IsRowOf (held_by lists) fact ↔ IsRowOf (held_by others) fact
+
+-- The rows of codes of all fragments are those of their files, all of which were opened; or the course stops. To the names that were asked for came those for
+-- which it asked.
+abbrev pub OpensRows : Option Files → Catalogue → List (List ℕ) → Type 0 → Option Names → Option Names → Result (List CodedRows) Status → Type 0
+OpensRows files catalogue texts rose before after (Ok lists) =
+    (contents : ℕ → List ℕ) × (opens_fragments files catalogue (all_fragments catalogue)).goes contents × HoldContents catalogue contents texts lists
     × AsksIn before after (opens_fragments files catalogue (all_fragments catalogue)) (Ok contents)
-OpensRows files catalogue rose before after (Err refusal) =
+OpensRows files catalogue texts rose before after (Err refusal) =
     Stops IsWant (IsCaused rose) (opens_fragments files catalogue (all_fragments catalogue)) refusal
     × AsksIn before after (opens_fragments files catalogue (all_fragments catalogue)) (Err refusal)
 
@@ -94,12 +152,17 @@ abbrev pub ReadsRows : Stored → List ℕ → Result (List Row) Status → Type
 ReadsRows stored bytes (Ok rows) = (reads_content stored bytes).goes tt × ((row : Row) → Contains rows row ↔ IsRowIn stored.store.shape bytes row)
 ReadsRows stored bytes (Err refusal) = Stops IsWant (IsCaused ⊥) (reads_content stored bytes) refusal
 
--- The file of the fragment of the number was opened, and these are its rows; or the course stops. To the names that were asked for came those for which it
--- asked.
-abbrev pub OpensNextRows : Option Files → Catalogue → ℕ → Type 0 → Option Names → Option Names → Result (List Row) Status → Type 0
-OpensNextRows files catalogue number rose before after (Ok rows) =
-    (bytes : List ℕ) × (opens_fragment files catalogue number).goes bytes
-    × ((store : Store) → slice_get catalogue.stores number ≡ Some store → (row : Row) → Contains rows row ↔ IsRowIn store.shape bytes row)
-    × AsksIn before after (opens_fragment files catalogue number) (Ok bytes)
-OpensNextRows files catalogue number rose before after (Err refusal) =
+-- To the lists of rows of codes came that of the rows that the bytes say in this shape.
+abbrev pub AddsRows : Shape → List ℕ → List (List ℕ) → List (List ℕ) → List CodedRows → List CodedRows → Type 0
+AddsRows shape bytes texts more old new =
+    (own : List Row) × ((row : Row) → Contains own row ↔ IsRowIn shape bytes row)
+    × ((rows : List (List Row)) → AreCodedLists texts old rows → AreCodedLists more new (rows ++ own ∷ []))
+
+-- The file of the fragment of the number was opened, and its rows came to those that were there; or the course stops. To the names that were asked for came
+-- those for which it asked.
+abbrev pub OpensNextRows : Option Files → Catalogue → ℕ → List (List ℕ) → List (List ℕ) → List CodedRows → List CodedRows → Type 0 → Option Names → Option Names → Result (Unit {0}) Status → Type 0
+OpensNextRows files catalogue number texts more old new rose before after (Ok _) =
+    (bytes : List ℕ) × (store : Store) × (opens_fragment files catalogue number).goes bytes × (slice_get catalogue.stores number ≡ Some store)
+    × AddsRows store.shape bytes texts more old new × AsksIn before after (opens_fragment files catalogue number) (Ok bytes)
+OpensNextRows files catalogue number texts more old new rose before after (Err refusal) =
     Stops IsWant (IsCaused rose) (opens_fragment files catalogue number) refusal × AsksIn before after (opens_fragment files catalogue number) (Err refusal)

@@ -1,10 +1,12 @@
 -- The files of the datasets that a command needs, as steps: each of the datasets has a file; then each file is fetched, and its content read, before the next
 -- is fetched.
-use Rattle.std.specs.Prelude.{◌≡◌, ◌↔◌, ◌⊎◌, ℕ, ◌+◌, ◌<◌, ◌≤◌, List, [], ◌∷◌, ◌++◌, map, slice_get, AllPairs, Contains, Option, Some, None, IsSome, Result, Ok, Err}
+use Rattle.std.specs.Prelude.{◌≡◌, ◌↔◌, ◌⊎◌, ℕ, ◌+◌, ◌<◌, ◌≤◌, List, [], ◌∷◌, ◌++◌, map, length, slice_get, AllPairs, Contains, Option, Some, None, IsSome, Result, Ok, Err}
 use Rattle.esto_catalog.specs.Datasets.{relation_count}
 use Rattle.esto_catalog.specs.declared.dataset.Dataset.{Dataset}
 use Rattle.esto_course.specs.Course.{Course, Stops, judges, demands, gives, and_then, each}
-use Rattle.esto_fill.specs.Files.{AreFactsFrom, IsLoadedFrom, dataset_fault}
+use Rattle.esto_fill.specs.Coding.{IsCodedFrom, IsCodedOf}
+use Rattle.esto_fill.specs.Files.{AreFactsFrom, AreReadable, dataset_fault}
+use Rattle.esto_fill.specs.declared.coded_data.CodedData.{CodedData}
 use Rattle.esto_fill.specs.declared.datasets.DatasetBytes.{DatasetBytes}
 use Rattle.esto_semantics.specs.Rules.{AreMet}
 use Rattle.esto_fill.specs.Lawful.{AreLaws}
@@ -125,43 +127,44 @@ pub record AreLawful (datasets : List Dataset) (facts : List (Fact Term)) : Type
   pub flat : AreFlat facts
   pub met : (rules : List Rule) → AreLaws datasets rules → AreMet facts rules
 
--- What is loaded is what is left of facts with which the course goes on, and which meet the laws; or it stops.
-abbrev pub Loads : List Dataset → Wanted → Course Status (List (Fact Term)) → Type 0 → Result Loaded Status → Type 0
-Loads datasets wanted course rose (Ok loaded) =
-    (facts : List (Fact Term)) × course.goes facts × Leaves wanted facts loaded.facts × AreLawful datasets facts
-Loads datasets wanted course rose (Err refusal) = Stops IsWant (IsCaused rose) course refusal
+-- Each of the files is that of a dataset.
+abbrev pub AreNumbered : List Dataset → List DatasetBytes → Type 0
+AreNumbered datasets files = (file : DatasetBytes) → Contains files file → file.dataset < length datasets
 
--- To the names that were asked for came those for which the course asked, up to the facts of which some are loaded or to its stop.
-abbrev pub LoadsAsking : Option (List (List ℕ)) → Option (List (List ℕ)) → List Dataset → Wanted → Course Status (List (Fact Term)) → Result Loaded Status → Type 0
-LoadsAsking before after datasets wanted course (Ok loaded) =
-    (facts : List (Fact Term)) × AsksIn before after course (Ok facts) × Leaves wanted facts loaded.facts × AreLawful datasets facts
-LoadsAsking before after datasets wanted course (Err refusal) = AsksIn before after course (Err refusal)
+-- The rows of codes stand for what is left of the facts, which meet the laws.
+pub record HoldsLeft (datasets : List Dataset) (wanted : Wanted) (facts : List (Fact Term)) (coded : CodedData) : Type 0 where
+  pub loaded : Loaded
+  pub stand : IsCodedOf loaded coded
+  pub leaves : Leaves wanted facts loaded.facts
+  pub lawful : AreLawful datasets facts
+
+-- The facts are those of the files, which have no fault, and the rows of codes stand for what is left of them.
+pub record HoldsFiles (datasets : List Dataset) (wanted : Wanted) (facts : List (Fact Term)) (files : List DatasetBytes) (coded : CodedData) : Type 0 where
+  pub readable : AreReadable datasets files
+  pub are : AreFactsOfFiles datasets files facts
+  pub left : HoldsLeft datasets wanted facts coded
+
+-- What is loaded holds facts with which the course goes on; or it stops.
+abbrev pub Loads : {A : Type 0} → (List (Fact Term) → A → Type 0) → Course Status (List (Fact Term)) → Type 0 → Result A Status → Type 0
+Loads Holds course rose (Ok loaded) = (facts : List (Fact Term)) × course.goes facts × Holds facts loaded
+Loads Holds course rose (Err refusal) = Stops IsWant (IsCaused rose) course refusal
+
+-- To the names that were asked for came those for which the course asked, up to the facts that what is loaded holds or to its stop.
+abbrev pub LoadsAsking : {A : Type 0} → Option (List (List ℕ)) → Option (List (List ℕ)) → (List (Fact Term) → A → Type 0) → Course Status (List (Fact Term)) → Result A Status → Type 0
+LoadsAsking before after Holds course (Ok loaded) = (facts : List (Fact Term)) × AsksIn before after course (Ok facts) × Holds facts loaded
+LoadsAsking before after Holds course (Err refusal) = AsksIn before after course (Err refusal)
 
 -- After what was loaded come the facts of the file of the dataset of the number, with these bytes, as far as they are wanted.
-abbrev pub LoadsMore : List Dataset → Wanted → ℕ → List ℕ → Loaded → Loaded → Type 0
+abbrev pub LoadsMore : List Dataset → Wanted → ℕ → List ℕ → CodedData → CodedData → Type 0
 LoadsMore datasets wanted number bytes old new =
-    (contents : List DatasetBytes) → IsLoadedFrom datasets wanted contents old
-    → IsLoadedFrom datasets wanted (contents ++ record { dataset = number; bytes = bytes } ∷ []) new
+    (contents : List DatasetBytes) → IsCodedFrom datasets wanted contents old
+    → IsCodedFrom datasets wanted (contents ++ record { dataset = number; bytes = bytes } ∷ []) new
 
--- The content of the dataset's file has no fault, and its facts come after what was loaded; or the course stops.
-abbrev pub ReadsData : List Dataset → Wanted → ℕ → Dataset → List ℕ → Loaded → Result Loaded Status → Type 0
-ReadsData datasets wanted number dataset bytes old (Ok new) = (reads_data dataset bytes).goes tt × LoadsMore datasets wanted number bytes old new
-ReadsData datasets wanted number dataset bytes old (Err refusal) = Stops IsWant (IsCaused ⊥) (reads_data dataset bytes) refusal
-
--- The file of the dataset of the number was opened, and its facts come after what was loaded; or the course stops. To the names that were asked for came those
--- for which it asked.
-abbrev pub LoadsNext : Option Files → List Dataset → Wanted → ℕ → Loaded → Type 0 → Option (List (List ℕ)) → Option (List (List ℕ)) → Result Loaded Status → Type 0
-LoadsNext files datasets wanted number old rose before after (Ok new) =
-    (bytes : List ℕ) × (opens_dataset files datasets number).goes bytes × LoadsMore datasets wanted number bytes old new
-    × AsksIn before after (opens_dataset files datasets number) (Ok bytes)
-LoadsNext files datasets wanted number old rose before after (Err refusal) =
-    Stops IsWant (IsCaused rose) (opens_dataset files datasets number) refusal × AsksIn before after (opens_dataset files datasets number) (Err refusal)
-
--- The facts that are loaded are those of the files, all of which were opened; or the course stops. To the names that were asked for came those for which it
--- asked.
-abbrev pub LoadsFiles : Option Files → List Dataset → Wanted → List ℕ → Type 0 → Option (List (List ℕ)) → Option (List (List ℕ)) → Result Loaded Status → Type 0
-LoadsFiles files datasets wanted numbers rose before after (Ok loaded) =
-    (contents : List DatasetBytes) × (loads_files files datasets numbers).goes contents × IsLoadedFrom datasets wanted contents loaded
+-- The rows of codes stand for what is loaded of the files, all of which were opened; or the course stops. To the names that were asked for came those for which
+-- it asked.
+abbrev pub LoadsFiles : Option Files → List Dataset → Wanted → List ℕ → Type 0 → Option (List (List ℕ)) → Option (List (List ℕ)) → Result CodedData Status → Type 0
+LoadsFiles files datasets wanted numbers rose before after (Ok coded) =
+    (contents : List DatasetBytes) × (loads_files files datasets numbers).goes contents × IsCodedFrom datasets wanted contents coded
     × AsksIn before after (loads_files files datasets numbers) (Ok contents)
 LoadsFiles files datasets wanted numbers rose before after (Err refusal) =
     Stops IsWant (IsCaused rose) (loads_files files datasets numbers) refusal × AsksIn before after (loads_files files datasets numbers) (Err refusal)

@@ -1,6 +1,8 @@
 //! The command `answer`.
 ghost use Rattle.std.specs.Prelude.{◌≡◌, ◌≤◌};
 ghost use Rattle.esto_ports.specs.Faults.{Rises};
+ghost use Rattle.esto_fill.specs.Coding.{IsCoded, IsCodedOf};
+ghost use Rattle.esto_fill.specs.declared.loaded.Loaded.{Loaded};
 ghost use Rattle.esto_data.specs.Answer.{IsUnionAnswerOfFacts, answer_course, answers_facts, answers_read, answers_union, lists_texts};
 ghost use Rattle.esto_opening.specs.Answers.{Answers};
 ghost use Rattle.esto_opening.specs.Asked.{AsksIn};
@@ -8,7 +10,7 @@ ghost use Rattle.esto_opening.specs.Unions.{FormUnion};
 
 use crate::unions::load_union;
 use esto_catalog::Catalogue;
-use esto_fill::{AnswerError, Loaded, answer_union, answers_rest_on_wanted_facts};
+use esto_fill::{AnswerError, CodedData, answer_coded_union, answers_rest_on_wanted_facts};
 use esto_fragments::union_rows_text;
 use esto_opening::{Queries, Reply, Status, open_catalogue, open_union};
 use esto_ports::Shelf;
@@ -16,10 +18,14 @@ use esto_term::{Text, TextRows};
 use std::alloc::Global;
 
 // The answers of the queries together over the facts as rows of texts, or the status of a node in one.
-fn rows_of(alloc: Global, queries: &Queries, loaded: &Loaded) -> Result<TextRows, Status>
-    ensures { Answers (lists_texts (IsUnionAnswerOfFacts queries.now loaded.now.facts)) ⊥ result }
+fn rows_of(alloc: Global, queries: &Queries, coded: CodedData) -> Result<TextRows, Status>
+    requires union { FormUnion queries.now }
+    requires coded { IsCoded coded }
+    ensures { (loaded : Loaded) → IsCodedOf loaded coded
+        → Answers (lists_texts (IsUnionAnswerOfFacts queries.now loaded.facts)) ⊥ result }
 {
-    match answer_union(alloc, queries.items(), loaded) {
+    let mut coded = coded;
+    match answer_coded_union(alloc, queries.items(), &mut coded) {
         Ok(rows) => Ok(rows),
         Err(AnswerError::NodeInRow(column)) => Err(Status::NodeInRow(column)),
         Err(AnswerError::OutOfMemory) => Err(Status::OutOfMemory),
@@ -27,11 +33,13 @@ fn rows_of(alloc: Global, queries: &Queries, loaded: &Loaded) -> Result<TextRows
 }
 
 // Gives the text of the answers of the union of the queries over the facts.
-fn answer_loaded(alloc: Global, queries: &Queries, loaded: &Loaded) -> Result<Reply, Status>
-    requires { FormUnion queries.now }
-    ensures { Answers (answers_facts queries.now loaded.now.facts) ⊥ result }
+fn answer_data(alloc: Global, queries: &Queries, coded: CodedData) -> Result<Reply, Status>
+    requires union { FormUnion queries.now }
+    requires coded { IsCoded coded }
+    ensures { (loaded : Loaded) → IsCodedOf loaded coded
+        → Answers (answers_facts queries.now loaded.facts) ⊥ result }
 {
-    let rows = rows_of(alloc, queries, loaded)?;
+    let rows = rows_of(alloc, queries, coded)?;
     let text = union_rows_text(alloc, queries, &rows)?;
     Ok(Reply::Done(text))
 }
@@ -52,8 +60,8 @@ fn answer_queries<S: Shelf>(
     ensures later { S.faults shelf.old ≤ S.faults shelf.new }
 {
     answers_rest_on_wanted_facts();
-    let loaded = load_union(alloc, shelf, catalogue, queries)?;
-    answer_loaded(alloc, queries, &loaded)
+    let coded = load_union(alloc, shelf, catalogue, queries)?;
+    answer_data(alloc, queries, coded)
 }
 
 // Fetches and reads the union of queries, and answers it.

@@ -4,12 +4,14 @@ ghost use Rattle.std.specs.Prelude.{◌≡◌, ◌↔◌, ◌<◌, ◌≤◌, []
 ghost use Rattle.esto_catalog.specs.declared.dataset.Dataset.{Dataset};
 ghost use Rattle.esto_ports.specs.Faults.{Rises};
 ghost use Rattle.esto_opening.specs.Answers.{Answers};
-ghost use Rattle.esto_data.specs.Datasets.{AddsNeeded, AreNeeded, IsAny, HasRelation, IsSourceAt, Loads, LoadsAsking, LoadsFiles, LoadsNext, Names, ReadsData};
+ghost use Rattle.esto_opening.specs.Asked.{AsksIn};
+ghost use Rattle.esto_fill.specs.Coding.{IsOver};
 ghost use Rattle.esto_fill.specs.declared.wanted.Wanted.TheVariants.{Asked};
-ghost use Rattle.esto_data.specs.Datasets.{Source, demands_file, demands_files, loads};
+ghost use Rattle.esto_data.specs.Datasets.{AddsNeeded, AreNeeded, HasRelation, HoldsLeft, IsSourceAt, Loads, LoadsAsking, LoadsFiles, LoadsMore, Names};
+ghost use Rattle.esto_data.specs.Datasets.{Source, demands_file, demands_files, loads, opens_dataset, reads_data};
 
 use esto_catalog::{Catalogue, Dataset, Datasets, relation_count};
-use esto_fill::{Loaded, Wanted, load_dataset, nothing_loaded, wanted_by_body};
+use esto_fill::{CodedData, Wanted, load_coded, no_data, wanted_by_body};
 use esto_opening::{DATA_LIMIT, Status, fetch};
 use esto_ports::{FileError, Shelf};
 use esto_semantics::{Atom, Atoms};
@@ -61,17 +63,6 @@ fn named_datasets(alloc: Global, datasets: &Datasets, body: &Atoms) -> Result<Pl
     Ok(numbers)
 }
 
-// The numbers of all datasets, in order.
-fn all_datasets(alloc: Global, datasets: &Datasets) -> Result<Places, OutOfMemory>
-    ensures { IfOk result (AreNeeded datasets.now IsAny) }
-{
-    let mut numbers = Values::new(alloc);
-    'datasets: for number in 0..datasets.len() {
-        numbers.push(number)?;
-    }
-    Ok(numbers)
-}
-
 // The dataset of the number has a file; else NoData.
 fn demand_file(alloc: Global, datasets: &Datasets, number: usize) -> Result<(), Status>
     requires { number < length datasets.now }
@@ -95,22 +86,25 @@ pub fn demand_files(alloc: Global, datasets: &Datasets, numbers: &Places) -> Res
     Ok(())
 }
 
-// Puts the facts of the content of the dataset's file after what was loaded, or answers the status of the content's first
-// fault.
+// Puts the facts of the content of the dataset's file into the data, or answers the status of the content's first fault.
 fn load_content(
     alloc: Global,
     catalogue: &Catalogue,
     wanted: &Wanted,
     number: usize,
     bytes: &Bytes,
-    loaded: Loaded,
-) -> Result<Loaded, Status>
-    requires { number < length catalogue.now.datasets }
-    ensures { (dataset : Dataset) → slice_get catalogue.now.datasets number ≡ Some dataset
-        → ReadsData catalogue.now.datasets wanted.now number dataset bytes.now loaded result }
+    coded: &mut CodedData,
+) -> Result<(), Status>
+    requires number { number < length catalogue.now.datasets }
+    requires over { IsOver catalogue.now.schema coded.old }
+    ensures answer { (dataset : Dataset) → slice_get catalogue.now.datasets number ≡ Some dataset
+        → Answers (reads_data dataset bytes.now) ⊥ result }
+    ensures over { OnOk result (IsOver catalogue.now.schema coded.new) }
+    ensures loaded { OnOk result (LoadsMore catalogue.now.datasets wanted.now number bytes.now
+        coded.old coded.new) }
 {
-    match load_dataset(alloc, catalogue, wanted, number, bytes, loaded) {
-        Ok(loaded) => Ok(loaded),
+    match load_coded(alloc, catalogue, wanted, number, bytes, coded) {
+        Ok(()) => Ok(()),
         Err(FileError::Fault(fault)) => {
             let name = catalogue.datasets.item(number).name.copy(alloc)?;
             Err(Status::BadDataset(name, fault))
@@ -119,18 +113,24 @@ fn load_content(
     }
 }
 
-// Fetches the file of the dataset of the number, and puts its facts after what was loaded.
-fn load_next<S: Shelf>(
+/// Fetches the file of the dataset of the number, puts its facts into the data, and gives its bytes.
+pub fn load_next<S: Shelf>(
     alloc: Global,
     shelf: &mut S,
     catalogue: &Catalogue,
     wanted: &Wanted,
     number: usize,
-    loaded: Loaded,
-) -> Result<Loaded, Status>
-    requires { (source : Source) × IsSourceAt catalogue.now.datasets number source }
-    ensures answer { LoadsNext (S.files shelf.old) catalogue.now.datasets wanted.now number loaded
-        (Rises S.faults shelf.old shelf.new) (S.asked shelf.old) (S.asked shelf.new) result }
+    coded: &mut CodedData,
+) -> Result<Bytes, Status>
+    requires source { (source : Source) × IsSourceAt catalogue.now.datasets number source }
+    requires over { IsOver catalogue.now.schema coded.old }
+    ensures answer { Answers (opens_dataset (S.files shelf.old) catalogue.now.datasets number)
+        (Rises S.faults shelf.old shelf.new) result }
+    ensures asked { AsksIn (S.asked shelf.old) (S.asked shelf.new)
+        (opens_dataset (S.files shelf.old) catalogue.now.datasets number) result }
+    ensures over { OnOk result (IsOver catalogue.now.schema coded.new) }
+    ensures loaded { IfOk result (λ bytes. LoadsMore catalogue.now.datasets wanted.now number bytes
+        coded.old coded.new) }
     ensures files { S.files shelf.new ≡ S.files shelf.old }
     ensures later { S.faults shelf.old ≤ S.faults shelf.new }
 {
@@ -138,7 +138,8 @@ fn load_next<S: Shelf>(
         unreachable!()
     };
     let bytes = fetch(alloc, shelf, file, DATA_LIMIT)?;
-    load_content(alloc, catalogue, wanted, number, &bytes, loaded)
+    load_content(alloc, catalogue, wanted, number, &bytes, coded)?;
+    Ok(bytes)
 }
 
 /// Loads the facts of the files of the datasets of the numbers, in order, as far as they are wanted.
@@ -148,7 +149,7 @@ pub fn load_files<S: Shelf>(
     catalogue: &Catalogue,
     wanted: &Wanted,
     numbers: &Places,
-) -> Result<Loaded, Status>
+) -> Result<CodedData, Status>
     requires { (number : ℕ) → Contains numbers.now number
         → (source : Source) × IsSourceAt catalogue.now.datasets number source }
     ensures answer { LoadsFiles (S.files shelf.old) catalogue.now.datasets wanted.now numbers.now
@@ -156,11 +157,11 @@ pub fn load_files<S: Shelf>(
     ensures files { S.files shelf.new ≡ S.files shelf.old }
     ensures later { S.faults shelf.old ≤ S.faults shelf.new }
 {
-    let mut loaded = nothing_loaded(alloc);
+    let mut coded = no_data(alloc, catalogue)?;
     'numbers: for number in numbers.items() {
-        loaded = load_next(alloc, shelf, catalogue, wanted, *number, loaded)?;
+        load_next(alloc, shelf, catalogue, wanted, *number, &mut coded)?;
     }
-    Ok(loaded)
+    Ok(coded)
 }
 
 /// Loads, of the facts of the files of the datasets that the body names, in order, those to which one of its atoms can go.
@@ -170,12 +171,12 @@ pub fn load_named<S: Shelf>(
     shelf: &mut S,
     catalogue: &Catalogue,
     body: &Atoms,
-) -> Result<Loaded, Status>
-    ensures answer { Loads catalogue.now.datasets (Asked (body.now ∷ []))
+) -> Result<CodedData, Status>
+    ensures answer { Loads (HoldsLeft catalogue.now.datasets (Asked (body.now ∷ [])))
         (loads (S.files shelf.old) catalogue.now.datasets (Names body.now))
         (Rises S.faults shelf.old shelf.new) result }
-    ensures asked { LoadsAsking (S.asked shelf.old) (S.asked shelf.new) catalogue.now.datasets
-        (Asked (body.now ∷ []))
+    ensures asked { LoadsAsking (S.asked shelf.old) (S.asked shelf.new)
+        (HoldsLeft catalogue.now.datasets (Asked (body.now ∷ [])))
         (loads (S.files shelf.old) catalogue.now.datasets (Names body.now)) result }
     ensures files { S.files shelf.new ≡ S.files shelf.old }
     ensures later { S.faults shelf.old ≤ S.faults shelf.new }
@@ -184,24 +185,4 @@ pub fn load_named<S: Shelf>(
     let numbers = named_datasets(alloc, &catalogue.datasets, body)?;
     demand_files(alloc, &catalogue.datasets, &numbers)?;
     load_files(alloc, shelf, catalogue, &wanted, &numbers)
-}
-
-/// Loads, of the facts of the files of all datasets, in order, those that are wanted, in the same way.
-pub fn load_all<S: Shelf>(
-    alloc: Global,
-    shelf: &mut S,
-    catalogue: &Catalogue,
-    wanted: &Wanted,
-) -> Result<Loaded, Status>
-    ensures answer { Loads catalogue.now.datasets wanted.now
-        (loads (S.files shelf.old) catalogue.now.datasets IsAny)
-        (Rises S.faults shelf.old shelf.new) result }
-    ensures asked { LoadsAsking (S.asked shelf.old) (S.asked shelf.new) catalogue.now.datasets
-        wanted.now (loads (S.files shelf.old) catalogue.now.datasets IsAny) result }
-    ensures files { S.files shelf.new ≡ S.files shelf.old }
-    ensures later { S.faults shelf.old ≤ S.faults shelf.new }
-{
-    let numbers = all_datasets(alloc, &catalogue.datasets)?;
-    demand_files(alloc, &catalogue.datasets, &numbers)?;
-    load_files(alloc, shelf, catalogue, wanted, &numbers)
 }

@@ -4,11 +4,13 @@ ghost use Rattle.esto_fragments.specs.Fragments.{Stored, IsStoredAt};
 ghost use Rattle.esto_ports.specs.Faults.{Rises};
 ghost use Rattle.esto_opening.specs.Answers.{Answers};
 ghost use Rattle.esto_opening.specs.Asked.{AsksIn};
+ghost use Rattle.esto_fill.specs.Coding.{IsCoded, IsCodedOf};
+ghost use Rattle.esto_fill.specs.declared.loaded.Loaded.{Loaded};
 ghost use Rattle.esto_data.specs.Fill.{fill_course, fill_status, fills_file, fills_fragment, fills_named, finds_fragment, make_course};
 
 use crate::datasets::load_named;
 use esto_catalog::{Catalogue, catalogues_are_sound};
-use esto_fill::{FillError, Loaded, answers_rest_on_wanted_facts};
+use esto_fill::{CodedData, FillError, answers_rest_on_wanted_facts, fill_coded};
 use esto_opening::{Reply, Status, open_catalogue};
 use esto_ports::Shelf;
 use esto_term::{Bytes, Replicate, Text};
@@ -50,13 +52,16 @@ fn text_of(
     alloc: Global,
     catalogue: &Catalogue,
     number: usize,
-    loaded: &Loaded,
+    coded: CodedData,
 ) -> Result<Bytes, Status>
-    requires { number < length catalogue.now.fragments }
-    ensures { (stored : Stored) → IsStoredAt catalogue.now number stored
-        → Answers (fills_file stored loaded.now.facts) ⊥ result }
+    requires number { number < length catalogue.now.fragments }
+    requires coded { IsCoded coded }
+    ensures { (loaded : Loaded) → IsCodedOf loaded coded → (stored : Stored)
+        → IsStoredAt catalogue.now number stored
+        → Answers (fills_file stored loaded.facts) ⊥ result }
 {
-    match esto_fill::fill(alloc, catalogue, number, loaded) {
+    let mut coded = coded;
+    match fill_coded(alloc, catalogue, number, &mut coded) {
         Ok(text) => Ok(text),
         Err(error) => Err(fill_status(error)),
     }
@@ -80,8 +85,8 @@ fn fill_fragment<S: Shelf>(
     catalogues_are_sound();
     answers_rest_on_wanted_facts();
     let fragment = catalogue.fragments.item(number);
-    let loaded = load_named(alloc, shelf, catalogue, &fragment.view.body)?;
-    let text = text_of(alloc, catalogue, number, &loaded)?;
+    let coded = load_named(alloc, shelf, catalogue, &fragment.view.body)?;
+    let text = text_of(alloc, catalogue, number, coded)?;
     Ok(Reply::Done(text))
 }
 

@@ -4,9 +4,12 @@
 
 mod answering;
 mod auditing;
+mod comparing;
 mod datasets;
 mod filling;
+mod kept;
 mod laws;
+mod opened;
 mod unions;
 
 pub use answering::answer;

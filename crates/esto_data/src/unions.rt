@@ -2,11 +2,11 @@
 ghost use Rattle.std.specs.Prelude.{◌≡◌, ◌↔◌, ◌≤◌, IsTrue, map, IfOk, OnOk};
 ghost use Rattle.esto_ports.specs.Faults.{Rises};
 ghost use Rattle.esto_query.specs.Making.{query_of};
-ghost use Rattle.esto_data.specs.Datasets.{AddsNeeded, AreNeeded, Loads, LoadsAsking, OneNames, loads, named_by};
+ghost use Rattle.esto_data.specs.Datasets.{AddsNeeded, AreNeeded, HoldsLeft, Loads, LoadsAsking, OneNames, loads, named_by};
 
 use crate::datasets::{demand_files, load_files, names};
 use esto_catalog::{Catalogue, Dataset, Datasets};
-use esto_fill::{Loaded, wanted_by_queries};
+use esto_fill::{CodedData, wanted_by_queries};
 use esto_opening::{Queries, Status};
 use esto_ports::Shelf;
 use esto_query::Query;
@@ -64,13 +64,14 @@ pub fn load_union<S: Shelf>(
     shelf: &mut S,
     catalogue: &Catalogue,
     queries: &Queries,
-) -> Result<Loaded, Status>
-    ensures answer { Loads catalogue.now.datasets (named_by queries.now)
+) -> Result<CodedData, Status>
+    ensures answer { Loads (HoldsLeft catalogue.now.datasets (named_by queries.now))
         (loads (S.files shelf.old) catalogue.now.datasets (OneNames (map query_of queries.now)))
         (Rises S.faults shelf.old shelf.new) result }
-    ensures asked { LoadsAsking (S.asked shelf.old) (S.asked shelf.new) catalogue.now.datasets
-        (named_by queries.now) (loads (S.files shelf.old) catalogue.now.datasets
-        (OneNames (map query_of queries.now))) result }
+    ensures asked { LoadsAsking (S.asked shelf.old) (S.asked shelf.new)
+        (HoldsLeft catalogue.now.datasets (named_by queries.now))
+        (loads (S.files shelf.old) catalogue.now.datasets (OneNames (map query_of queries.now)))
+        result }
     ensures files { S.files shelf.new ≡ S.files shelf.old }
     ensures later { S.faults shelf.old ≤ S.faults shelf.new }
 {

@@ -15,4 +15,8 @@ pub mod MovedLemmas
 pub mod LawfulLemmas
 pub mod TriedLemmas
 pub mod TrialLemmas
-pub mod UnionLemmas
+pub mod OnceLemmas
+pub mod CodedRowLemmas
+pub mod CodedViewLemmas
+pub mod CodedAuditLemmas
+pub mod CodedLoadLemmas

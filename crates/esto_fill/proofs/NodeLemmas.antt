@@ -68,7 +68,7 @@ module _ (relation column : ℕ) where
 
 -- ---- views
 
-row_text : (m : Term → Value) (head : List Term) → ((term : Term) → Contains head term → (text : List ℕ) × (m term ≡ Text text))
+pub row_text : (m : Term → Value) (head : List Term) → ((term : Term) → Contains head term → (text : List ℕ) × (m term ≡ Text text))
     → (row : Row) × (map m head ≡ map Text row)
 row_text m [] each = ([], refl)
 row_text m (first ∷ rest) each =

@@ -4,7 +4,7 @@ use Rattle.std.specs.declared.cmp.Ordering.TheVariants.{Greater}
 use Rattle.esto_catalog.specs.declared.catalogue.Shape.{Shape}
 use Rattle.esto_catalog.specs.declared.catalogue.Shape.TheVariants.{Keys}
 use Rattle.esto_query.specs.Making.{query_of}
-use Rattle.esto_query.specs.Rows.{Adds, row_cmp}
+use Rattle.esto_query.specs.Rows.{row_cmp}
 use Rattle.esto_query.specs.declared.query.Name.{Name}
 use Rattle.esto_query.specs.declared.query.Query.{Query}
 use Rattle.esto_relmodel.specs.Once.{AreEachOnce}
@@ -32,10 +32,6 @@ use Rattle.esto_fill.specs.declared.filled.FillError.TheVariants.{NodeInRow, Key
 -- The row is an answer over the facts of one of the queries.
 abbrev pub IsUnionRow : List Query → List (Fact Term) → List Term → Type 0
 IsUnionRow queries facts row = (query : Query) × Contains queries query × IsAnswerInto Const (query_of query) (Contains facts) row
-
--- The answers of the query over the facts have come to the rows.
-abbrev pub AddsAnswers : Query → List (Fact Term) → List (List Term) → List (List Term) → Type 0
-AddsAnswers query facts old new = Adds old new (IsAnswerInto Const (query_of query) (Contains facts))
 
 -- ---- rows of terms and rows of texts
 

@@ -19,7 +19,7 @@ use esto_term::{Bytes, List, OutOfMemory};
 use std::alloc::Global;
 
 /// How many cells a line of a dataset of keys has: a key, a field and a value.
-const KEY_CELLS: usize = 3;
+pub const KEY_CELLS: usize = 3;
 
 /// The bytes of a dataset's file, by the number of the dataset in the catalogue.
 #[derive(Drop)]

@@ -72,8 +72,13 @@ fn keys_of(alloc: Global, rows: &TextRows, columns: usize) -> Result<Bytes, Fill
     Ok(text)
 }
 
-// The text of the rows in the shape, which is one for the view; or the first cell that it can't hold.
-fn text_of(alloc: Global, shape: &Shape, view: &Query, rows: &TextRows) -> Result<Bytes, FillError>
+/// The text of the rows in the shape, which is one for the view; or the first cell that it can't hold.
+pub fn text_of(
+    alloc: Global,
+    shape: &Shape,
+    view: &Query,
+    rows: &TextRows,
+) -> Result<Bytes, FillError>
     requires fits { IsShapeFor shape.now view.now }
     requires wide { All (λ row. length row ≡ length view.now.head) rows.now }
     ensures text { WritesRows shape.now rows.now result }
@@ -94,8 +99,8 @@ fn text_of(alloc: Global, shape: &Shape, view: &Query, rows: &TextRows) -> Resul
     }
 }
 
-// The text, with a byte-order mark once more before it where it begins with one.
-fn marked(alloc: Global, text: Bytes) -> Result<Bytes, OutOfMemory>
+/// The text, with a byte-order mark once more before it where it begins with one.
+pub fn marked(alloc: Global, text: Bytes) -> Result<Bytes, OutOfMemory>
     ensures { IfOk result (λ it. it ≡ with_mark text) }
 {
     if !text.bytes().starts_with(&MARK) {

@@ -1,0 +1,165 @@
+-- The rows of fragments as rows of codes and as rows of texts, and what is compared.
+use Rattle.std.proofs.Common.{◌≡◌, ◌↔◌, ◌<◌, ◌≤◌, ◌+◌, inl, inr, ℕ, List, [], ◌∷◌, length, length-append, map, get_or, slice_get, Contains, Some}
+use Rattle.std.proofs.Common.{refl, sym, ap, subst, ◌∙◌, arith}
+use Rattle.std.proofs.lemmas.Option.{same_Some, slice_get_within}
+use Rattle.esto_catalog.specs.declared.catalogue.Catalogue.{Catalogue}
+use Rattle.esto_catalog.specs.declared.dataset.Dataset.{Dataset}
+use Rattle.esto_columns.specs.CodedRows.{CodedRows}
+use Rattle.esto_columns.specs.Interned.{AreCodedRows, AreCodesOf, Grows}
+use Rattle.esto_columns.proofs.CodingLemmas.{rows_grow}
+use Rattle.esto_constraint.specs.Constraints.{rules_of}
+use Rattle.esto_fill.specs.Coding.{AreCodedLists}
+use Rattle.esto_fill.specs.Databases.{database_of}
+use Rattle.esto_fill.specs.Files.{AreFactsFrom, IsLoadedFrom, nodes_in}
+use Rattle.esto_fill.specs.Laws.{FactsAreOne}
+use Rattle.esto_fill.specs.Texts.{AreTextViews}
+use Rattle.esto_fill.specs.Trials.{IsEnoughFor, IsTrialOf}
+use Rattle.esto_fill.specs.Wanted.{Leaves}
+use Rattle.esto_fill.specs.declared.datasets.DatasetBytes.{DatasetBytes}
+use Rattle.esto_fill.specs.declared.loaded.Loaded.{Loaded}
+use Rattle.esto_fill.specs.declared.trial.Trial.{Trial}
+use Rattle.esto_run.proofs.HeldLemmas.{code_below, text_of_codes}
+use Rattle.esto_semantics.specs.declared.fact.Fact.{Fact}
+use Rattle.esto_steps.specs.Rows.{IsRowOf, held_by}
+use Rattle.esto_stores.specs.Rows.{Row}
+use Rattle.esto_term.proofs.ListLemmas.{Contains-cases, Contains-map, Contains-map_from, Contains-nil, at_pushed, map_one, thing_at}
+use Rattle.esto_term.proofs.PlaceLemmas.{item_at}
+use Rattle.esto_term.proofs.ZipLemmas.{zip_at, zip_both, zip_length, zip_weaker}
+use Rattle.esto_term.specs.declared.term.Term.{Term}
+use Rattle.esto_views.specs.Fragments.{views_of}
+use Rattle.esto_data.specs.Audit.{AddsTexts, AreFactsToAudit, AreRowsOfFiles, HoldContents, HoldSameRows}
+use Rattle.esto_data.specs.Datasets.{AreNumbered}
+use Rattle.esto_data.proofs.RowLemmas.{held_there, row_from}
+use Rattle.esto_data.proofs.WantedLemmas.{enough_left, texts_back}
+
+-- ---- rows of codes
+
+lists_grow : (old new : List (List ℕ)) → Grows old new → (lists : List CodedRows) (rows : List (List Row)) → AreCodedLists old lists rows
+    → AreCodedLists new lists rows
+lists_grow old new grown lists rows coded =
+    zip_weaker _ _ lists rows (λ own its inside are. rows_grow old new own.rows its grown are) coded
+
+module _ (catalogue : Catalogue) (contents : ℕ → List ℕ) (texts : List (List ℕ)) (lists : List CodedRows)
+    (held : HoldContents catalogue contents texts lists) where
+  pub contents_grow : (more : List (List ℕ)) → Grows texts more → HoldContents catalogue contents more lists
+  contents_grow more grown = record { rows = held.rows; coded = lists_grow texts more grown lists held.rows held.coded; are = held.are }
+
+  pub contents_many : length lists ≡ length catalogue.fragments
+  contents_many = zip_length _ lists held.rows held.coded ∙ held.are.many
+
+-- ---- their texts
+
+module _ (texts coded : List (List ℕ)) (rows : List Row) (are : AreCodedRows texts coded rows) where
+  -- each code is that of a text
+  pub codes_below : (codes : List ℕ) → Contains coded codes → (code : ℕ) → Contains codes code → code < length texts
+  codes_below codes inside code within =
+      let found = text_of_codes texts coded rows are codes inside in code_below texts codes found.0 found.2 code within
+
+  -- the rows that they say are the rows of which they are the codes
+  pub rows_said : (row : Row) → ((own : List ℕ) × Contains coded own × AreCodesOf texts own row) ↔ Contains rows row
+  rows_said row = (
+    (λ (own, inside, codes).
+        let found = text_of_codes texts coded rows are own inside in
+        subst (Contains rows) (map_one Some (λ one other same. same_Some one other same) found.0 row (sym found.2 ∙ codes)) found.1),
+    (λ inside.
+        let found = Contains-map_from (map (slice_get texts)) coded (map Some row)
+        (subst (λ (it : List (List _)). Contains it (map Some row)) (sym are) (Contains-map (map Some) rows row inside)) in
+        (found.0, found.1, found.2)),
+  )
+
+-- the first lists of rows of codes, so many, in texts
+pub record SoFarTexts (texts : List (List ℕ)) (coded : List CodedRows) (index : ℕ) (shown : List (List Row)) : Type 0 where
+  pub long : length shown ≡ index
+  pub same : (lists : List (List Row)) → AreCodedLists texts coded lists → (number : ℕ) (its own : List Row) → slice_get shown number ≡ Some its
+      → slice_get lists number ≡ Some own
+      → (row : Row) → Contains its row ↔ Contains own row
+
+module _ (texts : List (List ℕ)) (coded : List CodedRows) where
+  pub texts_start : (shown : List (List Row)) → shown ≡ [] → SoFarTexts texts coded 0 shown
+  texts_start shown none = subst (SoFarTexts texts coded 0) (sym none) (record { long = refl; same = λ lists are number its own at. absurd (cc) })
+
+  -- the rows of codes at a place have their rows of texts
+  pub texts_there : (index : ℕ) (its : CodedRows) → slice_get coded index ≡ Some its → (lists : List (List Row)) → AreCodedLists texts coded lists
+      → (own : List Row) × AreCodedRows texts its.rows own
+  texts_there index its at lists are = let found = zip_at _ coded lists are index its at in (found.0, found.2)
+
+  module _ (index : ℕ) (shown : List (List Row)) (so_far : SoFarTexts texts coded index shown) where
+    pub texts_go : (its : CodedRows) → slice_get coded index ≡ Some its → (more : List (List Row)) → AddsTexts texts its.rows shown more
+        → SoFarTexts texts coded (index + 1) more
+    texts_go its at more (own, pushed, says) = subst (SoFarTexts texts coded (index + 1)) (sym pushed) (record {
+      long = length-append shown (own ∷ []) ∙ ap (λ (it : ℕ). it + 1) so_far.long;
+      same = λ lists are number list other there beside row. elim (at_pushed shown own number list there) [
+        | inl earlier ↦ so_far.same lists are number list other earlier beside row
+        | inr last ↦
+            let here : slice_get coded number ≡ Some its = ap (slice_get coded) (last.0 ∙ so_far.long) ∙ at in
+            subst (λ (it : List Row). Contains it row ↔ Contains other row) last.1 (says other (zip_both _ coded lists are number its other here beside) row)
+      ];
+    })
+
+    pub texts_end : length coded ≤ index → index ≤ length coded → (lists : List (List Row)) → AreCodedLists texts coded lists → HoldSameRows shown lists
+    texts_end past within lists are = record { many = many; same = λ fact. (there fact, back fact) }
+      where
+        many : length shown ≡ length lists
+        many = omega (arith, so_far.long, past, within, zip_length _ coded lists are)
+
+        there : (fact : Fact (List ℕ)) → IsRowOf (held_by shown) fact → IsRowOf (held_by lists) fact
+        there fact inside =
+            let own = row_from shown fact.relation fact.terms inside in
+            let beside = thing_at lists fact.relation (omega (arith, slice_get_within shown fact.relation own.0 own.1, many)) in
+            held_there lists fact.relation beside.0 beside.1 fact.terms
+            ((so_far.same lists are fact.relation own.0 beside.0 own.1 beside.1 fact.terms).0 own.2)
+
+        back : (fact : Fact (List ℕ)) → IsRowOf (held_by lists) fact → IsRowOf (held_by shown) fact
+        back fact inside =
+            let own = row_from lists fact.relation fact.terms inside in
+            let beside = thing_at shown fact.relation (omega (arith, slice_get_within lists fact.relation own.0 own.1, many)) in
+            held_there shown fact.relation beside.0 beside.1 fact.terms
+            ((so_far.same lists are fact.relation beside.0 own.0 beside.1 own.1 fact.terms).1 own.2)
+
+-- lists with the same rows are those of the contents too
+pub same_contents : (catalogue : Catalogue) (contents : ℕ → List ℕ) (shown lists : List (List Row)) → HoldSameRows shown lists
+    → AreRowsOfFiles catalogue contents lists → AreRowsOfFiles catalogue contents shown
+same_contents catalogue contents shown lists same are = record {
+  many = same.many ∙ are.many;
+  are = λ fact. (
+    (λ inside. (are.are fact).0 ((same.same fact).0 inside)),
+    (λ holds. (same.same fact).1 ((are.are fact).1 holds)),
+  );
+}
+
+-- the rows of codes that are read at a place
+pub list_read : (coded items : List CodedRows) → items ≡ coded → (index : ℕ) (its : CodedRows) → index < length items → its ≡ get_or items index its
+    → slice_get coded index ≡ Some its
+list_read coded items are index its below is =
+    subst (λ (it : List CodedRows). slice_get it index ≡ Some its) are (item_at items index its below is)
+
+-- ---- files that are loaded again
+
+module _ (one : FactsAreOne) (catalogue : Catalogue) (trial : Trial) (tries : IsTrialOf catalogue trial) (files : List DatasetBytes)
+    (facts : List (Fact Term)) (audited : AreFactsToAudit catalogue files facts) (loaded : Loaded)
+    (again : IsLoadedFrom catalogue.datasets trial.wanted files loaded) where
+  -- what is loaded of them is left of the same facts
+  pub again_enough : IsEnoughFor catalogue (rules_of trial.laws) facts loaded.facts
+  again_enough =
+      let (others, are, leaves, rising) = again in
+      let same = (one catalogue.datasets 0 files others facts loaded.next audited.are.next are audited.are.are).0 in
+      enough_left catalogue trial tries facts loaded.facts
+      (subst (λ (it : List (Fact Term)). Leaves trial.wanted it loaded.facts) same leaves) audited.lawful
+
+  pub again_texts : AreTextViews (views_of catalogue.fragments) (database_of loaded.facts)
+  again_texts = texts_back catalogue (rules_of trial.laws) facts loaded.facts again_enough audited.texts
+
+-- each of the files of facts is that of a dataset
+numbered : (datasets : List Dataset) (first : ℕ) (files : List DatasetBytes) (facts : List (Fact Term)) (next : ℕ) → AreFactsFrom datasets first files facts next
+    → AreNumbered datasets files
+numbered datasets first [] facts next are file inside = absurd (Contains-nil file inside)
+numbered datasets first (own ∷ files) facts next (dataset, its, others, at, is, rest, both) file inside =
+    let later = numbered datasets (first + nodes_in dataset own.bytes) files others next rest in
+    elim (Contains-cases own files file inside) [
+      | inl same ↦ subst (λ (it : DatasetBytes). it.dataset < length datasets) same (slice_get_within datasets own.dataset dataset at)
+      | inr among ↦ later file among
+    ]
+
+pub files_numbered : (catalogue : Catalogue) (files : List DatasetBytes) (facts : List (Fact Term)) → AreFactsToAudit catalogue files facts
+    → AreNumbered catalogue.datasets files
+files_numbered catalogue files facts audited = numbered catalogue.datasets 0 files facts audited.are.next audited.are.are

@@ -1,8 +1,0 @@
-use Rattle.std.proofs.Common.{◌≡◌, ◌≤◌}
-use Rattle.esto_data.proofs.RowLemmas.{SoFarRows}
-use Rattle.esto_data.proofs.auditing.open_all_rows.Given as goal
-
-abbrev pub invariant-fragments : goal.invariant-fragments
-invariant-fragments g l =
-    (g.S.Shelf.files l.shelf ≡ g.S.Shelf.files l.initial.shelf) × (g.S.Shelf.faults l.initial.shelf ≤ g.S.Shelf.faults l.shelf)
-    × SoFarRows (g.S.Shelf.files l.initial.shelf) l.catalogue (g.S.Shelf.asked l.initial.shelf) l.number l.rows (g.S.Shelf.asked l.shelf)

@@ -1,0 +1,108 @@
+//! The rows of the files of all fragments, as rows of codes.
+ghost use Rattle.std.specs.Prelude.{◌≡◌, ◌<◌, ◌≤◌, length, IfOk, OnOk};
+ghost use Rattle.esto_catalog.specs.Soundness.{IsShapeFor};
+ghost use Rattle.esto_fill.specs.declared.coded_data.CodedData.{CodedData};
+ghost use Rattle.esto_fragments.specs.Fragments.{reads_content};
+ghost use Rattle.esto_ports.specs.Faults.{Rises};
+ghost use Rattle.esto_run.specs.Opened.{HaveWidth};
+ghost use Rattle.esto_opening.specs.Answers.{Answers};
+ghost use Rattle.esto_data.specs.Audit.{AddsRows, OpensNextRows, OpensRows, ReadsRows, StaysData};
+
+use esto_catalog::{Catalogue, Store, catalogues_are_sound};
+use esto_fill::{CodedData, CodedRowsList, add_coded_rows};
+use esto_opening::{DATA_LIMIT, Status, fetch};
+use esto_ports::{FileError, Shelf};
+use esto_run::open_store;
+use esto_term::{Bytes, List, Replicate, TextRows};
+use esto_views::FragmentDef;
+use std::alloc::Global;
+
+// The rows of the content of the fragment's file, or the status of the content's first fault.
+fn read_rows(
+    alloc: Global,
+    store: &Store,
+    fragment: &FragmentDef,
+    bytes: &Bytes,
+) -> Result<TextRows, Status>
+    requires { IsShapeFor store.now.shape fragment.now.view }
+    ensures rows { ReadsRows (record { definition = fragment.now; store = store.now }) bytes.now
+        result }
+    ensures wide { IfOk result (HaveWidth (length fragment.now.view.head)) }
+{
+    match open_store(alloc, store, fragment, bytes.bytes()) {
+        Ok(rows) => Ok(rows),
+        Err(FileError::Fault(fault)) => {
+            let name = fragment.name.copy(alloc)?;
+            Err(Status::BadFragment(name, fault))
+        }
+        Err(FileError::OutOfMemory) => Err(Status::OutOfMemory),
+    }
+}
+
+// Puts the rows of the content of the fragment's file, as rows of codes, at the end; or answers the status of the content's
+// first fault.
+fn code_content(
+    alloc: Global,
+    store: &Store,
+    fragment: &FragmentDef,
+    bytes: &Bytes,
+    coded: &mut CodedData,
+    rows: &mut CodedRowsList,
+) -> Result<(), Status>
+    requires { IsShapeFor store.now.shape fragment.now.view }
+    ensures answer { Answers (reads_content
+        (record { definition = fragment.now; store = store.now }) bytes.now) ⊥ result }
+    ensures rows { OnOk result (AddsRows store.now.shape bytes.now
+        coded.old.facts.texts coded.new.facts.texts rows.old rows.new) }
+    ensures stays { OnOk result (StaysData coded.old coded.new) }
+{
+    let texts = read_rows(alloc, store, fragment, bytes)?;
+    add_coded_rows(alloc, coded, texts, fragment.view.head.len(), rows)?;
+    Ok(())
+}
+
+// Fetches the file of the fragment of the number, and puts its rows, as rows of codes, at the end.
+fn open_rows<S: Shelf>(
+    alloc: Global,
+    shelf: &mut S,
+    catalogue: &Catalogue,
+    number: usize,
+    coded: &mut CodedData,
+    rows: &mut CodedRowsList,
+) -> Result<(), Status>
+    requires { number < length catalogue.now.fragments }
+    ensures answer { OpensNextRows (S.files shelf.old) catalogue.now number
+        coded.old.facts.texts coded.new.facts.texts rows.old rows.new
+        (Rises S.faults shelf.old shelf.new) (S.asked shelf.old) (S.asked shelf.new) result }
+    ensures stays { OnOk result (StaysData coded.old coded.new) }
+    ensures files { S.files shelf.new ≡ S.files shelf.old }
+    ensures later { S.faults shelf.old ≤ S.faults shelf.new }
+{
+    catalogues_are_sound();
+    let fragment = catalogue.fragments.item(number);
+    let store = catalogue.stores.item(number);
+    let bytes = fetch(alloc, shelf, &store.file, DATA_LIMIT)?;
+    code_content(alloc, store, fragment, &bytes, coded, rows)
+}
+
+/// The rows of the files of all fragments, as rows of codes: each is fetched, and its content read and coded, before the
+/// next is fetched.
+pub fn open_all_rows<S: Shelf>(
+    alloc: Global,
+    shelf: &mut S,
+    catalogue: &Catalogue,
+    coded: &mut CodedData,
+) -> Result<CodedRowsList, Status>
+    ensures answer { OpensRows (S.files shelf.old) catalogue.now coded.new.facts.texts
+        (Rises S.faults shelf.old shelf.new) (S.asked shelf.old) (S.asked shelf.new) result }
+    ensures stays { OnOk result (StaysData coded.old coded.new) }
+    ensures files { S.files shelf.new ≡ S.files shelf.old }
+    ensures later { S.faults shelf.old ≤ S.faults shelf.new }
+{
+    catalogues_are_sound();
+    let mut rows = List::new(alloc);
+    'fragments: for number in 0..catalogue.fragments.len() {
+        open_rows(alloc, shelf, catalogue, number, coded, &mut rows)?;
+    }
+    Ok(rows)
+}

@@ -1,0 +1,409 @@
+-- Facts of files that are put into rows of codes.
+use Rattle.std.proofs.Common.{◌≡◌, ◌⊎◌, ◌↔◌, ◌+◌, inl, inr, ℕ, List, [], ◌∷◌, ◌++◌, filter, length, map, Bool, true, false, Some, None, slice_get}
+use Rattle.std.proofs.Common.{Contains, refl, sym, ap, ◌∙◌, subst, append_assoc, append-nil, arith}
+use Rattle.std.specs.Prelude.{OnOk, Result, Ok, Err, if◌then◌else◌, ◌==◌, ◌||◌, codes}
+use Rattle.std.specs.List.{list_any, onto_first}
+use Rattle.std.proofs.lemmas.Bool.{cases_Bool, eqb-true, false≢true}
+use Rattle.std.proofs.lemmas.List.Elements.{Contains-append_cases, Contains-append_left, Contains-append_right}
+use Rattle.std.proofs.lemmas.Option.{none-some}
+use Rattle.esto_catalog.specs.Datasets.{StandFrom, model_relations, part, relations_of}
+use Rattle.esto_catalog.specs.declared.dataset.Dataset.{Dataset}
+use Rattle.esto_coded.specs.Coded.{Coded, HasPlace, StandFor, arities_of}
+use Rattle.esto_docmodel.specs.DocumentFacts.{DocFact, root, field, item, value, below, flat}
+use Rattle.esto_docmodel.specs.Encodings.{facts_from, is_kept, kept_of, size}
+use Rattle.esto_docmodel.specs.Shapes.{documents}
+use Rattle.esto_docmodel.specs.declared.encode.Encoded.{Encoded}
+use Rattle.esto_docmodel.specs.declared.kept.Kept.{Kept}
+use Rattle.esto_docmodel.specs.declared.tree.Tree.{Tree}
+use Rattle.esto_docmodel.proofs.DocumentLemmas.{kept_append}
+use Rattle.esto_docmodel.proofs.EncodeLemmas.{rising_append, size_append}
+use Rattle.esto_docs.specs.Encoding.{AreEncoded}
+use Rattle.esto_docs.specs.Files.{file_trees, is_bad, lines_fault, trees_fault, trees_of_line, trees_of_lines}
+use Rattle.esto_docs.proofs.LineLemmas.{line_bad, line_good}
+use Rattle.esto_lines.specs.Faults.{fault_at}
+use Rattle.esto_lines.specs.Lines.{IsOneLine, line_feed, lines_of}
+use Rattle.esto_ports.specs.declared.file_fault.FileError.{FileError}
+use Rattle.esto_ports.specs.declared.file_fault.FileError.TheVariants as content
+use Rattle.esto_ports.specs.declared.file_fault.FileFault.{FileFault}
+use Rattle.esto_ports.specs.declared.file_fault.FileKind.{FileKind}
+use Rattle.esto_ports.specs.declared.file_fault.FileKind.TheVariants.{Cells, NotUtf8}
+use Rattle.esto_query.specs.declared.schema.Relation.{Relation}
+use Rattle.esto_read.specs.declared.words.DataModel.{DataModel}
+use Rattle.esto_read.specs.declared.words.DataModel.TheVariants.{Table, Documents, Keys}
+use Rattle.esto_relmodel.specs.Once.{AreEachOnce}
+use Rattle.esto_relmodel.specs.RowFacts.{row_fact}
+use Rattle.esto_semantics.specs.Maps.{AreFlat}
+use Rattle.esto_semantics.specs.declared.fact.Fact.{Fact}
+use Rattle.esto_stores.specs.Keys.{key_fault, key_rows}
+use Rattle.esto_stores.specs.Rows.{Row, are_texts, first_fault}
+use Rattle.esto_stores.specs.Table.{table_fault, table_rows}
+use Rattle.esto_term.proofs.ListLemmas.{Contains-cases, Contains-filter_from, Contains-head, Contains-map, Contains-map_from, Contains-nil, Contains-one, Contains-rest, map_at}
+use Rattle.esto_term.specs.declared.term.Term.{Term}
+use Rattle.esto_fill.specs.CodedParts.{HasPlaces, HasRelations, Puts, PutsEncoded, PutsFile, PutsKept, PutsRows, PutsTrees}
+use Rattle.esto_fill.specs.Coding.{IsCodedFrom, IsOver}
+use Rattle.esto_fill.specs.Files.{AreWantedOf, FindsFault, fault_by_model}
+use Rattle.esto_fill.specs.Wanted.{IsKeptFor, is_wanted}
+use Rattle.esto_fill.specs.declared.coded_data.CodedData.{CodedData}
+use Rattle.esto_fill.specs.declared.datasets.DatasetBytes.{DatasetBytes}
+use Rattle.esto_fill.specs.declared.wanted.Wanted.{Wanted}
+use Rattle.esto_fill.proofs.FileLemmas.{append_flat, documents_flat, documents_give, keys_give, load_more, table_gives}
+use Rattle.esto_fill.proofs.OnceLemmas.{rows_once}
+use Rattle.esto_fill.proofs.ValueLemmas.{flat_kept}
+use Rattle.esto_fill.proofs.WantedLemmas.{leaves_none}
+
+-- ---- facts read as sets
+
+-- rows of codes stand for whichever list has the same facts
+pub stand_same : (coded : Coded) (facts others : List (Fact Term)) → ((fact : Fact Term) → Contains facts fact ↔ Contains others fact) → StandFor coded facts
+    → StandFor coded others
+stand_same coded facts others same stand = record {
+  has = λ fact inside. stand.has fact ((same fact).1 inside);
+  only = λ relation codes inside.
+      let own = stand.only relation codes inside in (own.0, (same own.0).0 own.1, own.2, own.3);
+}
+
+-- nothing is put
+pub puts_none : (coded : CodedData) → Puts [] coded coded
+puts_none coded = record { stand = λ facts stand. subst (StandFor coded.facts) (sym (append-nil facts)) stand; arities = refl }
+
+-- what is put after what was put
+pub puts_more : (own more : List (Fact Term)) (first middle last : CodedData) → Puts own first middle → Puts more middle last → Puts (own ++ more) first last
+puts_more own more first middle last before after = record {
+  stand = λ facts stand. subst (StandFor last.facts) (append_assoc facts own more) (after.stand (facts ++ own) (before.stand facts stand));
+  arities = after.arities ∙ before.arities;
+}
+
+-- ---- rows, each once
+
+module _ (relation : ℕ) (rows kept : List Row) (once : AreEachOnce rows kept) where
+  -- the facts of all rows are those of the rows each once
+  once_same : (facts : List (Fact Term)) (fact : Fact Term)
+      → Contains (facts ++ map (row_fact relation) rows) fact ↔ Contains (facts ++ map (row_fact relation) kept) fact
+  once_same facts fact = (there, back)
+    where
+      there : Contains (facts ++ map (row_fact relation) rows) fact → Contains (facts ++ map (row_fact relation) kept) fact
+      there inside = elim (Contains-append_cases facts (map (row_fact relation) rows) fact inside) [
+        | inl early ↦ Contains-append_left facts (map (row_fact relation) kept) fact early
+        | inr late ↦
+            let (row, among, is) = Contains-map_from (row_fact relation) rows fact late in
+            Contains-append_right facts (map (row_fact relation) kept) fact
+            (subst (Contains (map (row_fact relation) kept)) is (Contains-map (row_fact relation) kept row ((once.same row).1 among)))
+      ]
+
+      back : Contains (facts ++ map (row_fact relation) kept) fact → Contains (facts ++ map (row_fact relation) rows) fact
+      back inside = elim (Contains-append_cases facts (map (row_fact relation) kept) fact inside) [
+        | inl early ↦ Contains-append_left facts (map (row_fact relation) rows) fact early
+        | inr late ↦
+            let (row, among, is) = Contains-map_from (row_fact relation) kept fact late in
+            Contains-append_right facts (map (row_fact relation) rows) fact
+            (subst (Contains (map (row_fact relation) rows)) is (Contains-map (row_fact relation) rows row ((once.same row).0 among)))
+      ]
+
+module _ (wanted : Wanted) (relation : ℕ) (rows : List Row) where
+  -- where the relation is wanted, the facts of the rows each once are put
+  pub rows_put : (old new : CodedData) → is_wanted wanted relation ≡ true → new.next ≡ old.next → Puts (map (row_fact relation) rows) old new
+      → PutsRows wanted relation rows old new
+  rows_put old new told next puts =
+      let (kept, once) = rows_once rows in
+      let facts = map (row_fact relation) kept in (
+        facts,
+        facts,
+        (kept, once, refl),
+        (λ _. refl),
+        (λ none. absurd (false≢true (sym none ∙ told))),
+        record {
+          stand = λ all stand. stand_same new.facts (all ++ map (row_fact relation) rows) (all ++ facts) (once_same relation rows kept once all)
+              (puts.stand all stand);
+          arities = puts.arities;
+        },
+        next,
+      )
+
+  -- and where it is not, none
+  pub rows_left : (coded : CodedData) → is_wanted wanted relation ≡ false → PutsRows wanted relation rows coded coded
+  rows_left coded told =
+      let (kept, once) = rows_once rows in (
+        map (row_fact relation) kept,
+        [],
+        (kept, once, refl),
+        (λ want. absurd (false≢true (sym told ∙ want))),
+        (λ _. refl),
+        puts_none coded,
+        refl,
+      )
+
+-- ---- the relations of a dataset
+
+-- a dataset of the catalogue has its relations there
+pub has_relations : (schema : List Relation) (dataset : Dataset) (coded : CodedData) → IsOver schema coded
+    → StandFrom schema dataset.base (relations_of dataset) → HasRelations dataset coded
+has_relations schema dataset coded over stands number relation there =
+    ap (λ those. slice_get those (dataset.base + number)) over
+    ∙ map_at (λ (it : Relation). it.arity) schema (dataset.base + number) relation (stands number relation there)
+
+module _ (dataset : Dataset) (coded : CodedData) (relations : HasRelations dataset coded) where
+  -- the relations, where it is of this model
+  of_model : (model : DataModel) → dataset.model ≡ model → (number : ℕ) (relation : Relation)
+      → slice_get (model_relations dataset.name (length dataset.columns) model) number ≡ Some relation
+      → slice_get (arities_of coded.facts) (dataset.base + number) ≡ Some relation.arity
+  of_model model is number relation there =
+      relations number relation (ap (λ it. slice_get (model_relations dataset.name (length dataset.columns) it) number) is ∙ there)
+
+  -- the relation of a table has as many columns
+  pub table_place : dataset.model ≡ Table → slice_get (arities_of coded.facts) dataset.base ≡ Some (length dataset.columns)
+  table_place is =
+      ap (slice_get (arities_of coded.facts)) (omega arith)
+      ∙ of_model Table is 0 (record { name = dataset.name; arity = length dataset.columns }) refl
+
+  -- that of keys has three
+  pub keys_place : dataset.model ≡ Keys → slice_get (arities_of coded.facts) dataset.base ≡ Some 3
+  keys_place is = ap (slice_get (arities_of coded.facts)) (omega arith) ∙ of_model Keys is 0 (part dataset.name (codes "pair") 3) refl
+
+  -- and each fact of documents has its place
+  pub documents_places : dataset.model ≡ Documents → (relations : Kept) → relations.base ≡ dataset.base → HasPlaces relations coded
+  documents_places is kept base fact =
+      subst (λ it. HasPlace coded.facts (flat it fact)) (sym base) (place fact)
+    where
+      place : (fact : DocFact Term) → HasPlace coded.facts (flat dataset.base fact)
+      place (root n) = of_model Documents is 0 (part dataset.name (codes "root") 1) refl
+      place (field p k n) = of_model Documents is 1 (part dataset.name (codes "field") 3) refl
+      place (item p n) = of_model Documents is 2 (part dataset.name (codes "item") 2) refl
+      place (value n text) = of_model Documents is 3 (part dataset.name (codes "value") 2) refl
+      place (below a n) = of_model Documents is 4 (part dataset.name (codes "below") 2) refl
+
+-- no relation has other columns after the facts are put
+pub places_stay : (relations : Kept) (own : List (Fact Term)) (old new : CodedData) → Puts own old new → HasPlaces relations old → HasPlaces relations new
+places_stay relations own old new puts places fact =
+    ap (λ those. slice_get those (flat relations.base fact).relation) puts.arities ∙ places fact
+
+-- ---- documents
+
+-- what is kept of documents has its place
+pub kept_places : (relations : Kept) (first : ℕ) (trees : List Tree) (facts : List (Fact Term)) (coded : CodedData) → HasPlaces relations coded
+    → facts ≡ kept_of relations first (documents trees) → (fact : Fact Term) → Contains facts fact → HasPlace coded.facts fact
+kept_places relations first trees facts coded places is fact inside =
+    let from = Contains-map_from (flat relations.base) (filter (is_kept relations) (facts_from [] first (documents trees))) fact
+    (subst (λ those. Contains those fact) is inside) in
+    subst (HasPlace coded.facts) from.2 (places from.0)
+
+-- and is over constants and plain terms
+pub kept_flat : (relations : Kept) (first : ℕ) (trees : List Tree) (facts : List (Fact Term)) → facts ≡ kept_of relations first (documents trees)
+    → AreFlat facts
+kept_flat relations first trees facts is term (fact, inside, at) =
+    let all = facts_from [] first (documents trees) in
+    let from = Contains-map_from (flat relations.base) (filter (is_kept relations) all) fact (subst (λ those. Contains those fact) is inside) in
+    let among = Contains-filter_from (is_kept relations) all from.0 from.1 in
+    documents_flat relations.base first (documents trees) term
+    (flat relations.base from.0, Contains-map (flat relations.base) all from.0 among.0, subst (λ (it : Fact Term). Contains it.terms term) (sym from.2) at)
+
+-- the documents that are encoded are put
+pub encoded_put : (relations : Kept) (first : ℕ) (trees : List Tree) (encoded : Encoded) (old new : CodedData) → first ≡ old.next
+    → AreEncoded relations first trees encoded → PutsEncoded encoded old new → PutsKept relations trees old new
+encoded_put relations first trees encoded old new same are (puts, next) = record {
+  puts = subst (λ (those : List (Fact Term)). Puts those old new) (are.facts ∙ ap (λ n. kept_of relations n (documents trees)) same) puts;
+  next = next ∙ are.next ∙ ap (λ n. n + size (documents trees)) same;
+  rising = are.rising;
+}
+
+-- no documents
+pub kept_none : (relations : Kept) (coded : CodedData) → PutsKept relations [] coded coded
+kept_none relations coded = record { puts = puts_none coded; next = omega arith; rising = tt }
+
+-- more documents after others
+pub kept_more : (relations : Kept) (trees more : List Tree) (first middle last : CodedData) → PutsKept relations trees first middle
+    → PutsKept relations more middle last → PutsKept relations (trees ++ more) first last
+kept_more relations trees more first middle last before after = record {
+  puts = subst (λ (those : List (Fact Term)). Puts those first last)
+      (ap (λ n. kept_of relations first.next (documents trees) ++ kept_of relations n (documents more)) before.next ∙ sym (kept_append relations first.next trees more))
+      (puts_more (kept_of relations first.next (documents trees)) (kept_of relations middle.next (documents more)) first middle last before.puts after.puts);
+  next = let whole = size_append trees more in let one = before.next in let two = after.next in omega (arith, one, two, whole);
+  rising = rising_append trees more before.rising after.rising;
+}
+
+-- ---- a line
+
+-- a line that is a line of a file has no line feed
+no_feed : (bytes : List ℕ) (line : List ℕ) → Contains (lines_of bytes) line → IsOneLine line
+unfolding lines_of
+no_feed [] line inside = absurd (Contains-nil line inside)
+no_feed (b ∷ rest) line inside = by (b == line_feed) refl inside (no_feed rest)
+  where
+    onto : (lines : List (List ℕ)) → ((it : List ℕ) → Contains lines it → IsOneLine it) → (b == line_feed) ≡ false → (it : List ℕ)
+        → Contains (onto_first b lines) it → IsOneLine it
+    onto [] each other it inside =
+        let is = Contains-one (b ∷ []) it inside in subst IsOneLine is (rw other refl)
+    onto (first ∷ lines) each other it inside = elim (Contains-cases (b ∷ first) lines it inside) [
+      | inl is ↦ subst IsOneLine is (rw other (each first (Contains-head first lines)))
+      | inr later ↦ each it (Contains-rest first lines it later)
+    ]
+
+    by : (test : Bool) → (b == line_feed) ≡ test → Contains (if test then [] ∷ lines_of rest else onto_first b (lines_of rest)) line
+        → ((it : List ℕ) → Contains (lines_of rest) it → IsOneLine it) → IsOneLine line
+    by true is among each = elim (Contains-cases [] (lines_of rest) line among) [
+      | inl empty ↦ subst IsOneLine empty refl
+      | inr later ↦ each line later
+    ]
+    by false is among each = onto (lines_of rest) each is line among
+
+-- the lines of a line
+line_alone : (line : List ℕ) → IsOneLine line → (line ≡ []) ⊎ (lines_of line ≡ line ∷ [])
+unfolding lines_of
+line_alone [] one = inl refl
+line_alone (b ∷ rest) one = inr (by (b == line_feed) refl one (line_alone rest))
+  where
+    by : (test : Bool) → (b == line_feed) ≡ test → (test || list_any (λ it. it == line_feed) rest) ≡ false
+        → (IsOneLine rest → (rest ≡ []) ⊎ (lines_of rest ≡ rest ∷ []))
+        → (if test then [] ∷ lines_of rest else onto_first b (lines_of rest)) ≡ (b ∷ rest) ∷ []
+    by true is told later = absurd (false≢true (sym told))
+    by false is told later = elim (later told) [
+      | inl empty ↦ subst (λ those. onto_first b (lines_of those) ≡ (b ∷ those) ∷ []) (sym empty) refl
+      | inr same ↦ ap (onto_first b) same
+    ]
+
+module _ (line : List ℕ) (one : IsOneLine line) where
+  -- the documents of a file that is a line alone are those of the line
+  pub line_trees : trees_of_lines (lines_of line) ≡ trees_of_line line
+  unfolding lines_of
+  line_trees = elim (line_alone line one) [
+    | inl empty ↦ subst (λ those. trees_of_lines (lines_of those) ≡ trees_of_line those) (sym empty) refl
+    | inr alone ↦ ap trees_of_lines alone ∙ append-nil (trees_of_line line)
+  ]
+
+  -- where it has no fault, the line is good
+  pub line_good_alone : lines_fault 1 (lines_of line) ≡ None → is_bad line ≡ false
+  line_good_alone none = elim (line_alone line one) [
+    | inl empty ↦ subst (λ those. is_bad those ≡ false) (sym empty) refl
+    | inr alone ↦ elim (cases_Bool (is_bad line)) [
+      | inl bad ↦ absurd (none-some _ (sym none ∙ (ap (lines_fault 1) alone ∙ line_bad line [] 1 bad)))
+      | inr good ↦ good
+    ]
+  ]
+
+  -- and where it has one, bad
+  pub line_bad_alone : {found : FileFault} → lines_fault 1 (lines_of line) ≡ Some found → is_bad line ≡ true
+  unfolding lines_of lines_fault
+  line_bad_alone {found} some = elim (line_alone line one) [
+    | inl empty ↦ absurd (none-some found (ap (λ those. lines_fault 1 (lines_of those)) (sym empty) ∙ some))
+    | inr alone ↦ elim (cases_Bool (is_bad line)) [
+      | inl bad ↦ bad
+      | inr good ↦ absurd (none-some found (sym (line_good line [] 1 good) ∙ sym (ap (lines_fault 1) alone) ∙ some))
+    ]
+  ]
+
+-- the first line of bytes has no line feed
+pub first_line : (bytes line after : List ℕ) → lines_of bytes ≡ line ∷ lines_of after → IsOneLine line
+first_line bytes line after is = no_feed bytes line (subst (λ those. Contains those line) (sym is) (Contains-head line (lines_of after)))
+
+-- ---- lines of keys
+
+-- rows without a fault have as many cells as they are to have
+cells_wide : (kind : FileKind) (width : ℕ) (taken : Row → Row) (number : ℕ) (rows : List Row) → first_fault kind width taken number rows ≡ None
+    → (row : Row) → Contains rows row → length row ≡ width
+unfolding first_fault
+cells_wide kind width taken number [] none row inside = absurd (Contains-nil row inside)
+cells_wide kind width taken number (cells ∷ rest) none row inside =
+    by (length cells == width) refl none (λ passed there. cells_wide kind width taken (number + 1) rest passed row there)
+  where
+    later : (good : Bool) → (if good then first_fault kind width taken (number + 1) rest else Some (fault_at NotUtf8 number)) ≡ None
+        → length cells ≡ width → (first_fault kind width taken (number + 1) rest ≡ None → Contains rest row → length row ≡ width) → length row ≡ width
+    later true passed long again = elim (Contains-cases cells rest row inside) [
+      | inl is ↦ ap length (sym is) ∙ long
+      | inr there ↦ again passed there
+    ]
+    later false passed long again = absurd (none-some _ (sym passed))
+
+    by : (same : Bool) → (length cells == width) ≡ same
+        → (if same then (if are_texts (taken cells) then first_fault kind width taken (number + 1) rest else Some (fault_at NotUtf8 number))
+        else Some (fault_at kind number)) ≡ None → (first_fault kind width taken (number + 1) rest ≡ None → Contains rest row → length row ≡ width)
+        → length row ≡ width
+    by true is passed again = later (are_texts (taken cells)) passed (eqb-true (length cells) width is) again
+    by false is passed again = absurd (none-some _ (sym passed))
+
+pub keys_wide : (width : ℕ) (bytes : List ℕ) → key_fault width bytes ≡ None → (row : Row) → Contains (key_rows bytes) row → length row ≡ width
+unfolding key_fault
+keys_wide width bytes none = cells_wide Cells width (λ cells. cells) 1 (key_rows bytes) none
+
+-- ---- what a file gives
+
+module _ (dataset : Dataset) (wanted : Wanted) (bytes : List ℕ) (old new : CodedData) where
+  pub table_put : (rows : List Row) → (table_fault dataset.columns bytes ≡ None) × (rows ≡ table_rows dataset.columns bytes)
+      → PutsRows wanted dataset.base rows old new → PutsFile Table dataset wanted bytes old new (Ok tt)
+  table_put rows read (facts, own, are, all, none, puts, next) =
+      let given = table_gives dataset wanted bytes old.next rows facts own are all none read in
+      (given.0, (record { facts = own; next = old.next }, given.1, (puts, next)))
+
+  pub keys_put : (rows : List Row) → (key_fault 3 bytes ≡ None) × (rows ≡ key_rows bytes) → PutsRows wanted dataset.base rows old new
+      → PutsFile Keys dataset wanted bytes old new (Ok tt)
+  keys_put rows read (facts, own, are, all, none, puts, next) =
+      let given = keys_give dataset wanted bytes old.next rows facts own are all none read in
+      (given.0, (record { facts = own; next = old.next }, given.1, (puts, next)))
+
+  pub documents_put : (relations : Kept) → IsKeptFor wanted dataset.base relations → (result : Result (Unit {0}) FileError)
+      → PutsTrees relations (file_trees dataset.layout bytes) (trees_fault dataset.layout bytes) old new result
+      → PutsFile Documents dataset wanted bytes old new result
+  documents_put relations are (Ok done) (clear, puts) =
+      let trees = file_trees dataset.layout bytes in
+      let encoded : Encoded = record {
+        facts = kept_of relations old.next (documents trees);
+        next = old.next + size (documents trees);
+      } in
+      let given = documents_give dataset wanted bytes old.next relations are (Ok encoded)
+      (clear, record { facts = refl; next = refl; rising = puts.rising }) in
+      (given.0, (encoded, given.1, (puts.puts, puts.next)))
+  documents_put relations are (Err (content.Fault found)) given = given
+  documents_put relations are (Err content.OutOfMemory) given = tt
+
+  -- the first fault of a file of this model is found
+  pub finds_fault : (model : DataModel) (result : Result (Unit {0}) FileError) → PutsFile model dataset wanted bytes old new result
+      → FindsFault (fault_by_model model dataset bytes) result
+  finds_fault model (Ok done) puts = puts.0
+  finds_fault model (Err (content.Fault found)) fault = fault
+  finds_fault model (Err content.OutOfMemory) want = tt
+
+-- ---- what is loaded
+
+-- nothing
+pub none_loaded : (datasets : List Dataset) (wanted : Wanted) (coded : CodedData) → StandFor coded.facts [] → coded.next ≡ 0
+    → IsCodedFrom datasets wanted [] coded
+none_loaded datasets wanted coded stand next = (
+  record { facts = []; next = 0; sound = ∣ (λ term (fact, inside, at). absurd (Contains-nil fact inside)) ∣₁ },
+  record { stand = stand; next = next },
+  ([], (refl, refl), leaves_none wanted [] refl, λ file dataset inside there. absurd (Contains-nil file inside)),
+)
+
+-- a file more
+pub file_loaded : (datasets : List Dataset) (wanted : Wanted) (files : List DatasetBytes) (number : ℕ) (bytes : List ℕ) (dataset : Dataset)
+    (old new : CodedData) → slice_get datasets number ≡ Some dataset
+    → (encoded : Encoded) × AreWantedOf dataset.model dataset wanted bytes old.next encoded × PutsEncoded encoded old new
+    → IsCodedFrom datasets wanted files old → IsCodedFrom datasets wanted (files ++ record { dataset = number; bytes = bytes } ∷ []) new
+file_loaded datasets wanted files number bytes dataset old new there (encoded, are, (puts, next)) (loaded, coded, from) = (
+  record {
+    facts = loaded.facts ++ encoded.facts;
+    next = encoded.next;
+    sound = ∣ append_flat loaded.facts encoded.facts (flat_kept loaded.facts loaded.sound) are.flat ∣₁;
+  },
+  record { stand = puts.stand loaded.facts coded.stand; next = next },
+  load_more datasets wanted files number bytes dataset loaded encoded (loaded.facts ++ encoded.facts) from there
+      (subst (λ n. AreWantedOf dataset.model dataset wanted bytes n encoded) coded.next are) refl,
+)
+
+-- what a file that is put does to the relations, and to what is loaded
+module _ (datasets : List Dataset) (wanted : Wanted) (number : ℕ) (bytes : List ℕ) (dataset : Dataset) (old new : CodedData)
+    (result : Result (Unit {0}) FileError) where
+  pub over_stays : (schema : List Relation) → PutsFile dataset.model dataset wanted bytes old new result → IsOver schema old → OnOk result (IsOver schema new)
+  over_stays schema puts over = by result puts
+    where
+      by : (it : Result (Unit {0}) FileError) → PutsFile dataset.model dataset wanted bytes old new it → OnOk it (IsOver schema new)
+      by (Ok done) (clear, (encoded, are, (its, next))) = its.arities ∙ over
+      by (Err error) puts = tt
+
+  pub file_more : slice_get datasets number ≡ Some dataset → PutsFile dataset.model dataset wanted bytes old new result
+      → OnOk result ((files : List DatasetBytes) → IsCodedFrom datasets wanted files old
+      → IsCodedFrom datasets wanted (files ++ record { dataset = number; bytes = bytes } ∷ []) new)
+  file_more there puts = by result puts
+    where
+      by : (it : Result (Unit {0}) FileError) → PutsFile dataset.model dataset wanted bytes old new it
+          → OnOk it ((files : List DatasetBytes) → IsCodedFrom datasets wanted files old
+          → IsCodedFrom datasets wanted (files ++ record { dataset = number; bytes = bytes } ∷ []) new)
+      by (Ok done) (clear, put) = λ files from. file_loaded datasets wanted files number bytes dataset old new there put from
+      by (Err error) puts = tt
