@@ -1,12 +1,11 @@
 -- Rows of codes that stand for what they stood for, and what is judged over them.
-use Rattle.std.proofs.Common.{List, [], Result, Ok, sym}
-use Rattle.std.proofs.lemmas.List.{append-nil}
+use Rattle.std.proofs.Common.{List, Result, Ok}
 use Rattle.esto_catalog.specs.declared.catalogue.Catalogue.{Catalogue}
 use Rattle.esto_catalog.specs.declared.dataset.Dataset.{Dataset}
-use Rattle.esto_columns.proofs.CodingLemmas.{grows_on}
 use Rattle.esto_constraint.specs.Constraints.{rules_of}
 use Rattle.esto_course.specs.Course.{judges}
-use Rattle.esto_fill.specs.Coding.{IsCodedOf}
+use Rattle.esto_fill.specs.CodedParts.{Stays}
+use Rattle.esto_fill.specs.Coding.{IsCoded, IsCodedOf}
 use Rattle.esto_fill.specs.Trials.{IsEnoughFor, IsTrialOf}
 use Rattle.esto_fill.specs.declared.coded_data.CodedData.{CodedData}
 use Rattle.esto_fill.specs.declared.datasets.DatasetBytes.{DatasetBytes}
@@ -17,22 +16,16 @@ use Rattle.esto_semantics.specs.declared.fact.Fact.{Fact}
 use Rattle.esto_term.specs.declared.term.Term.{Term}
 use Rattle.esto_opening.specs.Answers.{Answers}
 use Rattle.esto_opening.specs.declared.status.Status.{Status}
-use Rattle.esto_data.specs.Audit.{AreFactsToAudit, HoldsAudit, StaysData, judges_views}
+use Rattle.esto_data.specs.Audit.{AreFactsToAudit, HoldsAudit, judges_views}
 use Rattle.esto_data.specs.Datasets.{HoldsFiles, HoldsLeft}
 use Rattle.esto_data.proofs.WantedLemmas.{enough_left, judged_all}
 
 -- ---- rows of codes that stay
 
-pub stays_itself : (coded : CodedData) → StaysData coded coded
-stays_itself coded = record { kept = λ loaded stands. stands; grown = ([], sym (append-nil coded.facts.texts)) }
+module _ (old new : CodedData) (stays : Stays old new) where
+  pub still_coded : IsCoded old → IsCoded new
+  still_coded (loaded, stand) = (loaded, stays.kept loaded stand)
 
-pub stays_on : (old mid new : CodedData) → StaysData old mid → StaysData mid new → StaysData old new
-stays_on old mid new first next = record {
-  kept = λ loaded stands. next.kept loaded (first.kept loaded stands);
-  grown = grows_on old.facts.texts mid.facts.texts new.facts.texts first.grown next.grown;
-}
-
-module _ (old new : CodedData) (stays : StaysData old new) where
   left_stays : (datasets : List Dataset) (wanted : Wanted) (facts : List (Fact Term)) → HoldsLeft datasets wanted facts old → HoldsLeft datasets wanted facts new
   left_stays datasets wanted facts left =
       record { loaded = left.loaded; stand = stays.kept left.loaded left.stand; leaves = left.leaves; lawful = left.lawful }
@@ -69,7 +62,7 @@ module _ (catalogue : Catalogue) (trial : Trial) (tries : IsTrialOf catalogue tr
         judged_all catalogue (rules_of trial.laws) facts held.left.loaded.facts (left_enough coded held.left) result
         (views held.left.loaded held.left.stand)
 
-    pub audit_judged : (new : CodedData) → StaysData coded new → Answers (judges_views catalogue facts) ⊥ (Ok tt)
+    pub audit_judged : (new : CodedData) → Stays coded new → Answers (judges_views catalogue facts) ⊥ (Ok tt)
         → HoldsAudit catalogue trial.wanted files facts new
     unfolding judges
     audit_judged new stays texts =

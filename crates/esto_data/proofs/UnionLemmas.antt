@@ -1,9 +1,9 @@
 -- Unions of queries: the same queries, one query alone, and rows that are the same.
-use Rattle.std.proofs.Common.{◌≡◌, ◌↔◌, ℕ, List, [], ◌∷◌, map, length, get_or, Option, refl, sym, ap, subst, ◌∙◌}
+use Rattle.std.proofs.Common.{◌≡◌, ◌↔◌, ℕ, List, [], ◌∷◌, map, length, get_or, refl, sym, ap, subst, ◌∙◌}
 use Rattle.std.proofs.lemmas.List.{length-map}
 use Rattle.std.proofs.lemmas.List.Elements.{Contains-get_or}
 use Rattle.esto_catalog.specs.declared.dataset.Dataset.{Dataset}
-use Rattle.esto_course.specs.Course.{and_then, judges}
+use Rattle.esto_course.specs.Course.{judges}
 use Rattle.esto_fill.specs.Databases.{database_of}
 use Rattle.esto_fill.specs.Texts.{AreTextsOf}
 use Rattle.esto_fill.proofs.TextLemmas.{column_moved}
@@ -24,7 +24,7 @@ use Rattle.esto_opening.specs.declared.status.Status.{Status}
 use Rattle.esto_opening.proofs.AlikeLemmas.{same_query}
 use Rattle.esto_fragments.proofs.TextLemmas.{same_rows_text}
 use Rattle.esto_data.specs.Answer.{IsAnswerOfFacts, IsUnionAnswerOfFacts, lists_texts}
-use Rattle.esto_data.specs.Datasets.{AreNeeded, Names, OneNames, loads}
+use Rattle.esto_data.specs.Datasets.{AreNeeded, Names, OneNames}
 use Rattle.esto_data.specs.Exact.{GivesExactly, HoldFacts}
 
 -- ---- the same queries

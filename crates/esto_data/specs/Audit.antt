@@ -9,16 +9,15 @@ use Rattle.esto_fragments.specs.Fragments.{Stored, opens_fragment, opens_fragmen
 use Rattle.esto_constraint.specs.Constraints.{rules_of}
 use Rattle.esto_constraint.specs.EncodingRules.{written}
 use Rattle.esto_columns.specs.CodedRows.{CodedRows}
-use Rattle.esto_columns.specs.Interned.{AreCodedRows, Grows}
+use Rattle.esto_columns.specs.Interned.{AreCodedRows}
 use Rattle.esto_course.specs.Course.{Course, Names, Stops, judges, gives, and_then}
-use Rattle.esto_fill.specs.Coding.{AreCodedLists, IsCodedOf}
+use Rattle.esto_fill.specs.Coding.{AreCodedLists}
 use Rattle.esto_fill.specs.Databases.{database_of}
 use Rattle.esto_fill.specs.Differences.{Audits}
 use Rattle.esto_fill.specs.Files.{AreReadable}
 use Rattle.esto_fill.specs.Texts.{AreTextViews, IsFirstNodeView}
 use Rattle.esto_fill.specs.declared.coded_data.CodedData.{CodedData}
 use Rattle.esto_fill.specs.declared.datasets.DatasetBytes.{DatasetBytes}
-use Rattle.esto_fill.specs.declared.loaded.Loaded.{Loaded}
 use Rattle.esto_fill.specs.declared.wanted.Wanted.{Wanted}
 use Rattle.esto_ports.specs.declared.difference.Difference.{Difference}
 use Rattle.esto_steps.specs.Rows.{IsRowOf, held_by}
@@ -97,11 +96,6 @@ abbrev pub tells : Catalogue → List (Fact Term) → (ℕ → List ℕ) → Cou
 tells catalogue facts contents = and_then (compares catalogue facts contents) (λ _. gives (Done (audit_text catalogue)))
 
 -- ---- what functions answer
-
--- The rows of codes stand for what they stood for, and texts that had codes have them still.
-pub record StaysData (old new : CodedData) : Type 0 where
-  pub kept : (loaded : Loaded) → IsCodedOf loaded old → IsCodedOf loaded new
-  pub grown : Grows old.facts.texts new.facts.texts
 
 -- The facts to audit are those of the files, which have no fault; they meet the laws, and the rows of the views over them are rows of texts.
 pub record AreFactsToAudit (catalogue : Catalogue) (files : List DatasetBytes) (facts : List (Fact Term)) : Type 0 where

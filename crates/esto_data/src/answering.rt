@@ -10,7 +10,7 @@ ghost use Rattle.esto_opening.specs.Unions.{FormUnion};
 
 use crate::unions::load_union;
 use esto_catalog::Catalogue;
-use esto_fill::{AnswerError, CodedData, answer_coded_union, answers_rest_on_wanted_facts};
+use esto_fill::{AnswerError, CodedData, answer_union_coded, answers_rest_on_wanted_facts};
 use esto_fragments::union_rows_text;
 use esto_opening::{Queries, Reply, Status, open_catalogue, open_union};
 use esto_ports::Shelf;
@@ -25,7 +25,7 @@ fn rows_of(alloc: Global, queries: &Queries, coded: CodedData) -> Result<TextRow
         → Answers (lists_texts (IsUnionAnswerOfFacts queries.now loaded.facts)) ⊥ result }
 {
     let mut coded = coded;
-    match answer_coded_union(alloc, queries.items(), &mut coded) {
+    match answer_union_coded(alloc, queries.items(), &mut coded) {
         Ok(rows) => Ok(rows),
         Err(AnswerError::NodeInRow(column)) => Err(Status::NodeInRow(column)),
         Err(AnswerError::OutOfMemory) => Err(Status::OutOfMemory),

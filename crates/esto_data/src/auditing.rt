@@ -1,6 +1,7 @@
 //! The command `audit`.
 ghost use Rattle.std.specs.Prelude.{◌≡◌, ◌≤◌, ℕ, List, IfOk};
 ghost use Rattle.esto_ports.specs.Faults.{Rises};
+ghost use Rattle.esto_fill.specs.CodedParts.{Stays};
 ghost use Rattle.esto_fill.specs.Coding.{IsCoded, IsCodedOf};
 ghost use Rattle.esto_fill.specs.Trials.{IsTrialOf};
 ghost use Rattle.esto_fill.specs.declared.loaded.Loaded.{Loaded};
@@ -8,7 +9,7 @@ ghost use Rattle.esto_semantics.specs.declared.fact.Fact.{Fact};
 ghost use Rattle.esto_term.specs.declared.term.Term.{Term};
 ghost use Rattle.esto_opening.specs.Answers.{Answers};
 ghost use Rattle.esto_opening.specs.Asked.{AsksIn};
-ghost use Rattle.esto_data.specs.Audit.{HoldContents, HoldsAudit, StaysData, audit_course, audit_text, audits_catalogue, audits_facts, audits_rows, judges_views, tells};
+ghost use Rattle.esto_data.specs.Audit.{HoldContents, HoldsAudit, audit_course, audit_text, audits_catalogue, audits_facts, audits_rows, judges_views, tells};
 ghost use Rattle.esto_data.specs.Datasets.{HoldsFiles};
 
 use crate::comparing::compare;
@@ -28,7 +29,7 @@ fn judge_views(alloc: Global, catalogue: &Catalogue, coded: &mut CodedData) -> R
     requires { IsCoded coded.old }
     ensures views { (loaded : Loaded) → IsCodedOf loaded coded.old
         → Answers (judges_views catalogue.now loaded.facts) ⊥ result }
-    ensures stays { StaysData coded.old coded.new }
+    ensures stays { Stays coded.old coded.new }
 {
     match audit_views_coded(alloc, catalogue, coded) {
         Ok(()) => Ok(()),

@@ -1,12 +1,13 @@
 //! The rows of the files of all fragments, as rows of codes.
 ghost use Rattle.std.specs.Prelude.{◌≡◌, ◌<◌, ◌≤◌, length, IfOk, OnOk};
 ghost use Rattle.esto_catalog.specs.Soundness.{IsShapeFor};
-ghost use Rattle.esto_fill.specs.declared.coded_data.CodedData.{CodedData};
+ghost use Rattle.esto_fill.specs.CodedParts.{Stays};
+ghost use Rattle.esto_fill.specs.Coding.{IsCoded};
 ghost use Rattle.esto_fragments.specs.Fragments.{reads_content};
 ghost use Rattle.esto_ports.specs.Faults.{Rises};
 ghost use Rattle.esto_run.specs.Opened.{HaveWidth};
 ghost use Rattle.esto_opening.specs.Answers.{Answers};
-ghost use Rattle.esto_data.specs.Audit.{AddsRows, OpensNextRows, OpensRows, ReadsRows, StaysData};
+ghost use Rattle.esto_data.specs.Audit.{AddsRows, OpensNextRows, OpensRows, ReadsRows};
 
 use esto_catalog::{Catalogue, Store, catalogues_are_sound};
 use esto_fill::{CodedData, CodedRowsList, add_coded_rows};
@@ -49,12 +50,13 @@ fn code_content(
     coded: &mut CodedData,
     rows: &mut CodedRowsList,
 ) -> Result<(), Status>
-    requires { IsShapeFor store.now.shape fragment.now.view }
+    requires shape { IsShapeFor store.now.shape fragment.now.view }
+    requires coded { IsCoded coded.old }
     ensures answer { Answers (reads_content
         (record { definition = fragment.now; store = store.now }) bytes.now) ⊥ result }
     ensures rows { OnOk result (AddsRows store.now.shape bytes.now
         coded.old.facts.texts coded.new.facts.texts rows.old rows.new) }
-    ensures stays { OnOk result (StaysData coded.old coded.new) }
+    ensures stays { OnOk result (Stays coded.old coded.new) }
 {
     let texts = read_rows(alloc, store, fragment, bytes)?;
     add_coded_rows(alloc, coded, texts, fragment.view.head.len(), rows)?;
@@ -70,11 +72,12 @@ fn open_rows<S: Shelf>(
     coded: &mut CodedData,
     rows: &mut CodedRowsList,
 ) -> Result<(), Status>
-    requires { number < length catalogue.now.fragments }
+    requires number { number < length catalogue.now.fragments }
+    requires coded { IsCoded coded.old }
     ensures answer { OpensNextRows (S.files shelf.old) catalogue.now number
         coded.old.facts.texts coded.new.facts.texts rows.old rows.new
         (Rises S.faults shelf.old shelf.new) (S.asked shelf.old) (S.asked shelf.new) result }
-    ensures stays { OnOk result (StaysData coded.old coded.new) }
+    ensures stays { OnOk result (Stays coded.old coded.new) }
     ensures files { S.files shelf.new ≡ S.files shelf.old }
     ensures later { S.faults shelf.old ≤ S.faults shelf.new }
 {
@@ -93,9 +96,10 @@ pub fn open_all_rows<S: Shelf>(
     catalogue: &Catalogue,
     coded: &mut CodedData,
 ) -> Result<CodedRowsList, Status>
+    requires { IsCoded coded.old }
     ensures answer { OpensRows (S.files shelf.old) catalogue.now coded.new.facts.texts
         (Rises S.faults shelf.old shelf.new) (S.asked shelf.old) (S.asked shelf.new) result }
-    ensures stays { OnOk result (StaysData coded.old coded.new) }
+    ensures stays { OnOk result (Stays coded.old coded.new) }
     ensures files { S.files shelf.new ≡ S.files shelf.old }
     ensures later { S.faults shelf.old ≤ S.faults shelf.new }
 {

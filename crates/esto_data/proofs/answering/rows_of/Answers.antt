@@ -6,8 +6,8 @@ use Rattle.esto_data.specs.Answer.{IsUnionAnswerOfFacts}
 use Rattle.esto_data.proofs.StepLemmas.{node_stops}
 use Rattle.esto_data.proofs.answering.rows_of.Goals as goal
 
-pub answer_coded_union-requires-clause-lengths : goal.answer_coded_union-requires-clause-lengths
-answer_coded_union-requires-clause-lengths c = subst HaveOneLength (sym c.items.ensures) c.requires.union.lengths
+pub answer_union_coded-requires-clause-lengths : goal.answer_union_coded-requires-clause-lengths
+answer_union_coded-requires-clause-lengths c = subst HaveOneLength (sym c.items.ensures) c.requires.union.lengths
 
 pub returns-in-Ok : goal.returns-in-Ok
 unfolding judges

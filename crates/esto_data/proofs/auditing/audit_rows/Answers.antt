@@ -6,6 +6,9 @@ use Rattle.esto_opening.proofs.Steps.{then_answers_still}
 use Rattle.esto_data.proofs.CodedLemmas.{audit_stays}
 use Rattle.esto_data.proofs.auditing.audit_rows.Goals as goal
 
+pub open_all_rows-requires : goal.open_all_rows-requires
+open_all_rows-requires g c = let left = c.requires.facts.1.held.left in (left.loaded, left.stand)
+
 pub returns-in_err-rows-clause-answer : goal.returns-in_err-rows-clause-answer
 returns-in_err-rows-clause-answer g c facts holds =
     at_exit _ _ c.from_residual.result c.from_residual.ensures.1 (first_stops _ _ c.in_err-rows.ensures.answer.0)

@@ -10,9 +10,12 @@ use Rattle.esto_data.proofs.CompareLemmas.{contents_grow, contents_many}
 use Rattle.esto_data.proofs.StepLemmas.{agrees_goes}
 use Rattle.esto_data.proofs.comparing.compare.Goals as goal
 
-pub agree_coded-requires : goal.agree_coded-requires
-agree_coded-requires c =
+pub agree_coded-requires-clause-many : goal.agree_coded-requires-clause-many
+agree_coded-requires-clause-many c =
     contents_many c.args.catalogue.now c.requires.rows.0 c.args.coded.facts.texts c.args.rows c.requires.rows.1
+
+pub agree_coded-requires-clause-coded : goal.agree_coded-requires-clause-coded
+agree_coded-requires-clause-coded c = let left = c.requires.facts.1.held.left in (left.loaded, left.stand)
 
 pub returns-in_err-agree_coded : goal.returns-in_err-agree_coded
 returns-in_err-agree_coded c facts holds contents held = at_exit _ _ c.from_residual.result c.from_residual.ensures.1 (is_free refl)

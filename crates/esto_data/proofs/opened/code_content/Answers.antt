@@ -6,8 +6,8 @@ use Rattle.esto_data.proofs.opened.code_content.Goals as goal
 pub returns-in_err-texts-clause-answer : goal.returns-in_err-texts-clause-answer
 returns-in_err-texts-clause-answer c = at_exit _ _ c.from_residual.result c.from_residual.ensures.1 c.in_err-texts.ensures.rows
 
-pub add_coded_rows-requires : goal.add_coded_rows-requires
-add_coded_rows-requires c = λ row inside. c.in_ok-texts.ensures.wide row inside ∙ sym c.len.ensures
+pub add_coded_rows-requires-clause-wide : goal.add_coded_rows-requires-clause-wide
+add_coded_rows-requires-clause-wide c = λ row inside. c.in_ok-texts.ensures.wide row inside ∙ sym c.len.ensures
 
 pub returns-in_err-add_coded_rows-clause-answer : goal.returns-in_err-add_coded_rows-clause-answer
 returns-in_err-add_coded_rows-clause-answer c =

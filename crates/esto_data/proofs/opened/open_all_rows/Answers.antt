@@ -1,7 +1,8 @@
 use Rattle.std.proofs.Common.{◌<◌, arith, length, refl, ◌∙◌}
 use Rattle.esto_ports.specs.Faults.{Rises}
 use Rattle.esto_opening.proofs.Steps.{end_stops}
-use Rattle.esto_data.proofs.CodedLemmas.{stays_itself, stays_on}
+use Rattle.esto_fill.proofs.CodedRowLemmas.{stays_itself, stays_on}
+use Rattle.esto_data.proofs.CodedLemmas.{still_coded}
 use Rattle.esto_data.proofs.RowLemmas.{all_rows_exit, rows_end, rows_go, rows_start, rows_stop, rows_stop_asks}
 use Rattle.esto_data.proofs.opened.open_all_rows.Goals as goal
 
@@ -12,6 +13,9 @@ fragments-init g c = (
   stays_itself c.args.coded.now,
   rows_start (g.S.Shelf.files c.args.shelf.now) c.args.catalogue.now (g.S.Shelf.asked c.args.shelf.now) c.args.coded.now.facts.texts c.new-rows.result c.new-rows.ensures,
 )
+
+pub open_rows-requires-clause-coded : goal.open_rows-requires-clause-coded
+open_rows-requires-clause-coded g c = still_coded _ _ c.fragments.invariant.2 c.requires
 
 pub returns-in_err-open_rows-clause-answer : goal.returns-in_err-open_rows-clause-answer
 returns-in_err-open_rows-clause-answer g c =

@@ -9,8 +9,8 @@ returns-in_err-bytes-clause-answer g c =
     rows_exit (g.S.Shelf.files c.args.shelf.now) c.args.catalogue.now c.args.number stored at _ _ _ _ _ c.from_residual.result c.from_residual.ensures.1
     c.in_err-bytes.ensures.answer c.in_err-bytes.ensures.asked
 
-pub code_content-requires : goal.code_content-requires
-code_content-requires g c =
+pub code_content-requires-clause-shape : goal.code_content-requires-clause-shape
+code_content-requires-clause-shape g c =
     (c.catalogues_are_sound.ensures c.args.catalogue.now).shapes c.args.number c.item-store.result.now c.item-fragment.result.now c.item-store.ensures
     c.item-fragment.ensures
 
