@@ -1,14 +1,12 @@
 -- The run, get by get.
-use Rattle.std.proofs.Common.{◌≡◌, ◌↔◌, ℕ, ◌<◌, List, [], ◌∷◌, map, length, get_or, Some, slice_get, Contains, refl, sym, ap}
+use Rattle.std.proofs.Common.{◌≡◌, ◌↔◌, ℕ, ◌<◌, List, [], ◌∷◌, map, length, get_or, Some, slice_get, Contains, sym, ap}
 use Rattle.std.proofs.Common.{◌∙◌, subst, arith}
 use Rattle.std.proofs.lemmas.List.{length-map, get_or-map}
 use Rattle.std.proofs.lemmas.Option.{same_Some, slice_get_within}
 use Rattle.esto_term.proofs.ListLemmas.{Contains-at}
 use Rattle.esto_term.proofs.ListLemmas.{map_at}
 use Rattle.esto_term.proofs.PlaceLemmas.{item_at}
-use Rattle.std.specs.List.{filter}
-use Rattle.esto_columns.specs.declared.fragment.Input.{Input}
-use Rattle.esto_columns.specs.Asked.{Shape, IsAllowed, holds_all}
+use Rattle.esto_columns.specs.Asked.{Shape, IsAllowed}
 use Rattle.esto_steps.specs.declared.steps.Link.{Link}
 use Rattle.esto_steps.specs.declared.steps.Get.{Get}
 use Rattle.esto_steps.specs.declared.steps.Source.{Source}
@@ -31,17 +29,10 @@ join_asked get kept so_far rows asked new sound complete joins row = (
 
 -- ---- where nothing is asked by
 
-pub no_columns : (shape : Shape) (links : List Link) (inputs : List Input) → length links ≡ 0 → inputs ≡ []
-    → IsAllowed shape (map (λ (link : Link). link.column) links) → IsAllowed shape (map (λ (input : Input). input.column) inputs)
-no_columns shape [] inputs none is allowed = subst (λ them. IsAllowed shape (map (λ (input : Input). input.column) them)) (sym is) allowed
-no_columns shape (link ∷ links) inputs none is allowed = absurd (omega (arith, none))
-
-all_hold : (rows : List (List ℕ)) → filter (holds_all []) rows ≡ rows
-all_hold [] = refl
-all_hold (row ∷ rows) = ap (λ them. row ∷ them) (all_hold rows)
-
-pub whole_rows : (inputs : List Input) (rows : List (List ℕ)) → inputs ≡ [] → filter (holds_all inputs) rows ≡ rows
-whole_rows inputs rows is = ap (λ them. filter (holds_all them) rows) is ∙ all_hold rows
+pub none_allowed : (shape : Shape) (links : List Link) → length links ≡ 0 → IsAllowed shape (map (λ (link : Link). link.column) links)
+    → IsAllowed shape []
+none_allowed shape [] none allowed = allowed
+none_allowed shape (link ∷ links) none allowed = absurd (omega (arith, none))
 
 -- ---- the fragments
 

@@ -8,7 +8,6 @@ use Rattle.std.proofs.lemmas.Option.{none-some, same_Some, slice_get_within}
 use Rattle.esto_semantics.specs.declared.fact.Fact.{Fact}
 use Rattle.esto_term.proofs.ListLemmas.{Contains-nil, Contains-head, Contains-one, at_left, at_end, at_pushed, thing_at, map_then, map_agree, map_one}
 use Rattle.esto_term.proofs.PlaceLemmas.{take-there}
-use Rattle.esto_columns.specs.CodedRows.{CodedRows}
 use Rattle.esto_steps.specs.declared.steps.Get.{Get}
 use Rattle.esto_steps.specs.declared.steps.Link.{Link}
 use Rattle.esto_steps.specs.declared.steps.Source.{Source}
@@ -17,7 +16,7 @@ use Rattle.esto_steps.specs.Meaning.{code_at, IsResult}
 use Rattle.esto_steps.specs.Joined.{IsJoin, IsKept}
 use Rattle.esto_steps.specs.Named.{NamesCodes}
 use Rattle.esto_exec.specs.Slots.{IsChoice, side_of, IsKnown, equations_from, slot_at}
-use Rattle.esto_exec.specs.Turns.{AreSlots, needed_slots, kept_slots, source_in, link_in, links_of, slots_from, IsReady, AreArities, AreTables, IsUnderWay}
+use Rattle.esto_exec.specs.Turns.{AreSlots, needed_slots, kept_slots, source_in, link_in, links_of, slots_from, IsReady, AreArities, IsUnderWay}
 use Rattle.esto_exec.specs.Turns.{AreParts}
 use Rattle.esto_exec.specs.declared.slots.Slot.{Slot}
 use Rattle.esto_exec.specs.declared.slots.Side.TheVariants.{Held}
@@ -50,35 +49,6 @@ arities_more Holds gets count get arities new arity there before long is =
         )
       ];
     }
-
--- ---- tables
-
--- one more get with its table
-pub tables_more : (Holds : Fact ℕ → Type 0) (gets : List Get) (count : ℕ) (get : Get) (tables new : List CodedRows) (table : CodedRows)
-    → slice_get gets count ≡ Some get → AreTables Holds (take count gets) tables
-    → (length get.inputs ≡ 0 → (row : List ℕ) → Contains table.rows row ↔ Holds (record { relation = get.fragment; terms = row }))
-    → new ≡ tables ++ table ∷ [] → AreTables Holds (take (count + 1) gets) new
-tables_more Holds gets count get tables new table there before whole is =
-    let more : take (count + 1) gets ≡ take count gets ++ get ∷ [] = take-there gets count get there in (
-      ap length is ∙ length-append tables (table ∷ []) ∙ ap (λ n. n + 1) before.0 ∙ sym (length-append (take count gets) (get ∷ []))
-          ∙ ap length (sym more),
-      λ number own it at at_table none row.
-          let in_gets = at_pushed (take count gets) get number own (subst (λ them. slice_get them number ≡ Some own) more at) in
-          let in_tables = at_pushed tables table number it (subst (λ them. slice_get them number ≡ Some it) is at_table) in
-          let long = before.0 in
-          elim in_gets [
-            | inl old ↦ elim in_tables [
-              | inl also ↦ before.1 number own it old also none row
-              | inr last ↦ absurd (let inside = slice_get_within (take count gets) number own old in let at_end = last.0 in omega (arith, inside, at_end, long))
-            ]
-            | inr last ↦ elim in_tables [
-              | inl also ↦ absurd (let inside = slice_get_within tables number it also in let at_end = last.0 in omega (arith, inside, at_end, long))
-              | inr too ↦ subst (λ (one : CodedRows). Contains one.rows row ↔ Holds (record { relation = own.fragment; terms = row })) too.1
-                  (subst (λ (one : Get). Contains table.rows row ↔ Holds (record { relation = one.fragment; terms = row })) last.1
-                  (whole (ap (λ (one : Get). length one.inputs) last.1 ∙ none) row))
-            ]
-          ],
-    )
 
 -- ---- the start
 

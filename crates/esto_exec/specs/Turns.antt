@@ -2,7 +2,6 @@
 use Rattle.std.specs.Prelude.{◌≡◌, ◌==◌, ◌&&◌, ◌||◌, ◌↔◌, ℕ, zero, suc, ◌+◌, ◌<◌, Bool, true, false, cond, List, [], ◌∷◌, ◌++◌, Some, length, map, flat_map}
 use Rattle.std.specs.Prelude.{take, slice_get, Contains}
 use Rattle.esto_semantics.specs.declared.fact.Fact.{Fact}
-use Rattle.esto_columns.specs.CodedRows.{CodedRows}
 use Rattle.esto_steps.specs.declared.steps.Get.{Get}
 use Rattle.esto_steps.specs.declared.steps.Link.{Link}
 use Rattle.esto_steps.specs.declared.steps.Source.{Source}
@@ -131,17 +130,6 @@ pub record AreArities (Holds : Fact ℕ → Type 0) (gets : List Get) (arities :
   pub long : length arities ≡ length gets
   pub fit : (number : ℕ) (get : Get) (row : List ℕ) → slice_get gets number ≡ Some get → Holds (record { relation = get.fragment; terms = row })
       → (arity : ℕ) × (slice_get arities number ≡ Some arity) × (length row ≡ arity)
-
--- The tables are those of the gets, one each: for a get without inputs all rows of its fragment.
-abbrev pub AreTables : (Fact ℕ → Type 0) → List Get → List CodedRows → Type 0
-AreTables Holds gets tables = (length tables ≡ length gets)
-    × ((number : ℕ) (get : Get) (table : CodedRows) → slice_get gets number ≡ Some get → slice_get tables number ≡ Some table → length get.inputs ≡ 0
-    → (row : List ℕ) → Contains table.rows row ↔ Holds (record { relation = get.fragment; terms = row }))
-
--- The numbers are the gets' arities, and the tables theirs.
-pub record IsPrepared (Holds : Fact ℕ → Type 0) (gets : List Get) (arities : List ℕ) (tables : List CodedRows) : Type 0 where
-  pub widths : AreArities Holds gets arities
-  pub whole : AreTables Holds gets tables
 
 -- The gets of the numbers are done, and the rows are what they give together, in the slots that are still needed.
 pub record IsUnderWay (Holds : Fact ℕ → Type 0) (arities : List ℕ) (gets : List Get) (equations : List Equation) (head : List Source) (done : List ℕ)

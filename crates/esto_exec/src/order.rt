@@ -1,7 +1,10 @@
-//! Which get is joined next. Nothing rests on it but speed, so nothing here has a contract.
+//! Which get is joined next. Nothing rests on it but speed, so nothing here says what it gives.
+ghost use Rattle.std.specs.Prelude.{map};
+ghost use Rattle.esto_exec.specs.Runnable.{AreRunnable};
+
 use crate::slots::{Equation, Side, first_of, is_in, is_known, side_of};
 use crate::turns::{Prepared, SoFar, links_at};
-use esto_steps::{Get, guessed_count};
+use esto_steps::{Get, Whole, guessed_count};
 use esto_term::{OutOfMemory, Places, Replicate, Values};
 use std::alloc::Global;
 
@@ -155,36 +158,41 @@ fn candidates(alloc: Global, steps: &Prepared, done: &Places) -> Result<Places, 
 
 /// How many rows there are about once the get of the number is joined. A get with inputs is taken to give one row for each
 /// so far.
-fn rows_after(
+fn rows_after<F: Whole>(
     alloc: Global,
     steps: &Prepared,
+    fragments: &[F],
     number: usize,
     so_far: &SoFar,
-) -> Result<usize, OutOfMemory> {
-    let (Some(get), Some(table)) = (
-        steps.gets.items().get(number),
-        steps.tables.items().get(number),
-    ) else {
+) -> Result<usize, OutOfMemory>
+    requires { AreRunnable (map F.shape fragments.now) steps.now.gets.now }
+{
+    if number >= steps.gets.len() {
         return Ok(usize::MAX);
-    };
+    }
+    let get = steps.gets.item(number);
     if !get.inputs.is_empty() {
         return Ok(so_far.rows.len());
     }
+    let table = fragments[get.fragment].whole();
     let links = links_at(alloc, number, &so_far.done, &so_far.places, steps.equations)?;
     guessed_count(alloc, &links, table, &so_far.rows)
 }
 
 /// The one of the gets after which there are the fewest rows, as far as that is known.
-fn fewest(
+fn fewest<F: Whole>(
     alloc: Global,
     steps: &Prepared,
+    fragments: &[F],
     so_far: &SoFar,
     candidates: &Places,
-) -> Result<Option<usize>, OutOfMemory> {
+) -> Result<Option<usize>, OutOfMemory>
+    requires { AreRunnable (map F.shape fragments.now) steps.now.gets.now }
+{
     let mut best: Option<usize> = None;
     let mut least = usize::MAX;
     'gets: for number in candidates.items() {
-        let rows = rows_after(alloc, steps, *number, so_far)?;
+        let rows = rows_after(alloc, steps, fragments, *number, so_far)?;
         if best.is_none() || rows < least {
             best = Some(*number);
             least = rows;
@@ -194,25 +202,31 @@ fn fewest(
 }
 
 /// The one of the gets to join next: the one after which there are the fewest rows, where there is a choice and a row.
-fn best_of(
+fn best_of<F: Whole>(
     alloc: Global,
     steps: &Prepared,
+    fragments: &[F],
     so_far: &SoFar,
     candidates: &Places,
-) -> Result<Option<usize>, OutOfMemory> {
+) -> Result<Option<usize>, OutOfMemory>
+    requires { AreRunnable (map F.shape fragments.now) steps.now.gets.now }
+{
     if candidates.len() < 2 || so_far.rows.len() == 0 {
         return Ok(candidates.items().first().copied());
     }
-    fewest(alloc, steps, so_far, candidates)
+    fewest(alloc, steps, fragments, so_far, candidates)
 }
 
 /// The get that is joined next, of those whose inputs are known: one that is linked to the gets that are done, if there is
 /// one, else one that leads on to the most others, and of these the one after which there are the fewest rows.
-pub(crate) fn next_get(
+pub(crate) fn next_get<F: Whole>(
     alloc: Global,
     steps: &Prepared,
+    fragments: &[F],
     so_far: &SoFar,
-) -> Result<Option<usize>, OutOfMemory> {
+) -> Result<Option<usize>, OutOfMemory>
+    requires { AreRunnable (map F.shape fragments.now) steps.now.gets.now }
+{
     let candidates = candidates(alloc, steps, &so_far.done)?;
-    best_of(alloc, steps, so_far, &candidates)
+    best_of(alloc, steps, fragments, so_far, &candidates)
 }

@@ -5,14 +5,13 @@ ghost use Rattle.esto_steps.specs.Rows.{IsRowOf, held_by};
 ghost use Rattle.esto_steps.specs.Named.{NamesCodes};
 ghost use Rattle.esto_exec.specs.Runnable.{AreRunnable};
 ghost use Rattle.esto_exec.specs.Slots.{side_of, equations_from};
-ghost use Rattle.esto_exec.specs.Turns.{source_in, AreArities, IsPrepared};
+ghost use Rattle.esto_exec.specs.Turns.{source_in, AreArities};
 
 use crate::slots::{Equations, equations_of};
-use crate::tables::tables_of;
 use crate::turns::{Prepared, SoFar, head_in, joined_rows};
-use esto_columns::{Fragment, Rows};
-use esto_steps::{Sources, Steps, projected};
-use esto_term::{List, OutOfMemory, Places};
+use esto_columns::Rows;
+use esto_steps::{Sources, Steps, Whole, projected};
+use esto_term::{OutOfMemory, Places};
 use std::alloc::Global;
 
 /// The head's codes in the rows so far.
@@ -32,35 +31,7 @@ fn head_rows(
 }
 
 /// The result of the steps, with what joins in any order rest on.
-fn prepared_result<F: Fragment>(
-    alloc: Global,
-    steps: &Steps,
-    arities: &Places,
-    equations: &Equations,
-    tables: &List<Rows>,
-    fragments: &[F],
-) -> Result<Rows, OutOfMemory>
-    requires runnable { AreRunnable (map F.shape fragments.now) steps.now.gets }
-    requires prepared { IsPrepared (IsRowOf (held_by (map F.rows fragments.now))) steps.now.gets
-        arities.now tables.now }
-    requires equations { equations.now ≡ equations_from arities.now 0 steps.now.gets }
-    ensures arity { IfOk result (λ it. it.arity ≡ length steps.now.head) }
-    ensures rows { IfOk result (λ it. (row : List ℕ) → Contains it.rows row
-        ↔ IsResult (IsRowOf (held_by (map F.rows fragments.now))) steps.now row) }
-{
-    let prepared = Prepared {
-        gets: &steps.gets,
-        head: &steps.head,
-        arities,
-        equations,
-        tables,
-    };
-    let so_far = joined_rows(alloc, &prepared, fragments)?;
-    head_rows(alloc, arities, &steps.head, &so_far)
-}
-
-/// The result of the steps, where gets give rows of these arities and their filters are these equations.
-fn result_by<F: Fragment>(
+fn prepared_result<F: Whole>(
     alloc: Global,
     steps: &Steps,
     arities: &Places,
@@ -75,12 +46,18 @@ fn result_by<F: Fragment>(
     ensures rows { IfOk result (λ it. (row : List ℕ) → Contains it.rows row
         ↔ IsResult (IsRowOf (held_by (map F.rows fragments.now))) steps.now row) }
 {
-    let tables = tables_of(alloc, &steps.gets, fragments)?;
-    prepared_result(alloc, steps, arities, equations, &tables, fragments)
+    let prepared = Prepared {
+        gets: &steps.gets,
+        head: &steps.head,
+        arities,
+        equations,
+    };
+    let so_far = joined_rows(alloc, &prepared, fragments)?;
+    head_rows(alloc, arities, &steps.head, &so_far)
 }
 
 /// The result of the steps, where gets give rows of these arities.
-pub(crate) fn result_over<F: Fragment>(
+pub(crate) fn result_over<F: Whole>(
     alloc: Global,
     steps: &Steps,
     arities: &Places,
@@ -94,5 +71,5 @@ pub(crate) fn result_over<F: Fragment>(
         ↔ IsResult (IsRowOf (held_by (map F.rows fragments.now))) steps.now row) }
 {
     let equations = equations_of(alloc, arities, &steps.gets)?;
-    result_by(alloc, steps, arities, &equations, fragments)
+    prepared_result(alloc, steps, arities, &equations, fragments)
 }

@@ -6,16 +6,17 @@ ghost use Rattle.esto_exec.specs.Runnable.{AreRunnable};
 
 use crate::result::result_over;
 use crate::turns::arities_of;
-use esto_columns::{Fragment, Rows};
-use esto_steps::Steps;
+use esto_columns::Rows;
+use esto_steps::{Steps, Whole};
 use esto_term::OutOfMemory;
 use std::alloc::Global;
 
 /// Runs the steps over the fragments, which a get names by number and asks in one of their ways. The rows, read as a
 /// set, are exactly what the steps mean over the rows of the fragments, so they rest on those fragments alone that the
-/// steps name. The gets are joined in an order of the executor's own, in which each link is read either way. Rows are joined
-/// by an index of the codes that the join compares, and of a joined row only those cells are kept that are still needed.
-pub fn run_plan<F: Fragment>(
+/// steps name. The gets are joined in an order of the executor's own, in which each link is read either way. A get
+/// without inputs reads the rows of its fragment where they stand. Rows are joined by an index, one that they have or one
+/// that is made for the join, and of a joined row only those cells are kept that are still needed.
+pub fn run_plan<F: Whole>(
     alloc: Global,
     steps: &Steps,
     fragments: &[F],

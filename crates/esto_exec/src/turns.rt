@@ -9,15 +9,15 @@ ghost use Rattle.esto_exec.specs.declared.slots.Side.TheVariants.{Held};
 ghost use Rattle.esto_exec.specs.Runnable.{AreRunnable};
 ghost use Rattle.esto_exec.specs.Slots.{side_of, IsKnown};
 ghost use Rattle.esto_exec.specs.SoFar.{IsSoFar};
-ghost use Rattle.esto_exec.specs.Turns.{source_in, link_in, links_of, slots_from, IsReady, AreArities, IsPrepared, kept_slots, needed_slots};
+ghost use Rattle.esto_exec.specs.Turns.{source_in, link_in, links_of, slots_from, IsReady, AreArities, kept_slots, needed_slots};
 
 use crate::order::next_get;
 use crate::slots::{
     Equation, Equations, Side, Slot, Slots, first_of, is_in, is_known, kept_slots, needed_slots,
     side_of, source_in,
 };
-use esto_columns::{Fragment, Rows};
-use esto_steps::{Get, Gets, Join, Link, Links, Source, Sources, asked_rows, joined_firsts};
+use esto_columns::Rows;
+use esto_steps::{Get, Gets, Join, Link, Links, Source, Sources, Whole, asked_rows, joined_firsts};
 use esto_term::{List, OutOfMemory, Places, Values};
 use std::alloc::Global;
 
@@ -120,7 +120,7 @@ fn each_known(done: &Places, arities: &[usize], links: &Links) -> bool
 }
 
 /// The arities of the rows that the gets give.
-pub(crate) fn arities_of<F: Fragment>(
+pub(crate) fn arities_of<F: Whole>(
     alloc: Global,
     gets: &Gets,
     fragments: &[F],
@@ -163,25 +163,21 @@ pub(crate) fn head_in(
     Ok(sources)
 }
 
-/// What is kept of the rows so far joined with those of the fragment. Where nothing is asked by, the fragment's rows are
-/// those of the table.
-fn joined_fragment<F: Fragment>(
+/// What is kept of the rows so far joined with those of the fragment, which are read where they stand if nothing is asked by.
+fn joined_fragment<F: Whole>(
     alloc: Global,
     join: &Join,
     fragment: &F,
-    table: &Rows,
     so_far: &Rows,
 ) -> Result<Rows, OutOfMemory>
-    requires table { length join.now.get.now.inputs ≡ 0 → (row : List ℕ)
-        → Contains table.now.rows row ↔ Contains (F.rows fragment.now) row }
-    requires allowed { IsAllowed (F.shape fragment.now)
+    requires { IsAllowed (F.shape fragment.now)
         (map (λ link. link.column) join.now.get.now.inputs) }
     ensures { IfOk result (λ it. (row : List ℕ) → Contains it.rows row
         ↔ IsKept join.now.kept.now
         (IsJoin join.now.get.now so_far.now.rows (F.rows fragment.now)) row) }
 {
     if join.get.inputs.is_empty() {
-        return joined_firsts(alloc, join, so_far, table);
+        return joined_firsts(alloc, join, so_far, fragment.whole());
     }
     let asked = asked_rows(alloc, join.get, fragment, so_far)?;
     joined_firsts(alloc, join, so_far, &asked)
@@ -189,18 +185,15 @@ fn joined_fragment<F: Fragment>(
 
 /// The codes of the kept slots in the rows so far joined with those of the fragment, where the cells are those of the
 /// slots at the places.
-fn joined_slots<F: Fragment>(
+fn joined_slots<F: Whole>(
     alloc: Global,
     get: &Get,
     fragment: &F,
-    table: &Rows,
     places: &Slots,
     kept: &Slots,
     so_far: &Rows,
 ) -> Result<Rows, OutOfMemory>
-    requires table { length get.now.inputs ≡ 0 → (row : List ℕ)
-        → Contains table.now.rows row ↔ Contains (F.rows fragment.now) row }
-    requires allowed { IsAllowed (F.shape fragment.now) (map (λ link. link.column) get.now.inputs) }
+    requires { IsAllowed (F.shape fragment.now) (map (λ link. link.column) get.now.inputs) }
     ensures { IfOk result (λ it. (row : List ℕ) → Contains it.rows row
         ↔ IsKept (map (λ slot. source_in places.now (Held slot)) kept.now)
         (IsJoin get.now so_far.now.rows (F.rows fragment.now)) row) }
@@ -210,63 +203,56 @@ fn joined_slots<F: Fragment>(
         get,
         kept: &sources,
     };
-    joined_fragment(alloc, &join, fragment, table, so_far)
+    joined_fragment(alloc, &join, fragment, so_far)
 }
 
 /// Joins the rows so far with those of the fragment, and keeps the codes of the kept slots.
-fn join_slots<F: Fragment>(
+fn join_slots<F: Whole>(
     alloc: Global,
     get: &Get,
     fragment: &F,
-    table: &Rows,
     places: &Slots,
     kept: &Slots,
     so_far: &mut Rows,
 ) -> Result<(), OutOfMemory>
-    requires table { length get.now.inputs ≡ 0 → (row : List ℕ)
-        → Contains table.now.rows row ↔ Contains (F.rows fragment.now) row }
-    requires allowed { IsAllowed (F.shape fragment.now) (map (λ link. link.column) get.now.inputs) }
+    requires { IsAllowed (F.shape fragment.now) (map (λ link. link.column) get.now.inputs) }
     ensures { OnOk result ((row : List ℕ) → Contains so_far.new.rows row
         ↔ IsKept (map (λ slot. source_in places.now (Held slot)) kept.now)
         (IsJoin get.now so_far.old.rows (F.rows fragment.now)) row) }
 {
-    *so_far = joined_slots(alloc, get, fragment, table, places, kept, so_far)?;
+    *so_far = joined_slots(alloc, get, fragment, places, kept, so_far)?;
     Ok(())
 }
 
 /// Joins the rows so far with those of the fragment, and keeps of their slots those that are needed.
-fn follow<F: Fragment>(
+fn follow<F: Whole>(
     alloc: Global,
     get: &Get,
     fragment: &F,
-    table: &Rows,
     needed: &Slots,
     places: &mut Slots,
     so_far: &mut Rows,
 ) -> Result<(), OutOfMemory>
-    requires table { length get.now.inputs ≡ 0 → (row : List ℕ)
-        → Contains table.now.rows row ↔ Contains (F.rows fragment.now) row }
-    requires allowed { IsAllowed (F.shape fragment.now) (map (λ link. link.column) get.now.inputs) }
+    requires { IsAllowed (F.shape fragment.now) (map (λ link. link.column) get.now.inputs) }
     ensures { OnOk result ((places.new ≡ kept_slots needed.now places.old)
         × ((row : List ℕ) → Contains so_far.new.rows row
         ↔ IsKept (map (λ slot. source_in places.old (Held slot)) places.new)
         (IsJoin get.now so_far.old.rows (F.rows fragment.now)) row)) }
 {
     let kept = kept_slots(alloc, needed, places)?;
-    join_slots(alloc, get, fragment, table, places, &kept, so_far)?;
+    join_slots(alloc, get, fragment, places, &kept, so_far)?;
     *places = kept;
     Ok(())
 }
 
-/// Steps, with what joins in any order rest on: the arities of the rows that the gets give, the equations of their filters,
-/// and all rows of each get that has no inputs.
+/// Steps, with what joins in any order rest on: the arities of the rows that the gets give, and the equations of their
+/// filters.
 #[derive(Clone, Copy)]
 pub(crate) struct Prepared<'a> {
     pub gets: &'a Gets,
     pub head: &'a Sources,
     pub arities: &'a Places,
     pub equations: &'a Equations,
-    pub tables: &'a List<Rows>,
 }
 
 /// Rows so far: the numbers of the gets that are done, the slots of the cells, and the rows.
@@ -338,17 +324,14 @@ fn own_get(
 }
 
 /// Joins the rows so far with those of the fragment, and keeps of their slots those that the steps still need.
-fn follow_on<F: Fragment>(
+fn follow_on<F: Whole>(
     alloc: Global,
     steps: &Prepared,
     get: &Get,
     fragment: &F,
-    table: &Rows,
     so_far: &mut SoFar,
 ) -> Result<(), OutOfMemory>
-    requires table { length get.now.inputs ≡ 0 → (row : List ℕ)
-        → Contains table.now.rows row ↔ Contains (F.rows fragment.now) row }
-    requires allowed { IsAllowed (F.shape fragment.now) (map (λ link. link.column) get.now.inputs) }
+    requires { IsAllowed (F.shape fragment.now) (map (λ link. link.column) get.now.inputs) }
     ensures done { so_far.new.done ≡ so_far.old.done }
     ensures rows { OnOk result ((so_far.new.places
         ≡ kept_slots (needed_slots steps.now.arities.now steps.now.gets.now steps.now.equations.now
@@ -369,7 +352,6 @@ fn follow_on<F: Fragment>(
         alloc,
         get,
         fragment,
-        table,
         &needed,
         &mut so_far.places,
         &mut so_far.rows,
@@ -377,7 +359,7 @@ fn follow_on<F: Fragment>(
 }
 
 /// Joins the get of the number, which is not done and whose inputs are known.
-fn take_turn<F: Fragment>(
+fn take_turn<F: Whole>(
     alloc: Global,
     steps: &Prepared,
     fragments: &[F],
@@ -385,8 +367,8 @@ fn take_turn<F: Fragment>(
     so_far: &mut SoFar,
 ) -> Result<(), OutOfMemory>
     requires runnable { AreRunnable (map F.shape fragments.now) steps.now.gets.now }
-    requires prepared { IsPrepared (IsRowOf (held_by (map F.rows fragments.now))) steps.now.gets.now
-        steps.now.arities.now steps.now.tables.now }
+    requires arities { AreArities (IsRowOf (held_by (map F.rows fragments.now))) steps.now.gets.now
+        steps.now.arities.now }
     requires there { number < length steps.now.gets.now }
     requires fresh { ¬ (Contains so_far.old.done number) }
     requires ready { (get : Get) → slice_get steps.now.gets.now number ≡ Some get
@@ -406,13 +388,11 @@ fn take_turn<F: Fragment>(
         &mut so_far.done,
         &mut so_far.places,
     )?;
-    let fragment = &fragments[get.fragment];
-    let table = steps.tables.item(number);
-    follow_on(alloc, steps, &own, fragment, table, so_far)
+    follow_on(alloc, steps, &own, &fragments[get.fragment], so_far)
 }
 
 /// Joins the get of the number, if there is one that is not done and whose inputs are known.
-fn take_if_ready<F: Fragment>(
+fn take_if_ready<F: Whole>(
     alloc: Global,
     steps: &Prepared,
     fragments: &[F],
@@ -420,8 +400,8 @@ fn take_if_ready<F: Fragment>(
     so_far: &mut SoFar,
 ) -> Result<(), OutOfMemory>
     requires runnable { AreRunnable (map F.shape fragments.now) steps.now.gets.now }
-    requires prepared { IsPrepared (IsRowOf (held_by (map F.rows fragments.now))) steps.now.gets.now
-        steps.now.arities.now steps.now.tables.now }
+    requires arities { AreArities (IsRowOf (held_by (map F.rows fragments.now))) steps.now.gets.now
+        steps.now.arities.now }
     requires under_way { IsSoFar (IsRowOf (held_by (map F.rows fragments.now)))
         steps.now so_far.old }
     ensures { OnOk result (IsSoFar (IsRowOf (held_by (map F.rows fragments.now)))
@@ -441,28 +421,28 @@ fn take_if_ready<F: Fragment>(
 }
 
 /// Joins the get that seems best, if there is one that is not done and whose inputs are known.
-fn take_best<F: Fragment>(
+fn take_best<F: Whole>(
     alloc: Global,
     steps: &Prepared,
     fragments: &[F],
     so_far: &mut SoFar,
 ) -> Result<(), OutOfMemory>
     requires runnable { AreRunnable (map F.shape fragments.now) steps.now.gets.now }
-    requires prepared { IsPrepared (IsRowOf (held_by (map F.rows fragments.now))) steps.now.gets.now
-        steps.now.arities.now steps.now.tables.now }
+    requires arities { AreArities (IsRowOf (held_by (map F.rows fragments.now))) steps.now.gets.now
+        steps.now.arities.now }
     requires under_way { IsSoFar (IsRowOf (held_by (map F.rows fragments.now)))
         steps.now so_far.old }
     ensures { OnOk result (IsSoFar (IsRowOf (held_by (map F.rows fragments.now)))
         steps.now so_far.new) }
 {
-    match next_get(alloc, steps, so_far)? {
+    match next_get(alloc, steps, fragments, so_far)? {
         Some(number) => take_if_ready(alloc, steps, fragments, number, so_far),
         None => Ok(()),
     }
 }
 
 /// Joins the get of the number, if it is not done, where all before it in the stated order are.
-fn take_next<F: Fragment>(
+fn take_next<F: Whole>(
     alloc: Global,
     steps: &Prepared,
     fragments: &[F],
@@ -470,8 +450,8 @@ fn take_next<F: Fragment>(
     so_far: &mut SoFar,
 ) -> Result<(), OutOfMemory>
     requires runnable { AreRunnable (map F.shape fragments.now) steps.now.gets.now }
-    requires prepared { IsPrepared (IsRowOf (held_by (map F.rows fragments.now))) steps.now.gets.now
-        steps.now.arities.now steps.now.tables.now }
+    requires arities { AreArities (IsRowOf (held_by (map F.rows fragments.now))) steps.now.gets.now
+        steps.now.arities.now }
     requires there { number < length steps.now.gets.now }
     requires before { (other : ℕ) → other < number → Contains so_far.old.done other }
     requires under_way { IsSoFar (IsRowOf (held_by (map F.rows fragments.now)))
@@ -488,15 +468,15 @@ fn take_next<F: Fragment>(
 }
 
 /// Joins the gets, each time the one that seems best, and then all that are left in the stated order.
-fn take_all<F: Fragment>(
+fn take_all<F: Whole>(
     alloc: Global,
     steps: &Prepared,
     fragments: &[F],
     so_far: &mut SoFar,
 ) -> Result<(), OutOfMemory>
     requires runnable { AreRunnable (map F.shape fragments.now) steps.now.gets.now }
-    requires prepared { IsPrepared (IsRowOf (held_by (map F.rows fragments.now))) steps.now.gets.now
-        steps.now.arities.now steps.now.tables.now }
+    requires arities { AreArities (IsRowOf (held_by (map F.rows fragments.now))) steps.now.gets.now
+        steps.now.arities.now }
     requires under_way { IsSoFar (IsRowOf (held_by (map F.rows fragments.now)))
         steps.now so_far.old }
     ensures all { OnOk result ((number : ℕ)
@@ -514,14 +494,14 @@ fn take_all<F: Fragment>(
 }
 
 /// The rows that the gets give together, in the slots that the head names.
-pub(crate) fn joined_rows<F: Fragment>(
+pub(crate) fn joined_rows<F: Whole>(
     alloc: Global,
     steps: &Prepared,
     fragments: &[F],
 ) -> Result<SoFar, OutOfMemory>
     requires runnable { AreRunnable (map F.shape fragments.now) steps.now.gets.now }
-    requires prepared { IsPrepared (IsRowOf (held_by (map F.rows fragments.now))) steps.now.gets.now
-        steps.now.arities.now steps.now.tables.now }
+    requires arities { AreArities (IsRowOf (held_by (map F.rows fragments.now))) steps.now.gets.now
+        steps.now.arities.now }
     ensures all { IfOk result (λ it. (number : ℕ)
         → number < length steps.now.gets.now → Contains it.done number) }
     ensures under_way { IfOk result (λ it. IsSoFar (IsRowOf (held_by (map F.rows fragments.now)))

@@ -1,12 +1,12 @@
 //! Steps that are run over fragments of which one finds memory wanting.
-ghost use Rattle.std.specs.Prelude.{◌≡◌, ◌<◌, [], ◌∷◌, IfOk};
-ghost use Rattle.esto_part_cases.specs.Refusing.{AreOpen, AskAll};
+ghost use Rattle.std.specs.Prelude.{◌≡◌, ◌<◌, [], ◌∷◌, map, IfOk};
+ghost use Rattle.esto_part_cases.specs.Refusing.{IsOpen, AreOpen, AskEach};
 
 use crate::reading::place;
 use esto_columns::{Fragment, Inputs, Rows, StoredRows, Ways};
 use esto_exec::run_plan;
 use esto_script::{Refused, put, put_digits};
-use esto_steps::{Get, Gets, Steps};
+use esto_steps::{Get, Gets, Link, Links, Source, Steps, Whole};
 use esto_term::{List, OutOfMemory, Places};
 use std::alloc::Global;
 
@@ -38,29 +38,37 @@ impl Fragment for Flagged {
     }
 }
 
+impl Whole for Flagged {
+    fn whole(&self) -> &Rows {
+        &self.stored.rows
+    }
+}
+
 // Two rows of one column.
-fn two_rows(alloc: Global) -> Result<Rows, OutOfMemory> {
+fn two_rows(alloc: Global) -> Result<Rows, OutOfMemory>
+    ensures { IfOk result (λ it. it.arity ≡ 1) }
+{
     let mut rows = Rows::new(alloc, 1)?;
     rows.add(&[0])?;
     rows.add(&[1])?;
     Ok(rows)
 }
 
-// The one way to ask for all rows together.
-fn all_together(alloc: Global) -> Result<Ways, OutOfMemory>
-    ensures { IfOk result (λ it. it ≡ [] ∷ []) }
+// The one way to ask, by the first column.
+fn by_first(alloc: Global) -> Result<Ways, OutOfMemory>
+    ensures { IfOk result (λ it. it ≡ (0 ∷ []) ∷ []) }
 {
     let mut ways = List::new(alloc);
-    ways.push(Places::new(alloc))?;
+    ways.push(Places::from_slice(alloc, &[0])?)?;
     Ok(ways)
 }
 
-// Two rows of one column, which may be asked for all together.
+// Two rows of one column, which may be asked by it.
 fn stored(alloc: Global) -> Result<StoredRows, OutOfMemory>
-    ensures { IfOk result (λ it. it.ways ≡ [] ∷ []) }
+    ensures { IfOk result IsOpen }
 {
     let rows = two_rows(alloc)?;
-    let ways = all_together(alloc)?;
+    let ways = by_first(alloc)?;
     StoredRows::new(alloc, rows, ways)
 }
 
@@ -77,15 +85,28 @@ fn fragments(alloc: Global, count: usize, refused: usize) -> Result<List<Flagged
     Ok(fragments)
 }
 
-// Gets of all rows of so many fragments, one after the other.
+// The code 0 as what the first column is asked by.
+fn first_is_zero(alloc: Global) -> Result<Links, OutOfMemory>
+    ensures { IfOk result (λ it. map (λ link. link.column) it ≡ 0 ∷ []) }
+{
+    let mut inputs = List::new(alloc);
+    inputs.push(Link {
+        column: 0,
+        source: Source::Code(0),
+    })?;
+    Ok(inputs)
+}
+
+// Gets of the rows of so many fragments that have the code 0, one after the other.
 fn gets(alloc: Global, count: usize) -> Result<Gets, OutOfMemory>
-    ensures { IfOk result (AskAll count) }
+    ensures { IfOk result (AskEach count) }
 {
     let mut gets = List::new(alloc);
     'fragments: for fragment in 0..count {
+        let inputs = first_is_zero(alloc)?;
         gets.push(Get {
             fragment,
-            inputs: List::new(alloc),
+            inputs,
             filters: List::new(alloc),
         })?;
     }

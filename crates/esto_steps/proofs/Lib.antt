@@ -4,3 +4,4 @@ pub mod IndexLemmas
 pub mod JoinLemmas
 pub mod AskedLemmas
 pub mod ReadLemmas
+pub mod ProbeLemmas

@@ -5,3 +5,4 @@ pub mod Indexed
 pub mod Joined
 pub mod Inputs
 pub mod Reads
+pub mod Probed

@@ -9,7 +9,7 @@ use esto_term::{OutOfMemory, Values};
 use std::alloc::Global;
 
 /// The code that the source names in the cells of a row.
-fn code_at(cells: &[u64], source: &Source) -> Option<u64>
+pub(crate) fn code_at(cells: &[u64], source: &Source) -> Option<u64>
     ensures { result ≡ code_at cells.now source.now }
 {
     match source {

@@ -1,10 +1,11 @@
 //! How many rows there are about once a get is joined. Nothing rests on it but speed, so nothing here has a contract.
-use crate::codes::{codes_at, name_codes};
-use crate::links::{columns_of, sources_of};
+use crate::codes::codes_at;
+use crate::found::count_found;
+use crate::links::sources_of;
 use crate::seen::Seen;
 use crate::steps::{Links, Sources};
 use esto_columns::Rows;
-use esto_term::{OutOfMemory, Values};
+use esto_term::OutOfMemory;
 use std::alloc::Global;
 
 /// How many of the rows so far a guess looks at.
@@ -53,40 +54,9 @@ fn put_some_keys(
     Ok(())
 }
 
-/// How many of the rows have one of the keys in the columns.
-fn count_found(
-    alloc: Global,
-    rows: &Rows,
-    columns: &Sources,
-    keys: &Seen,
-) -> Result<usize, OutOfMemory> {
-    let mut row = Values::new(alloc);
-    let mut key = Values::new(alloc);
-    let mut count: usize = 0;
-    'rows: for at in 0..rows.len() {
-        rows.read_row(at, &mut row)?;
-        if name_codes(row.items(), columns, &mut key)? && keys.has(key.items()) {
-            count = count.saturating_add(1);
-        }
-    }
-    Ok(count)
-}
-
-/// How many of the table's rows follow a key by the links, on average and times so many.
-fn followers(
-    alloc: Global,
-    links: &Links,
-    table: &Rows,
-    keys: &Seen,
-    times: usize,
-) -> Result<usize, OutOfMemory> {
-    let columns = columns_of(alloc, links)?;
-    let found = count_found(alloc, table, &columns, keys)?;
-    Ok(found.saturating_mul(times) / keys.len().max(1))
-}
-
-/// How many rows there are about once the table's rows are joined by the links: each of the rows so far is taken to have
-/// as many followers as some of them have on average. It serves to choose an order of joins, and is no more than a guess.
+/// How many rows there are about once the table's rows are joined by the links: each of the rows so far is taken to
+/// have as many followers as some of them have on average. It serves to choose an order of joins, and is no more than a
+/// guess.
 pub fn guessed_count(
     alloc: Global,
     links: &Links,
@@ -98,5 +68,6 @@ pub fn guessed_count(
     }
     let mut keys = Seen::new(alloc, links.len(), SAMPLE)?;
     put_some_keys(alloc, so_far, links, &mut keys)?;
-    followers(alloc, links, table, &keys, so_far.len())
+    let found = count_found(alloc, links, table, &keys)?;
+    Ok(found.saturating_mul(so_far.len()) / keys.len().max(1))
 }

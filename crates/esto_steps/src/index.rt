@@ -8,8 +8,8 @@ use esto_columns::{Index, Rows};
 use esto_term::{OutOfMemory, Values};
 use std::alloc::Global;
 
-/// Puts the key of the row at the place into the index of the rows before it: the codes that the columns name in it, and
-/// any where they don't all name one. The row and the key are read into the two lists.
+/// Puts the key of the row at the place into the index of the rows before it: the codes that the columns name in it,
+/// and any where they don't all name one. The row and the key are read into the two lists.
 fn index_row(
     rows: &Rows,
     columns: &Sources,

@@ -1,5 +1,6 @@
 //! Rows so far joined with rows of a fragment.
-ghost use Rattle.std.specs.Prelude.{◌≡◌, ◌↔◌, ◌++◌, ◌<◌, [], List, ℕ, Some, slice_get, length, drop, map, Contains, IfOk, OnOk, IsTrue};
+ghost use Rattle.std.specs.Prelude.{◌≡◌, ◌↔◌, ◌++◌, ◌<◌, [], List, ℕ, Some, slice_get, length, drop, map};
+ghost use Rattle.std.specs.Prelude.{Contains, IfOk, OnOk, IsTrue};
 ghost use Rattle.esto_steps.specs.Meaning.{IsMet, Follows};
 ghost use Rattle.esto_steps.specs.declared.steps.Link.{Link};
 ghost use Rattle.esto_steps.specs.declared.steps.Source.{Source};
@@ -28,8 +29,8 @@ pub struct Join<'a> {
 /// Lists that are filled anew for each row: the cells of a row so far and its key, the cells with those of a row of the
 /// fragment after them, and what is kept of these.
 #[derive(Drop)]
-struct Buffers {
-    cells: Values<u64>,
+pub(crate) struct Buffers {
+    pub(crate) cells: Values<u64>,
     key: Values<u64>,
     both: Values<u64>,
     kept: Values<u64>,
@@ -37,7 +38,7 @@ struct Buffers {
 
 impl Buffers {
     /// Empty lists, which take no memory.
-    fn new(alloc: Global) -> Buffers {
+    pub(crate) fn new(alloc: Global) -> Buffers {
         Buffers {
             cells: Values::new(alloc),
             key: Values::new(alloc),
@@ -86,7 +87,7 @@ fn follows(get: &Get, cells: &[u64], both: &[u64], row: &[u64]) -> bool
 
 /// Puts what is kept of the cells with the row at the place after them at the end, where the row is there and follows
 /// them.
-fn push_follower(
+pub(crate) fn push_follower(
     alloc: Global,
     join: &Join,
     rows: &Rows,
@@ -207,7 +208,7 @@ fn push_each_joined(
 }
 
 /// An index of the rows by the columns of the links.
-fn index_by(alloc: Global, rows: &Rows, links: &Links) -> Result<Index, OutOfMemory>
+pub(crate) fn index_by(alloc: Global, rows: &Rows, links: &Links) -> Result<Index, OutOfMemory>
     ensures { IfOk result
         (FindsRows rows.now.rows (map (λ link. Cell link.column) links.now)) }
 {
@@ -217,7 +218,30 @@ fn index_by(alloc: Global, rows: &Rows, links: &Links) -> Result<Index, OutOfMem
 }
 
 /// Puts what is kept of each of the rows so far with every one of the rows that follows it at the end, by an index of
-/// these. The links are ones that each row meets which follows one so far.
+/// these by the columns of the links. The links are ones that each row meets which follows one so far.
+fn push_by_index(
+    alloc: Global,
+    join: &Join,
+    so_far: &Rows,
+    rows: &Rows,
+    links: &Links,
+    index: &Index,
+    into: &mut Seen,
+) -> Result<(), OutOfMemory>
+    requires none { into.old.rows ≡ [] }
+    requires arity { into.old.arity ≡ length join.now.kept.now }
+    requires own { FindsRows rows.now.rows (map (λ link. Cell link.column) links.now) index.now }
+    requires early { (cells row : List ℕ) → Contains so_far.now.rows cells
+        → Follows join.now.get.now cells row
+        → (link : Link) → Contains links.now link → IsMet cells row link }
+    ensures { OnOk result ((row : List ℕ) → Contains into.new.rows row
+        ↔ IsKept join.now.kept.now (IsJoin join.now.get.now so_far.now.rows rows.now.rows) row) }
+{
+    let sources = sources_of(alloc, links)?;
+    push_each_joined(alloc, join, so_far, rows, &sources, index, into)
+}
+
+/// The same, where the index is made for it.
 fn push_joined_by(
     alloc: Global,
     join: &Join,
@@ -234,9 +258,8 @@ fn push_joined_by(
     ensures { OnOk result ((row : List ℕ) → Contains into.new.rows row
         ↔ IsKept join.now.kept.now (IsJoin join.now.get.now so_far.now.rows rows.now.rows) row) }
 {
-    let sources = sources_of(alloc, links)?;
     let index = index_by(alloc, rows, links)?;
-    push_each_joined(alloc, join, so_far, rows, &sources, &index, into)
+    push_by_index(alloc, join, so_far, rows, links, &index, into)
 }
 
 /// Puts what is kept of each of the rows so far with every one of the rows that follows it at the end.
@@ -269,5 +292,26 @@ pub(crate) fn joined(
 {
     let mut joined = Seen::new(alloc, join.kept.len(), so_far.len())?;
     push_all_joined(alloc, join, so_far, rows, &mut joined)?;
+    Ok(joined.into_rows())
+}
+
+/// The same by an index of the rows by the columns of the links, which each row meets that follows one so far.
+pub(crate) fn joined_over(
+    alloc: Global,
+    join: &Join,
+    so_far: &Rows,
+    rows: &Rows,
+    links: &Links,
+    index: &Index,
+) -> Result<Rows, OutOfMemory>
+    requires own { FindsRows rows.now.rows (map (λ link. Cell link.column) links.now) index.now }
+    requires early { (cells row : List ℕ) → Contains so_far.now.rows cells
+        → Follows join.now.get.now cells row
+        → (link : Link) → Contains links.now link → IsMet cells row link }
+    ensures { IfOk result (λ it. (row : List ℕ) → Contains it.rows row
+        ↔ IsKept join.now.kept.now (IsJoin join.now.get.now so_far.now.rows rows.now.rows) row) }
+{
+    let mut joined = Seen::new(alloc, join.kept.len(), so_far.len())?;
+    push_by_index(alloc, join, so_far, rows, links, index, &mut joined)?;
     Ok(joined.into_rows())
 }

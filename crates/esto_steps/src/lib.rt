@@ -4,14 +4,19 @@
 
 mod asked;
 mod codes;
+mod cost;
+mod found;
 mod guess;
 mod index;
 mod join;
 mod links;
+mod probe;
 mod project;
 mod reads;
+mod sample;
 mod seen;
 mod steps;
+mod whole;
 
 pub use asked::asked_rows;
 pub use guess::guessed_count;
@@ -19,3 +24,4 @@ pub use join::Join;
 pub use project::projected;
 pub use reads::joined_firsts;
 pub use steps::{Get, Gets, Link, Links, Source, Sources, Steps};
+pub use whole::Whole;

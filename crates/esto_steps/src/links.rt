@@ -30,8 +30,8 @@ fn push_early(links: &mut Links, link: &Link, width: usize) -> Result<(), OutOfM
     links.push(*link)
 }
 
-/// The links of the get that any row which follows cells of at least the width meets by the cells alone: the inputs, and
-/// the filters whose sources are among the first cells.
+/// The links of the get that any row which follows cells of at least the width meets by the cells alone: the inputs,
+/// and the filters whose sources are among the first cells.
 pub(crate) fn early_links(alloc: Global, get: &Get, width: usize) -> Result<Links, OutOfMemory>
     ensures { IfOk result (λ links. (cells row : List ℕ) → width ≤ length cells
         → Follows get.now cells row

@@ -1,11 +1,17 @@
 //! What a join reads of a fragment's rows, and rows that stand for others which have the same codes there.
-ghost use Rattle.std.specs.Prelude.{◌≡◌, ◌↔◌, ◌++◌, ◌+◌, ◌<◌, [], List, ℕ, map, flat_map, length, take, Contains, IfOk, OnOk};
+ghost use Rattle.std.specs.Prelude.{◌≡◌, ◌↔◌, ◌++◌, ◌+◌, ◌<◌, [], List, ℕ, map, flat_map, length, take};
+ghost use Rattle.std.specs.Prelude.{Contains, IfOk, OnOk, MatchOption};
 ghost use Rattle.esto_steps.specs.declared.steps.Source.TheVariants.{Cell};
 ghost use Rattle.esto_steps.specs.Reads.{own_cells, filter_cells, read_cells, StandFor, AreStood};
+ghost use Rattle.esto_steps.specs.declared.steps.Link.{Link};
 ghost use Rattle.esto_steps.specs.Joined.{IsJoin, IsKept};
+ghost use Rattle.esto_steps.specs.Meaning.{IsMet, Follows};
 
 use crate::codes::name_codes;
-use crate::join::{Join, joined};
+use crate::cost::{are_short, cheap_links, most_looks};
+use crate::join::{Join, index_by, joined, joined_over};
+use crate::links::early_links;
+use crate::probe::joined_reached;
 use crate::seen::Seen;
 use crate::steps::{Link, Links, Source, Sources};
 use esto_columns::Rows;
@@ -192,8 +198,122 @@ fn joined_by(
     joined(alloc, join, so_far, &few)
 }
 
-/// What is kept of the rows so far, each with every one of the rows that follows it after it. Where a cell of the rows is
-/// not read, only the first of those that are the same in the others is joined.
+/// The same by an index of the rows, where they are read whole or few of them are in the buckets that the rows so far
+/// name; else none. Each row that follows one so far meets the links.
+fn joined_indexed(
+    alloc: Global,
+    join: &Join,
+    so_far: &Rows,
+    rows: &Rows,
+    links: &Links,
+    whole: bool,
+) -> Result<Option<Rows>, OutOfMemory>
+    requires { (cells row : List ℕ) → Contains so_far.now.rows cells
+        → Follows join.now.get.now cells row
+        → (link : Link) → Contains links.now link → IsMet cells row link }
+    ensures { IfOk result (λ found. MatchOption found Unit (λ it. (row : List ℕ) → Contains it.rows row
+        ↔ IsKept join.now.kept.now (IsJoin join.now.get.now so_far.now.rows rows.now.rows) row)) }
+{
+    let index = index_by(alloc, rows, links)?;
+    if !whole && !are_short(alloc, so_far, rows, links, &index)? {
+        return Ok(None);
+    }
+    let joined = joined_over(alloc, join, so_far, rows, links, &index)?;
+    Ok(Some(joined))
+}
+
+/// The same by an index of the rows where it serves; else few of the rows are made to stand for all. Each row that
+/// follows one so far meets the links, and the cells are those of the rows that the join reads.
+fn joined_read(
+    alloc: Global,
+    join: &Join,
+    so_far: &Rows,
+    rows: &Rows,
+    links: &Links,
+    cells: &Sources,
+) -> Result<Rows, OutOfMemory>
+    requires cells { cells.now ≡ read_cells so_far.now.arity join.now.get.now join.now.kept.now }
+    requires early { (cells row : List ℕ) → Contains so_far.now.rows cells
+        → Follows join.now.get.now cells row
+        → (link : Link) → Contains links.now link → IsMet cells row link }
+    ensures { IfOk result (λ it. (row : List ℕ) → Contains it.rows row
+        ↔ IsKept join.now.kept.now (IsJoin join.now.get.now so_far.now.rows rows.now.rows) row) }
+{
+    let whole = has_all(cells, rows.arity());
+    if links.is_empty() && !whole {
+        return joined_by(alloc, join, so_far, rows, cells);
+    }
+    if let Some(joined) = joined_indexed(alloc, join, so_far, rows, links, whole)? {
+        return Ok(joined);
+    }
+    joined_by(alloc, join, so_far, rows, cells)
+}
+
+/// The same, where the rows have no indexes that serve.
+fn joined_wide(
+    alloc: Global,
+    join: &Join,
+    so_far: &Rows,
+    rows: &Rows,
+    links: &Links,
+) -> Result<Rows, OutOfMemory>
+    requires { (cells row : List ℕ) → Contains so_far.now.rows cells
+        → Follows join.now.get.now cells row
+        → (link : Link) → Contains links.now link → IsMet cells row link }
+    ensures { IfOk result (λ it. (row : List ℕ) → Contains it.rows row
+        ↔ IsKept join.now.kept.now (IsJoin join.now.get.now so_far.now.rows rows.now.rows) row) }
+{
+    let cells = cells_read(alloc, join, so_far.arity())?;
+    joined_read(alloc, join, so_far, rows, links, &cells)
+}
+
+/// The same, where the rows are found by an index that they have and it is cheap, and where there is no more than one
+/// row so far; else none.
+fn joined_cheaply(
+    alloc: Global,
+    join: &Join,
+    so_far: &Rows,
+    rows: &Rows,
+    links: &Links,
+) -> Result<Option<Rows>, OutOfMemory>
+    requires { (cells row : List ℕ) → Contains so_far.now.rows cells
+        → Follows join.now.get.now cells row
+        → (link : Link) → Contains links.now link → IsMet cells row link }
+    ensures { IfOk result (λ found. MatchOption found Unit (λ it. (row : List ℕ) → Contains it.rows row
+        ↔ IsKept join.now.kept.now (IsJoin join.now.get.now so_far.now.rows rows.now.rows) row)) }
+{
+    let cheap = cheap_links(alloc, so_far, rows, links)?;
+    if so_far.len() > 1 && cheap.is_empty() {
+        return Ok(None);
+    }
+    joined_reached(alloc, join, so_far, rows, &cheap, most_looks(so_far, rows))
+}
+
+/// The same, where each row that follows one so far meets the links. Where it is cheap the rows are found by an index
+/// that they have, and for one row so far each is looked at once.
+fn joined_early(
+    alloc: Global,
+    join: &Join,
+    so_far: &Rows,
+    rows: &Rows,
+    links: &Links,
+) -> Result<Rows, OutOfMemory>
+    requires { (cells row : List ℕ) → Contains so_far.now.rows cells
+        → Follows join.now.get.now cells row
+        → (link : Link) → Contains links.now link → IsMet cells row link }
+    ensures { IfOk result (λ it. (row : List ℕ) → Contains it.rows row
+        ↔ IsKept join.now.kept.now (IsJoin join.now.get.now so_far.now.rows rows.now.rows) row) }
+{
+    if let Some(joined) = joined_cheaply(alloc, join, so_far, rows, links)? {
+        return Ok(joined);
+    }
+    joined_wide(alloc, join, so_far, rows, links)
+}
+
+/// What is kept of the rows so far, each with every one of the rows that follows it after it. An index of the rows by
+/// one column serves to find them where it is cheap, and for one row so far none is needed. Else an index is made, and
+/// where a cell of the rows is not read and many of them are in the buckets that the rows so far name, only the first
+/// of those that are the same in the others is joined.
 pub fn joined_firsts(
     alloc: Global,
     join: &Join,
@@ -203,9 +323,7 @@ pub fn joined_firsts(
     ensures { IfOk result (λ it. (row : List ℕ) → Contains it.rows row
         ↔ IsKept join.now.kept.now (IsJoin join.now.get.now so_far.now.rows rows.now.rows) row) }
 {
-    let cells = cells_read(alloc, join, so_far.arity())?;
-    if has_all(&cells, rows.arity()) {
-        return joined(alloc, join, so_far, rows);
-    }
-    joined_by(alloc, join, so_far, rows, &cells)
+    let width = so_far.arity();
+    let links = early_links(alloc, join.get, width)?;
+    joined_early(alloc, join, so_far, rows, &links)
 }

@@ -119,6 +119,13 @@ impl Seen {
         self.rows.len()
     }
 
+    /// The rows, lent.
+    pub(crate) fn rows(&self) -> &Rows
+        ensures { result.now ≡ self.now }
+    {
+        &self.rows
+    }
+
     /// The rows.
     pub(crate) fn into_rows(self) -> Rows
         ensures { result ≡ self }

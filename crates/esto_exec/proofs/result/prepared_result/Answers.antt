@@ -9,7 +9,7 @@ pub returns-clause-rows : goal.returns-clause-rows
 returns-clause-rows g c =
     IfOk-weaker c.head_rows.result _ _
     (λ it. results_told (IsRowOf (λ number. get_or (map g.F.Fragment.rows c.args.fragments.now) number [])) c.args.steps.now c.args.arities.now
-    c.in_ok-so_far.so_far.done c.in_ok-so_far.so_far.places c.in_ok-so_far.so_far.rows.rows it.rows _ c.requires.prepared.widths
+    c.in_ok-so_far.so_far.done c.in_ok-so_far.so_far.places c.in_ok-so_far.so_far.rows.rows it.rows _ c.requires.arities
     c.in_ok-so_far.ensures.all
     (subst (λ equations. IsUnderWay (IsRowOf (λ number. get_or (map g.F.Fragment.rows c.args.fragments.now) number [])) c.args.arities.now
     c.args.steps.now.gets equations c.args.steps.now.head c.in_ok-so_far.so_far.done c.in_ok-so_far.so_far.places c.in_ok-so_far.so_far.rows.rows)

@@ -16,7 +16,7 @@ take_turn-requires-clause-fresh g c = λ inside.
 pub take_turn-requires-clause-ready : goal.take_turn-requires-clause-ready
 take_turn-requires-clause-ready g c = λ get there.
     next_ready c.args.steps.now.arities.now c.args.so_far.now.done get c.args.number
-    (let long = c.requires.prepared.widths.long in let below = c.requires.there in omega (arith, long, below)) c.requires.before
+    (let long = c.requires.arities.long in let below = c.requires.there in omega (arith, long, below)) c.requires.before
 
 pub returns-clause-before : goal.returns-clause-before
 returns-clause-before g c = on_ok_weaker c.take_turn.result

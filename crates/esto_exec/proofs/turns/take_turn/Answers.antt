@@ -1,9 +1,8 @@
-use Rattle.std.proofs.Common.{◌<◌, [], map, length, take, get_or, refl, sym, subst, ap, ◌∙◌, arith}
-use Rattle.std.proofs.lemmas.List.{length-map}
+use Rattle.std.proofs.Common.{◌<◌, [], map, length, take, get_or, refl, sym, subst, arith}
 use Rattle.std.proofs.lemmas.Result.{on_ok_weaker}
 use Rattle.esto_columns.specs.Asked.{IsAllowed}
 use Rattle.esto_steps.specs.Rows.{IsRowOf}
-use Rattle.esto_exec.specs.Turns.{link_in, IsUnderWay}
+use Rattle.esto_exec.specs.Turns.{IsUnderWay}
 use Rattle.esto_exec.proofs.RunLemmas.{fragment_there, fragment_allows, fragment_rows}
 use Rattle.esto_exec.proofs.UnderWayLemmas.{under_way_more, links_in_columns}
 use Rattle.esto_exec.proofs.turns.take_turn.Goals as goal
@@ -20,27 +19,15 @@ offset_bounds-fragments-get g c =
     c.item-get.ensures c.requires.runnable in omega (arith, below)
 
 pub own_get-requires : goal.own_get-requires
-own_get-requires g c = let long = c.requires.prepared.widths.long in let there = c.requires.there in omega (arith, long, there)
+own_get-requires g c = let long = c.requires.arities.long in let there = c.requires.there in omega (arith, long, there)
 
-pub follow_on-requires-clause-allowed : goal.follow_on-requires-clause-allowed
-follow_on-requires-clause-allowed g c = subst (IsAllowed (g.F.Fragment.shape c.index-fragments-get.result))
+pub follow_on-requires : goal.follow_on-requires
+follow_on-requires g c = subst (IsAllowed (g.F.Fragment.shape c.index-fragments-get.result))
     (sym (links_in_columns c.args.so_far.now.places (take c.args.number c.args.steps.now.arities.now) c.item-get.result.now.inputs c.in_ok-own.own.inputs
     c.in_ok-own.ensures.inputs))
     (fragment_allows g.F.Fragment.shape g.F.Fragment.rows c.args.fragments.now c.args.steps.now.gets.now c.args.number c.item-get.result.now
     c.index-fragments-get.result
     c.item-get.ensures c.requires.runnable c.index-fragments-get.is)
-
-pub follow_on-requires-clause-table : goal.follow_on-requires-clause-table
-follow_on-requires-clause-table g c = λ none row.
-    let whole = c.requires.prepared.whole.1 c.args.number c.item-get.result.now c.item-table.result.now c.item-get.ensures c.item-table.ensures
-    (sym (length-map c.item-get.result.now.inputs (link_in c.args.so_far.now.places (take c.args.number c.args.steps.now.arities.now)))
-    ∙ sym (ap length c.in_ok-own.ensures.inputs) ∙ none)
-    row in
-    let own = fragment_rows g.F.Fragment.shape g.F.Fragment.rows c.args.fragments.now c.item-get.result.now.fragment c.index-fragments-get.result
-    (fragment_there g.F.Fragment.shape g.F.Fragment.rows c.args.fragments.now c.args.steps.now.gets.now c.args.number c.item-get.result.now c.item-get.ensures
-    c.requires.runnable)
-    c.index-fragments-get.is row in
-    ((λ has. own.1 (whole.0 has)), (λ has. whole.1 (own.0 has)))
 
 pub returns-clause-under_way : goal.returns-clause-under_way
 returns-clause-under_way g c =
@@ -55,7 +42,7 @@ returns-clause-under_way g c =
     _ c.args.number c.item-get.result.now
     c.in_ok-own.own
     c.args.so_far.now.rows.rows (g.F.Fragment.rows c.index-fragments-get.result) c.follow_on.new.so_far.rows.rows
-    c.requires.prepared.widths c.requires.under_way c.requires.fresh c.item-get.ensures (c.requires.ready c.item-get.result.now c.item-get.ensures)
+    c.requires.arities c.requires.under_way c.requires.fresh c.item-get.ensures (c.requires.ready c.item-get.result.now c.item-get.ensures)
     (fragment_rows g.F.Fragment.shape g.F.Fragment.rows c.args.fragments.now c.item-get.result.now.fragment c.index-fragments-get.result
     (fragment_there g.F.Fragment.shape g.F.Fragment.rows c.args.fragments.now c.args.steps.now.gets.now c.args.number c.item-get.result.now c.item-get.ensures
     c.requires.runnable)

@@ -1,7 +1,8 @@
-use Rattle.std.proofs.Common.{ap, ◌∙◌}
-use Rattle.esto_steps.specs.Reads.{read_cells}
+use Rattle.std.proofs.Common.{◌≤◌, length, arith}
 use Rattle.esto_steps.proofs.reads.joined_firsts.Goals as goal
 
-pub joined_by-requires : goal.joined_by-requires
-joined_by-requires c = c.in_ok-cells.ensures
-    ∙ ap (λ width. read_cells width c.args.join.now.get.now c.args.join.now.kept.now) c.arity.ensures.value
+pub joined_early-requires : goal.joined_early-requires
+joined_early-requires c = λ cells row among follows.
+    let wide : c.arity-width.result ≤ length cells =
+    (let width = c.arity-width.ensures.value in let long = c.arity-width.ensures.fits cells among in omega (arith, long, width)) in
+    c.in_ok-links.ensures cells row wide follows

@@ -1,0 +1,4 @@
+use Rattle.esto_steps.proofs.cost.chain_length.Given as goal
+
+abbrev pub decreases-places : goal.decreases-places
+decreases-places l = l.next

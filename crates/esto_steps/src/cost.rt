@@ -1,0 +1,169 @@
+//! How many rows a join looks at, about. Nothing rests on it but speed.
+ghost use Rattle.std.specs.Prelude.{Contains, IfOk};
+ghost use Rattle.esto_steps.specs.declared.steps.Link.{Link};
+
+use crate::links::sources_of;
+use crate::probe::places_met;
+use crate::sample::{Buffers, place_in, read_key, scaled};
+use crate::steps::{Link, Links, Sources};
+use esto_columns::{Index, Rows};
+use esto_term::{List, OutOfMemory};
+use std::alloc::Global;
+
+/// How many of the rows so far are tried, at most.
+const TRIED: usize = 16;
+
+/// How many rows a join may look at and be cheap.
+fn most_cheap(so_far: &Rows, rows: &Rows) -> usize {
+    so_far.len().saturating_add(rows.len()).saturating_mul(2)
+}
+
+/// How many rows a join by an index that they have may look at before it gives up; any number for one row so far.
+pub(crate) fn most_looks(so_far: &Rows, rows: &Rows) -> usize {
+    if so_far.len() > 1 {
+        most_cheap(so_far, rows)
+    } else {
+        usize::MAX
+    }
+}
+
+/// How many places the link gives for the row so far at the place; more than there are where the rows have no index by
+/// the link's column.
+fn count_met(
+    alloc: Global,
+    so_far: &Rows,
+    at: usize,
+    rows: &Rows,
+    link: &Link,
+) -> Result<usize, OutOfMemory> {
+    if at >= so_far.len() {
+        return Ok(0);
+    }
+    let cells = so_far.row(alloc, at)?;
+    match places_met(alloc, rows, cells.items(), link)? {
+        Some(places) => Ok(places.len()),
+        None => Ok(usize::MAX),
+    }
+}
+
+/// How many places the link gives for all rows so far, about, by a look at one of each stretch of them; no more than so
+/// many are counted.
+fn met_cost(
+    alloc: Global,
+    so_far: &Rows,
+    rows: &Rows,
+    link: &Link,
+    most: usize,
+) -> Result<usize, OutOfMemory> {
+    let step = so_far.len() / TRIED + 1;
+    let tried = so_far.len() / step;
+    let mut found: usize = 0;
+    'rows: for turn in 0..tried {
+        let at = place_in(turn, step);
+        found = found.saturating_add(count_met(alloc, so_far, at, rows, link)?);
+        if scaled(found, tried, so_far.len()) >= most {
+            return Ok(most);
+        }
+    }
+    Ok(scaled(found, tried, so_far.len()))
+}
+
+/// The number of the link that gives about the fewest places, or how many links there are where none seems cheap.
+fn cheapest(
+    alloc: Global,
+    so_far: &Rows,
+    rows: &Rows,
+    links: &Links,
+) -> Result<usize, OutOfMemory> {
+    let mut least = most_cheap(so_far, rows);
+    let mut best = links.len();
+    'links: for number in 0..links.len() {
+        let cost = met_cost(alloc, so_far, rows, links.item(number), least)?;
+        if cost < least {
+            least = cost;
+            best = number;
+        }
+    }
+    Ok(best)
+}
+
+/// The one of the links by which the rows are found with about the fewest looks, as some of the rows so far tell, where
+/// they have an index by its column and it seems cheap; else none.
+pub(crate) fn cheap_links(
+    alloc: Global,
+    so_far: &Rows,
+    rows: &Rows,
+    links: &Links,
+) -> Result<Links, OutOfMemory>
+    ensures { IfOk result (λ it. (link : Link) → Contains it link → Contains links.now link) }
+{
+    let best = cheapest(alloc, so_far, rows, links)?;
+    let mut cheap = List::new(alloc);
+    if best < links.len() {
+        cheap.push(*links.item(best))?;
+    }
+    Ok(cheap)
+}
+
+/// How many places are on the key's chain; one more than so many where there are more.
+fn chain_length(index: &Index, key: &[u64], most: usize) -> usize {
+    let mut next = index.last_of(key);
+    let mut count: usize = 0;
+    'places: while next > 0 {
+        if count > most {
+            return count;
+        }
+        next = index.before(next - 1);
+        count = count.saturating_add(1);
+    }
+    count
+}
+
+/// How many places are on the chain of the key that the sources name in the row so far at the place; one more than so
+/// many where there are more.
+fn chain_at(
+    so_far: &Rows,
+    at: usize,
+    sources: &Sources,
+    index: &Index,
+    most: usize,
+    buffers: &mut Buffers,
+) -> Result<usize, OutOfMemory> {
+    if !read_key(so_far, at, sources, buffers)? {
+        return Ok(0);
+    }
+    Ok(chain_length(index, buffers.key.items(), most))
+}
+
+/// Whether no more places than the most are on the chains of all rows so far.
+fn are_at_most(
+    alloc: Global,
+    so_far: &Rows,
+    sources: &Sources,
+    index: &Index,
+    most: usize,
+) -> Result<bool, OutOfMemory> {
+    let mut buffers = Buffers::new(alloc);
+    let mut left = most;
+    'rows: for at in 0..so_far.len() {
+        let count = chain_at(so_far, at, sources, index, left, &mut buffers)?;
+        if count > left {
+            return Ok(false);
+        }
+        left = left.saturating_sub(count);
+    }
+    Ok(true)
+}
+
+/// Whether few of the rows are in those buckets of their index, by the columns of the links, which the rows so far
+/// name; a row counts as often as one of these names its bucket.
+pub(crate) fn are_short(
+    alloc: Global,
+    so_far: &Rows,
+    rows: &Rows,
+    links: &Links,
+    index: &Index,
+) -> Result<bool, OutOfMemory> {
+    let sources = sources_of(alloc, links)?;
+    are_at_most(alloc, so_far, &sources, index, most_cheap(so_far, rows))
+}

@@ -1,0 +1,203 @@
+//! How many of a table's rows have one of some keys. Nothing rests on it but speed, so nothing here has a contract.
+use crate::links::columns_of;
+use crate::sample::{Buffers, place_in, read_key, scaled};
+use crate::seen::Seen;
+use crate::steps::{Links, Sources};
+use esto_columns::Rows;
+use esto_term::{OutOfMemory, Values};
+use std::alloc::Global;
+
+/// How many of the table's rows are looked at, where no index serves.
+const LOOKED: usize = 32_768;
+
+/// How many places an index gives for all keys, at most, where it serves.
+const MOST: usize = 65_536;
+
+/// How many of the places that an index gives for a key are looked at.
+const PER_KEY: usize = 512;
+
+/// How many rows were counted, how many places were found for their keys, and lists that are filled anew for each.
+#[derive(Drop)]
+struct Counts {
+    rows: usize,
+    places: usize,
+    buffers: Buffers,
+}
+
+impl Counts {
+    /// Nothing is counted at first.
+    fn new(alloc: Global) -> Counts {
+        Counts {
+            rows: 0,
+            places: 0,
+            buffers: Buffers::new(alloc),
+        }
+    }
+}
+
+/// The place that stands there in the list; past its end a place that no row has.
+fn place_at(places: &[usize], at: usize) -> usize {
+    match places.get(at) {
+        Some(place) => *place,
+        None => usize::MAX,
+    }
+}
+
+/// How many of the rows have one of the keys in the columns, by a look at one of each stretch of them.
+fn count_some(
+    alloc: Global,
+    rows: &Rows,
+    columns: &Sources,
+    keys: &Seen,
+) -> Result<usize, OutOfMemory> {
+    let step = rows.len() / LOOKED + 1;
+    let looked = rows.len() / step;
+    let mut buffers = Buffers::new(alloc);
+    let mut count: usize = 0;
+    'rows: for turn in 0..looked {
+        let named = read_key(rows, place_in(turn, step), columns, &mut buffers)?;
+        if named && keys.has(buffers.key.items()) {
+            count = count.saturating_add(1);
+        }
+    }
+    Ok(scaled(count, looked, rows.len()))
+}
+
+/// How many of the rows at the places have the key in the columns, by a look at one of each stretch of them.
+fn count_key(
+    rows: &Rows,
+    places: &[usize],
+    columns: &Sources,
+    key: &[u64],
+    buffers: &mut Buffers,
+) -> Result<usize, OutOfMemory> {
+    let step = places.len() / PER_KEY + 1;
+    let looked = places.len() / step;
+    let mut count: usize = 0;
+    'places: for turn in 0..looked {
+        let place = place_at(places, place_in(turn, step));
+        let named = read_key(rows, place, columns, buffers)?;
+        if named && buffers.key.items() == key {
+            count = count.saturating_add(1);
+        }
+    }
+    Ok(scaled(count, looked, places.len()))
+}
+
+/// The places that the index by the column gives for the code of the number in the key, if there are such ones.
+fn places_of(
+    alloc: Global,
+    rows: &Rows,
+    column: usize,
+    number: usize,
+    key: &[u64],
+) -> Result<Option<Vec<usize>>, OutOfMemory> {
+    let Some(code) = key.get(number) else {
+        return Ok(None);
+    };
+    rows.places(alloc, &[column], &[*code])
+}
+
+/// Counts the rows that have the key in the columns, by the index by the one of the number, and the places that it
+/// gives for the key. Tells whether it serves so far: too many places are not looked at.
+fn count_key_by(
+    alloc: Global,
+    rows: &Rows,
+    column: usize,
+    number: usize,
+    columns: &Sources,
+    key: &[u64],
+    counts: &mut Counts,
+) -> Result<bool, OutOfMemory> {
+    let Some(places) = places_of(alloc, rows, column, number, key)? else {
+        return Ok(false);
+    };
+    counts.places = counts.places.saturating_add(places.len());
+    if counts.places > MOST {
+        return Ok(false);
+    }
+    let count = count_key(rows, places.as_slice(), columns, key, &mut counts.buffers)?;
+    counts.rows = counts.rows.saturating_add(count);
+    Ok(true)
+}
+
+/// How many of the rows have one of the keys in the columns, by the index by the one of the number; none where it gives
+/// too many places.
+fn count_by(
+    alloc: Global,
+    rows: &Rows,
+    column: usize,
+    number: usize,
+    columns: &Sources,
+    keys: &Rows,
+) -> Result<Option<usize>, OutOfMemory> {
+    let mut counts = Counts::new(alloc);
+    let mut key = Values::new(alloc);
+    'keys: for at in 0..keys.len() {
+        keys.read_row(at, &mut key)?;
+        if !count_key_by(
+            alloc,
+            rows,
+            column,
+            number,
+            columns,
+            key.items(),
+            &mut counts,
+        )? {
+            return Ok(None);
+        }
+    }
+    Ok(Some(counts.rows))
+}
+
+/// How many places the index by the column gives for the first key; more than there are where there is no index.
+fn first_count(
+    alloc: Global,
+    rows: &Rows,
+    column: usize,
+    number: usize,
+    keys: &Rows,
+) -> Result<usize, OutOfMemory> {
+    if keys.len() == 0 {
+        return Ok(0);
+    }
+    let key = keys.row(alloc, 0)?;
+    match places_of(alloc, rows, column, number, key.items())? {
+        Some(places) => Ok(places.len()),
+        None => Ok(usize::MAX),
+    }
+}
+
+/// The number of the link whose index gives the fewest places for the first key, or how many links there are where no
+/// index serves.
+fn best_link(alloc: Global, links: &Links, rows: &Rows, keys: &Rows) -> Result<usize, OutOfMemory> {
+    let mut least = MOST;
+    let mut best = links.len();
+    'links: for number in 0..links.len() {
+        let count = first_count(alloc, rows, links.item(number).column, number, keys)?;
+        if count < least {
+            least = count;
+            best = number;
+        }
+    }
+    Ok(best)
+}
+
+/// How many of the table's rows have one of the keys in the columns of the links, about: by an index by one of these
+/// where it serves, and else by a look at some of the rows.
+pub(crate) fn count_found(
+    alloc: Global,
+    links: &Links,
+    table: &Rows,
+    keys: &Seen,
+) -> Result<usize, OutOfMemory> {
+    let columns = columns_of(alloc, links)?;
+    let best = best_link(alloc, links, table, keys.rows())?;
+    if best < links.len() {
+        let column = links.item(best).column;
+        if let Some(count) = count_by(alloc, table, column, best, &columns, keys.rows())? {
+            return Ok(count);
+        }
+    }
+    count_some(alloc, table, &columns, keys)
+}
