@@ -13,7 +13,7 @@ use Rattle.esto_lines.specs.Lines.{line_feed, lines_of, LinesBeginAnew}
 use Rattle.esto_stores.specs.Keys.{tab, carriage_return, without_return, cells_of_line, key_rows, key_fault}
 use Rattle.esto_stores.specs.KeyText.{is_part, row_fault, keys_text}
 use Rattle.esto_lines.proofs.LineLemmas.{none_passes}
-use Rattle.esto_stores.proofs.KeyLemmas.{or_left, or_right}
+use Rattle.esto_stores.proofs.KeyLemmas.{one_cell, or_left, or_right}
 use Rattle.esto_stores.proofs.RowLemmas.{fault_goes, texts_go}
 
 -- Cells joined by tabs.
@@ -59,14 +59,10 @@ cell_split : (x rest : List ℕ) → list_any (λ b. b == tab) x ≡ false → s
 cell_split [] rest h = refl
 cell_split (b ∷ bs) rest h = rw (or_left (b == tab) _ h) (ap (onto_first b) (cell_split bs rest (or_right (b == tab) _ h)))
 
-last_split : (x : List ℕ) → list_any (λ b. b == tab) x ≡ false → slice_split (λ b. b == tab) x ≡ x ∷ []
-last_split [] h = refl
-last_split (b ∷ bs) h = rw (or_left (b == tab) _ h) (ap (onto_first b) (last_split bs (or_right (b == tab) _ h)))
-
 cells_split : (cells : Row) → 0 < length cells → list_any (list_any (λ b. b == tab)) cells ≡ false → slice_split (λ b. b == tab) (join_with_byte tab cells)
     ≡ cells
 cells_split [] some h = absurd (omega arith)
-cells_split (x ∷ []) some h = last_split x (or_left _ _ h)
+cells_split (x ∷ []) some h = one_cell x (or_left _ _ h)
 cells_split (x ∷ y ∷ ys) some h =
     cell_split x (join_with_byte tab (y ∷ ys)) (or_left _ _ h)
     ∙ ap (λ (r : Row). x ∷ r) (cells_split (y ∷ ys) (omega arith) (or_right (list_any (λ b. b == tab) x) _ h))

@@ -1,7 +1,9 @@
 pub mod Rows
 pub mod Left
 pub mod Table
+pub mod Header
 pub mod TableText
 pub mod Keys
 pub mod KeyText
 pub mod KeyLaws
+pub mod Coded

@@ -1,15 +1,26 @@
 //! The header of a CSV file.
-ghost use Rattle.std.specs.Prelude.{◌≡◌, map};
+ghost use Rattle.std.specs.Prelude.{◌≡◌, ◌∷◌, List, map, IfOk};
 ghost use Rattle.csv.specs.Records.{fields_of};
 ghost use Rattle.esto_lines.specs.Faults.{Gives};
+ghost use Rattle.esto_stores.specs.Header.{ReadsHeader};
+ghost use Rattle.esto_stores.specs.Left.{Reads, left_of};
+ghost use Rattle.esto_stores.specs.Rows.{Row};
 ghost use Rattle.esto_stores.specs.Table.{times_in, place_in, header_fault};
 
-use crate::cells::cell_at;
-use csv::ByteRecord;
+use crate::cells::{all_are_texts, cell_at};
+use crate::reader::read_next;
+use csv::{ByteRecord, Reader};
 use esto_lines::fault;
 use esto_ports::{FileError, FileKind};
 use esto_term::{Places, Text, Values};
 use std::alloc::Global;
+
+/// How many cells each record has, and where the cells of the declared columns stand.
+#[derive(Drop)]
+pub struct Header {
+    pub width: usize,
+    pub places: Places,
+}
 
 // How many cells of the header are this name.
 fn count_name(header: &ByteRecord, name: &[u8]) -> usize
@@ -36,12 +47,8 @@ fn find_name(header: &ByteRecord, name: &[u8]) -> usize
     header.len()
 }
 
-/// Where the declared columns stand, or the first of them that the header has not exactly once.
-pub fn find_columns(
-    alloc: Global,
-    header: &ByteRecord,
-    columns: &[Text],
-) -> Result<Places, FileError>
+// Where the declared columns stand, or the first of them that the header has not exactly once.
+fn find_columns(alloc: Global, header: &ByteRecord, columns: &[Text]) -> Result<Places, FileError>
     ensures { let cells = fields_of header.now in
         Gives (map (place_in cells) columns.now) (header_fault cells 1 columns.now) result }
 {
@@ -53,4 +60,38 @@ pub fn find_columns(
         places.push(find_name(header, column.bytes()))?;
     }
     Ok(places)
+}
+
+// The header that these cells are, or its first fault.
+fn header_of(alloc: Global, cells: &ByteRecord, columns: &[Text]) -> Result<Header, FileError>
+    ensures { (rows : List Row) → ReadsHeader columns.now (fields_of cells.now ∷ rows) rows result }
+{
+    if !all_are_texts(cells) {
+        return Err(fault(FileKind::NotUtf8, 0));
+    }
+    match find_columns(alloc, cells, columns) {
+        Ok(places) => Ok(Header {
+            width: cells.len(),
+            places,
+        }),
+        Err(error) => Err(error),
+    }
+}
+
+/// The header, which is the first of the records that the reader has left, or its first fault.
+pub fn read_header(
+    alloc: Global,
+    reader: &mut Reader<&[u8]>,
+    columns: &[Text],
+) -> Result<Header, FileError>
+    requires { Reads reader.old }
+    ensures header { ReadsHeader columns.now (left_of reader.old) (left_of reader.new) result }
+    ensures reads { IfOk result (λ _. Reads reader.new) }
+{
+    let mut cells = ByteRecord::new(alloc);
+    match read_next(reader, &mut cells) {
+        Ok(true) => header_of(alloc, &cells, columns),
+        Ok(false) => Err(fault(FileKind::NoHeader, 0)),
+        Err(_) => Err(FileError::OutOfMemory),
+    }
 }

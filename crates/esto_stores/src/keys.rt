@@ -11,8 +11,8 @@ use esto_ports::{FileError, FileKind};
 use esto_term::{List, OutOfMemory, TextError, TextRow, TextRows};
 use std::alloc::{AllocError, Global};
 
-// The line without one carriage return at its end.
-fn drop_return(line: &[u8]) -> &[u8]
+/// The line without one carriage return at its end.
+pub fn drop_return(line: &[u8]) -> &[u8]
     ensures { result.now ≡ without_return line.now }
 {
     if let Some((last, front)) = line.split_last() {

@@ -1,14 +1,13 @@
 //! The rows of CSV files.
-ghost use Rattle.std.specs.Prelude.{◌∷◌, map};
-ghost use Rattle.csv.specs.Records.{fields_of};
+ghost use Rattle.std.specs.Prelude.{map};
 ghost use Rattle.esto_ports.specs.declared.file_fault.FileKind.TheVariants as kinds;
 ghost use Rattle.esto_lines.specs.Faults.{Gives};
 ghost use Rattle.esto_stores.specs.Rows.{first_fault};
 ghost use Rattle.esto_stores.specs.Left.{Reads, left_of};
 ghost use Rattle.esto_stores.specs.Table.{cells_at, fault_of_records, rows_of_records, table_fault, table_rows};
 
-use crate::cells::{all_are_texts, cell_at, text_row};
-use crate::header::find_columns;
+use crate::cells::text_row;
+use crate::header::read_header;
 use crate::marks::drop_marks;
 use crate::reader::{open_reader, read_next};
 use csv::{ByteRecord, Reader};
@@ -45,26 +44,6 @@ fn read_rows(
     Ok(rows)
 }
 
-// The rows under this header, or the first fault from there on.
-fn open_rows(
-    alloc: Global,
-    header: &ByteRecord,
-    reader: &mut Reader<&[u8]>,
-    columns: &[Text],
-) -> Result<TextRows, FileError>
-    requires { Reads reader.old }
-    ensures { let records = fields_of header.now ∷ left_of reader.old in
-        Gives (rows_of_records columns.now records) (fault_of_records columns.now records) result }
-{
-    if !all_are_texts(header) {
-        return Err(fault(FileKind::NotUtf8, 0));
-    }
-    match find_columns(alloc, header, columns) {
-        Ok(places) => read_rows(alloc, reader, header.len(), places.items()),
-        Err(error) => Err(error),
-    }
-}
-
 // The rows of the records that the reader has left, the header first.
 fn open_records(
     alloc: Global,
@@ -75,12 +54,8 @@ fn open_records(
     ensures { let records = left_of reader.old in
         Gives (rows_of_records columns.now records) (fault_of_records columns.now records) result }
 {
-    let mut header = ByteRecord::new(alloc);
-    match read_next(reader, &mut header) {
-        Ok(true) => open_rows(alloc, &header, reader, columns),
-        Ok(false) => Err(fault(FileKind::NoHeader, 0)),
-        Err(_) => Err(FileError::OutOfMemory),
-    }
+    let header = read_header(alloc, reader, columns)?;
+    read_rows(alloc, reader, header.width, header.places.items())
 }
 
 /// The rows of a CSV file that declares these columns, or its first fault. Records are those that `csv` reads at its
