@@ -1,4 +1,5 @@
 pub mod StoreLemmas
+pub mod CodedStoreLemmas
 pub mod HeldLemmas
 pub mod OpenedLemmas
 pub mod UsedLemmas

@@ -46,7 +46,7 @@ unfolding table_rows
 table_wide columns bytes = records_wide columns (records_of bytes)
 
 -- rows without a fault have the width
-rows_wide : (kind : FileKind) (width : ℕ) (taken : Row → Row) (number : ℕ) (rows : List Row) → first_fault kind width taken number rows ≡ None
+pub rows_wide : (kind : FileKind) (width : ℕ) (taken : Row → Row) (number : ℕ) (rows : List Row) → first_fault kind width taken number rows ≡ None
     → HaveWidth width rows
 unfolding first_fault
 rows_wide kind width taken number [] none row inside = absurd (Contains-nil row inside)
@@ -68,7 +68,7 @@ rows_wide kind width taken number (cells ∷ rest) none row inside =
     by true is passed again = later (are_texts (taken cells)) passed (eqb-true (length cells) width is) again
     by false is passed again = absurd (none-some _ (sym passed))
 
-keys_wide : (width : ℕ) (bytes : List ℕ) → key_fault width bytes ≡ None → HaveWidth width (key_rows bytes)
+pub keys_wide : (width : ℕ) (bytes : List ℕ) → key_fault width bytes ≡ None → HaveWidth width (key_rows bytes)
 unfolding key_fault
 keys_wide width bytes none = rows_wide Cells width (λ cells. cells) 1 (key_rows bytes) none
 

@@ -1,5 +1,5 @@
 -- The rows of fragments, as far as their files are opened.
-use Rattle.std.specs.Prelude.{◌≡◌, ◌<◌, ◌↔◌, ℕ, List, [], Some, length, map, slice_get, slice_index_or, Contains}
+use Rattle.std.specs.Prelude.{◌≡◌, ◌<◌, ◌↔◌, ℕ, List, [], Some, length, map, slice_get, slice_set, slice_index_or, Contains}
 use Rattle.esto_catalog.specs.declared.catalogue.Store.{Store}
 use Rattle.esto_columns.specs.Asked.{Shape}
 use Rattle.esto_columns.specs.declared.stored.StoredRows.{StoredRows}
@@ -52,6 +52,14 @@ pub record AreRowsFor (fragments : List FragmentDef) (opened : List Held) : Type
   pub shapes : map (λ held. held.shape) opened ≡ map shape_of fragments
   pub wide : (number : ℕ) (fragment : FragmentDef) → slice_get fragments number ≡ Some fragment
       → HaveWidth (length fragment.view.head) (held_by (rows_held opened) number)
+
+-- Rows of the fragment stand at the number in place of what stood there, each with as many cells as the fragment's view has columns, and they are exactly those
+-- that are so.
+pub record ArePut (Has : Row → Type 0) (fragment : FragmentDef) (number : ℕ) (old new : List Held) : Type 0 where
+  pub rows : List Row
+  pub wide : HaveWidth (length fragment.view.head) rows
+  pub exact : (row : Row) → Contains rows row ↔ Has row
+  pub put : new ≡ slice_set old number (record { shape = shape_of fragment; rows = rows })
 
 -- The rows of the fragments of these numbers are exactly those of their files.
 abbrev pub AreOpened : List Store → (ℕ → List ℕ) → List ℕ → List (List Row) → Type 0

@@ -1,11 +1,17 @@
 //! Rows of fragments, kept as codes of their texts.
-ghost use Rattle.std.specs.Prelude.{◌≡◌, ◌<◌, [], length, map, slice_set, OnOk, OnErr};
-ghost use Rattle.esto_run.specs.Opened.{HaveTexts, HaveWidth, held_of, shape_of};
+ghost use Rattle.std.specs.Prelude.{◌≡◌, ◌<◌, [], length, map, OnOk, OnErr};
+ghost use Rattle.esto_catalog.specs.Soundness.{IsShapeFor};
+ghost use Rattle.esto_lines.specs.Faults.{Gives};
+ghost use Rattle.esto_run.specs.Opened.{ArePut, HaveTexts, held_of};
 ghost use Rattle.esto_run.specs.Stored.{AreEmpty};
+ghost use Rattle.esto_run.specs.Stores.{IsRowIn, first_fault_in};
 
+use crate::coded_store::code_store;
 use crate::stored::stored_rows;
-use esto_columns::{Codes, StoredRows, code_taken_rows};
-use esto_term::{List, OutOfMemory, TextRows};
+use esto_catalog::Shape;
+use esto_columns::{Codes, StoredRows};
+use esto_ports::FileError;
+use esto_term::List;
 use esto_views::FragmentDef;
 use std::alloc::Global;
 use std::marker::Model;
@@ -41,22 +47,25 @@ impl FragmentRows {
         }
     }
 
-    /// Puts the rows in place of what the fragment of the number had.
+    /// Puts the rows of the fragment's file in this shape in place of what the fragment of the number had; or the file
+    /// has a fault, and this is the first.
     pub(crate) fn put(
         &mut self,
         alloc: Global,
         number: usize,
         fragment: &FragmentDef,
-        rows: TextRows,
-    ) -> Result<(), OutOfMemory>
+        shape: &Shape,
+        bytes: &[u8],
+    ) -> Result<(), FileError>
         requires there { number < length self.old }
-        requires wide { HaveWidth (length fragment.now.view.head) rows }
-        ensures ok { OnOk result (self.new
-            ≡ slice_set self.old number (record { shape = shape_of fragment.now; rows = rows })) }
+        requires fits { IsShapeFor shape.now fragment.now.view }
+        ensures ok { OnOk result
+            (ArePut (IsRowIn shape.now bytes.now) fragment.now number self.old self.new) }
         ensures err { OnErr result (self.new ≡ self.old) }
+        ensures fault { Gives tt
+            (first_fault_in shape.now (length fragment.now.view.head) bytes.now) result }
     {
-        let columns = fragment.view.head.len();
-        let coded = code_taken_rows(alloc, rows, columns, &mut self.codes)?;
+        let coded = code_store(alloc, shape, fragment, bytes, &mut self.codes)?;
         let stored = stored_rows(alloc, fragment, coded)?;
         self.stored.set(number, stored);
         Ok(())

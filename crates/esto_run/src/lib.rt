@@ -4,6 +4,7 @@
 #![tactic(auto)]
 
 mod answers;
+mod coded_store;
 mod held;
 mod laws;
 mod opened;

@@ -7,7 +7,6 @@ ghost use Rattle.esto_run.specs.Opened.{AreRowsFor, AreOpened, rows_held, unopen
 ghost use Rattle.esto_run.specs.Stores.{first_fault_in};
 
 use crate::held::FragmentRows;
-use crate::store::open_store;
 use crate::stored::stored_rows;
 use esto_catalog::{Catalogue, catalogues_are_sound};
 use esto_columns::Rows;
@@ -58,7 +57,6 @@ pub fn open_fragment(
     catalogues_are_sound();
     let fragment = catalogue.fragments.item(number);
     let store = catalogue.stores.item(number);
-    let rows = open_store(alloc, store, fragment, bytes)?;
-    opened.put(alloc, number, fragment, rows)?;
+    opened.put(alloc, number, fragment, &store.shape, bytes)?;
     Ok(())
 }

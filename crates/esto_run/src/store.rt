@@ -13,7 +13,7 @@ use esto_views::FragmentDef;
 use std::alloc::Global;
 
 /// The rows of a fragment's file, in the shape of its store, or the file's first fault.
-fn rows_in(
+pub(crate) fn rows_in(
     alloc: Global,
     shape: &Shape,
     fragment: &FragmentDef,

@@ -6,36 +6,34 @@ use Rattle.esto_run.specs.Stores.{IsRowIn}
 use Rattle.esto_run.proofs.OpenedLemmas.{held_many, opened_more, elsewhere, rows_are_set, rows_put}
 use Rattle.esto_run.proofs.opened.open_fragment.Goals as goal
 
-pub put-requires-clause-there : goal.put-requires-clause-there
-put-requires-clause-there c =
-    let many = held_many c.args.catalogue.now.fragments c.args.opened.now c.requires.rows in
-    let there = c.requires.there in
-    omega (arith, many, there)
-
 pub returns-clause-rows : goal.returns-clause-rows
-returns-clause-rows c = rows_put c.args.catalogue.now.fragments c.args.opened.now c.put.new.self c.args.number c.item-fragment.result.now
-    c.in_ok-rows.rows c.in_ok-put.ensures.ok c.item-fragment.ensures c.in_ok-rows.ensures.wide c.requires.rows
+returns-clause-rows c =
+    let own = c.in_ok-put.ensures.ok in
+    rows_put c.args.catalogue.now.fragments c.args.opened.now c.put.new.self c.args.number c.item-fragment.result.now
+    own.rows own.put c.item-fragment.ensures own.wide c.requires.rows
 
 pub returns-clause-opened : goal.returns-clause-opened
 returns-clause-opened c = λ files numbers same are.
+    let own = c.in_ok-put.ensures.ok in
     let many = held_many c.args.catalogue.now.fragments c.args.opened.now c.requires.rows in
     let there = c.requires.there in
     let long = length-map c.args.opened.now (λ held. held.rows) in
     let below : c.args.number < length (rows_held c.args.opened.now) = omega (arith, many, there, long) in
-    opened_more (rows_held c.args.opened.now) (rows_held c.put.new.self) c.args.number c.in_ok-rows.rows below
-    (rows_are_set c.args.catalogue.now.fragments c.args.opened.now c.put.new.self c.args.number c.item-fragment.result.now c.in_ok-rows.rows
-    c.in_ok-put.ensures.ok)
+    opened_more (rows_held c.args.opened.now) (rows_held c.put.new.self) c.args.number own.rows below
+    (rows_are_set c.args.catalogue.now.fragments c.args.opened.now c.put.new.self c.args.number c.item-fragment.result.now own.rows
+    own.put)
     c.args.catalogue.now.stores files c.item-store.result.now c.item-store.ensures
-    (subst (λ (bytes : List ℕ). (row : Row) → Contains c.in_ok-rows.rows row ↔ IsRowIn c.item-store.result.now.shape bytes row) (sym same)
-    c.in_ok-rows.ensures.rows.1)
+    (subst (λ (bytes : List ℕ). (row : Row) → Contains own.rows row ↔ IsRowIn c.item-store.result.now.shape bytes row) (sym same)
+    own.exact)
     numbers are
 
 pub returns-clause-others : goal.returns-clause-others
 returns-clause-others c = λ other apart.
+    let own = c.in_ok-put.ensures.ok in
     let many = held_many c.args.catalogue.now.fragments c.args.opened.now c.requires.rows in
     let there = c.requires.there in
     let long = length-map c.args.opened.now (λ held. held.rows) in
     let below : c.args.number < length (rows_held c.args.opened.now) = omega (arith, many, there, long) in
-    elsewhere (rows_held c.args.opened.now) (rows_held c.put.new.self) c.args.number c.in_ok-rows.rows below
-    (rows_are_set c.args.catalogue.now.fragments c.args.opened.now c.put.new.self c.args.number c.item-fragment.result.now c.in_ok-rows.rows
-    c.in_ok-put.ensures.ok) other apart
+    elsewhere (rows_held c.args.opened.now) (rows_held c.put.new.self) c.args.number own.rows below
+    (rows_are_set c.args.catalogue.now.fragments c.args.opened.now c.put.new.self c.args.number c.item-fragment.result.now own.rows
+    own.put) other apart

@@ -5,29 +5,36 @@ use Rattle.esto_run.proofs.held.FragmentRows.put.Goals as goal
 
 pub invariant_of-self : goal.invariant_of-self
 invariant_of-self c =
-    texts_kept c.self.inside.codes c.code_taken_rows.new.codes c.code_taken_rows.ensures.grown c.self.inside.stored c.self.invariant
+    texts_kept c.self.inside.codes c.code_store.new.codes c.code_store.ensures.grown c.self.inside.stored c.self.invariant
 
 pub returns-in_err-coded-clause-err : goal.returns-in_err-coded-clause-err
 returns-in_err-coded-clause-err c = at_error _
-    (held_kept c.self.inside.codes c.code_taken_rows.new.codes c.code_taken_rows.ensures.grown c.self.inside.stored c.self.invariant ∙ c.self.view_is)
+    (held_kept c.self.inside.codes c.code_store.new.codes c.code_store.ensures.grown c.self.inside.stored c.self.invariant ∙ c.self.view_is)
 
 pub invariant_of-self-in_err-stored : goal.invariant_of-self-in_err-stored
 invariant_of-self-in_err-stored c =
-    texts_kept c.self.inside.codes c.code_taken_rows.new.codes c.code_taken_rows.ensures.grown c.self.inside.stored c.self.invariant
+    texts_kept c.self.inside.codes c.code_store.new.codes c.code_store.ensures.grown c.self.inside.stored c.self.invariant
 
 pub returns-in_err-stored-clause-err : goal.returns-in_err-stored-clause-err
 returns-in_err-stored-clause-err c = at_error _
-    (held_kept c.self.inside.codes c.code_taken_rows.new.codes c.code_taken_rows.ensures.grown c.self.inside.stored c.self.invariant ∙ c.self.view_is)
+    (held_kept c.self.inside.codes c.code_store.new.codes c.code_store.ensures.grown c.self.inside.stored c.self.invariant ∙ c.self.view_is)
 
 pub invariant_of-self-2 : goal.invariant_of-self-2
-invariant_of-self-2 c = subst (HaveTexts c.code_taken_rows.new.codes) (sym c.set.ensures)
-    (texts_put c.self.inside.codes c.code_taken_rows.new.codes c.code_taken_rows.ensures.grown c.self.inside.stored c.self.invariant c.args.number
-    c.args.fragment.now c.args.rows c.in_ok-coded.coded c.in_ok-stored.stored (c.in_ok-coded.ensures.arity ∙ c.len-columns.ensures)
-    c.in_ok-coded.ensures.coded c.in_ok-stored.ensures)
+invariant_of-self-2 c =
+    let file = c.in_ok-coded.ensures.rows.1 in
+    subst (HaveTexts c.code_store.new.codes) (sym c.set.ensures)
+    (texts_put c.self.inside.codes c.code_store.new.codes c.code_store.ensures.grown c.self.inside.stored c.self.invariant c.args.number
+    c.args.fragment.now file.rows c.in_ok-coded.coded c.in_ok-stored.stored file.arity file.are c.in_ok-stored.ensures)
 
 pub returns-clause-ok : goal.returns-clause-ok
-returns-clause-ok c = ap (map (held_of c.code_taken_rows.new.codes)) c.set.ensures
-    ∙ held_put c.self.inside.codes c.code_taken_rows.new.codes c.code_taken_rows.ensures.grown c.self.inside.stored c.self.invariant c.args.number
-    c.args.fragment.now c.args.rows c.in_ok-coded.coded c.in_ok-stored.stored (c.in_ok-coded.ensures.arity ∙ c.len-columns.ensures)
-    c.in_ok-coded.ensures.coded c.in_ok-stored.ensures
-    ∙ ap (λ them. set them c.args.number (record { shape = shape_of c.args.fragment.now; rows = c.args.rows })) c.self.view_is
+returns-clause-ok c =
+    let file = c.in_ok-coded.ensures.rows.1 in
+    record {
+      rows = file.rows;
+      wide = file.wide;
+      exact = file.exact;
+      put = ap (map (held_of c.code_store.new.codes)) c.set.ensures
+          ∙ held_put c.self.inside.codes c.code_store.new.codes c.code_store.ensures.grown c.self.inside.stored c.self.invariant c.args.number
+          c.args.fragment.now file.rows c.in_ok-coded.coded c.in_ok-stored.stored file.arity file.are c.in_ok-stored.ensures
+          ∙ ap (λ them. set them c.args.number (record { shape = shape_of c.args.fragment.now; rows = file.rows })) c.self.view_is;
+    }
