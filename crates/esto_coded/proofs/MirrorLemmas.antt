@@ -1,6 +1,6 @@
 -- Equality rules whose body is two halves, each of which is the other under another naming of variables.
-use Rattle.std.proofs.Common.{◌≡◌, ◌≢◌, ◌↔◌, ◌⊎◌, inl, inr, ℕ, zero, suc, ◌+◌, ◌<◌, ◌≤◌, Bool, true, false, cond, List, [], ◌∷◌, ◌++◌, map, length, take, drop, Some, slice_get, Contains}
-use Rattle.std.proofs.Common.{refl, sym, ap, ◌∙◌, subst, arith, IsTrue, AllPairs}
+use Rattle.std.proofs.Common.{◌≡◌, ◌↔◌, ◌⊎◌, inl, inr, ℕ, zero, suc, ◌+◌, ◌<◌, ◌≤◌, Bool, true, false, cond, List, [], ◌∷◌, ◌++◌, map, length, take, drop, Some, slice_get, Contains}
+use Rattle.std.proofs.Common.{refl, sym, ap, ◌∙◌, subst, arith, IsTrue}
 use Rattle.std.specs.List.{filter}
 use Rattle.std.specs.Set.{is_member}
 use Rattle.std.proofs.lemmas.Bool.{cases_order, false≢true, and_parts}
@@ -28,7 +28,7 @@ use Rattle.esto_coded.specs.Coded.{Coded, IsCodeOf, AreCodesOf, AreTelling}
 use Rattle.esto_coded.specs.Met.{StaysFor, AnswersWhether}
 use Rattle.esto_coded.specs.Mirrored.{renamed, GoesOver, IsMirrored, IsContrary, HasNoContrary, AreTold, ShowsApart}
 use Rattle.esto_coded.proofs.MeetLemmas.{HaveTexts, answer_row, joint, joint_body, joint_other, one_terms, whether_before}
-use Rattle.esto_coded.proofs.StandLemmas.{one_term, one_code}
+use Rattle.esto_coded.proofs.StandLemmas.{one_term, one_code, one_codes}
 
 -- ---- what stands for a term
 
@@ -210,17 +210,6 @@ pub told_all : (rows : List (List ℕ)) (at : ℕ) → length rows ≤ at → Ar
 told_all rows at past before = subst AreTold (take_all at rows past) before
 
 -- ---- whether facts meet the rule
-
-one_codes : (texts : List (List ℕ)) → AllPairs ◌≢◌ texts → (terms : List Term) (codes others : List ℕ) → AreCodesOf texts terms codes
-    → AreCodesOf texts terms others → codes ≡ others
-one_codes texts distinct [] [] [] are also = refl
-one_codes texts distinct [] [] (other ∷ others) are also = absurd also
-one_codes texts distinct [] (code ∷ codes) others are also = absurd are
-one_codes texts distinct (term ∷ terms) [] others are also = absurd are
-one_codes texts distinct (term ∷ terms) (code ∷ codes) [] are also = absurd also
-one_codes texts distinct (term ∷ terms) (code ∷ codes) (other ∷ others) are also =
-    let first = one_code texts distinct term code other are.0 also.0 in
-    let rest = one_codes texts distinct terms codes others are.1 also.1 in λ i. first i ∷ rest i
 
 -- rows that are not contrary, of terms that agree after the first, agree on the first
 first_one : (texts : List (List ℕ)) → AreTelling texts → (one other : Term) (terms : List Term) (row more : List ℕ) → AreCodesOf texts (one ∷ terms) row

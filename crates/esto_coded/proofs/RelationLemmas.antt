@@ -1,13 +1,10 @@
 -- Relations of rows of codes, one of which is set anew.
-use Rattle.std.proofs.Common.{◌≡◌, ◌≢◌, inl, inr, ℕ, zero, suc, ◌≤◌, ◌<◌, List, [], ◌∷◌, ◌++◌, map, length, set, get_or, Some, slice_get, Contains, refl, sym, ap, ◌∙◌, subst}
-use Rattle.std.proofs.Common.{arith}
+use Rattle.std.proofs.Common.{◌≡◌, ◌≢◌, inl, inr, ℕ, zero, suc, ◌<◌, List, [], ◌∷◌, ◌++◌, map, length, set, get_or, Some, slice_get, Contains, refl, sym, ap, ◌∙◌, subst}
 use Rattle.std.specs.List.{AllZip}
-use Rattle.std.proofs.lemmas.List.{append-nil}
 use Rattle.std.proofs.lemmas.Option.{same_Some, slice_get_within}
 use Rattle.esto_columns.specs.CodedRows.{CodedRows}
 use Rattle.esto_columns.specs.Interned.{Grows}
 use Rattle.esto_columns.specs.declared.stored.StoredRows.{StoredRows}
-use Rattle.esto_relmodel.specs.RowFacts.{row_fact}
 use Rattle.esto_semantics.specs.declared.fact.Fact.{Fact}
 use Rattle.esto_term.specs.declared.term.Term.{Term}
 use Rattle.esto_term.proofs.ListLemmas.{Contains-nil, Contains-head, Contains-rest, Contains-cases, Contains-map_from, map_at-from}
@@ -64,22 +61,6 @@ place_long texts relations number arity own at is =
     let found = place_of texts relations number arity at in
     let here = item_at relations number own (slice_get_within relations number found.0 found.1) is in
     ap (λ (it : StoredRows). it.rows.arity) (same_Some own found.0 (sym here ∙ found.1)) ∙ found.2
-
--- no rows are over a relation that is not there
-pub past_rows : (texts : List (List ℕ)) (relations : List StoredRows) (number : ℕ) (rows : List (List (List ℕ)))
-    → ((row : List (List ℕ)) → Contains rows row → slice_get (arities_of (coded_of texts relations)) number ≡ Some (length row))
-    → length relations ≤ number → rows ≡ []
-past_rows texts relations number [] all past = refl
-past_rows texts relations number (row ∷ rows) all past =
-    let within = place_within texts relations number (length row) (all row (Contains-head row rows)) in absurd (omega (arith, within, past))
-
-pub past_facts : (texts : List (List ℕ)) (relations : List StoredRows) (number : ℕ) (rows : List (List (List ℕ)))
-    → ((row : List (List ℕ)) → Contains rows row → slice_get (arities_of (coded_of texts relations)) number ≡ Some (length row))
-    → length relations ≤ number → (facts : List (Fact Term)) → StandFor (coded_of texts relations) facts
-    → StandFor (coded_of texts relations) (facts ++ map (row_fact number) rows)
-past_facts texts relations number rows all past facts stand =
-    subst (StandFor (coded_of texts relations))
-    (sym (append-nil facts) ∙ ap (λ them. facts ++ map (row_fact number) them) (sym (past_rows texts relations number rows all past))) stand
 
 -- ---- a relation set anew
 

@@ -1,7 +1,8 @@
 -- Rows that are found by an index of them.
-use Rattle.std.proofs.Common.{◌≡◌, ◌↔◌, inl, inr, ℕ, suc, ◌+◌, ◌<◌, ◌≤◌, Bool, true, false, List, [], ◌∷◌, ◌++◌, map, length, get_or, take, Some, slice_get, Contains, refl, sym, ap, ◌∙◌}
+use Rattle.std.proofs.Common.{◌≡◌, ◌↔◌, inl, inr, ℕ, ◌+◌, ◌<◌, ◌≤◌, Bool, true, false, List, [], ◌∷◌, ◌++◌, map, length, get_or, take, Some, slice_get, Contains, refl, sym, ap, ◌∙◌}
 use Rattle.std.proofs.Common.{subst, arith, IsTrue}
 use Rattle.std.proofs.lemmas.Bool.{cases_order, false≢true}
+use Rattle.std.proofs.lemmas.List.{ext_get_or}
 use Rattle.std.proofs.lemmas.List.Elements.{Contains-get_or}
 use Rattle.std.proofs.lemmas.Option.{same_Some, slice_get_within, slice_get-get_or, get_or_from_slice_get}
 use Rattle.esto_term.proofs.ListLemmas.{place-from_Contains, map_at}
@@ -78,31 +79,13 @@ pub code_there : (rows : List (List ℕ)) (place column : ℕ) (row codes : List
 code_there rows place column row codes code at is held =
     same_Some (get_or row column 0) code (sym (map_at (λ it. get_or it column 0) rows place row at) ∙ ap (λ them. slice_get them place) (sym is) ∙ held)
 
--- lists of one length with the same codes are one
-same_codes : (xs ys : List ℕ) → length xs ≡ length ys → ((at : ℕ) → at < length xs → get_or xs at 0 ≡ get_or ys at 0) → xs ≡ ys
-same_codes [] [] long same = refl
-same_codes [] (y ∷ ys) long same = absurd (omega (arith, long))
-same_codes (x ∷ xs) [] long same = absurd (omega (arith, long))
-same_codes (x ∷ xs) (y ∷ ys) long same =
-    let first : x ≡ y = same 0 (omega arith) in
-    let rest = same_codes xs ys (omega (arith, long)) (λ at below. same (suc at) (omega (arith, below))) in λ i. first i ∷ rest i
-
--- and a row with these codes stands there
+-- a row with these codes stands there
 pub row_there : (rows : List (List ℕ)) (place arity : ℕ) (row : List ℕ) → place < length rows → ((it : List ℕ) → Contains rows it → length it ≡ arity)
     → length row ≡ arity → ((column : ℕ) → column < arity → get_or (get_or rows place []) column 0 ≡ get_or row column 0) → slice_get rows place ≡ Some row
 row_there rows place arity row below long own same =
     let width = long (get_or rows place []) (Contains-get_or rows place [] below) in
     slice_get-get_or rows place [] below
-    ∙ ap Some (same_codes (get_or rows place []) row (width ∙ sym own) (λ column within. same column (omega (arith, within, width))))
-
--- one column more
-pub same_more : (row other : List ℕ) (count : ℕ) → ((column : ℕ) → column < count → get_or row column 0 ≡ get_or other column 0)
-    → get_or row count 0 ≡ get_or other count 0 → (column : ℕ) → column < count + 1 → get_or row column 0 ≡ get_or other column 0
-same_more row other count before here column below = elim (cases_order column count) [
-  | inl same ↦ ap (λ n. get_or row n 0) same ∙ here ∙ ap (λ n. get_or other n 0) (sym same)
-  | inr (inl less) ↦ before column less
-  | inr (inr past) ↦ absurd (omega (arith, past, below))
-]
+    ∙ ap Some (ext_get_or 0 (get_or rows place []) row (width ∙ sym own) (λ column within. same column (omega (arith, within, width))))
 
 -- ---- sets of rows
 

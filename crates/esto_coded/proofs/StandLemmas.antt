@@ -87,6 +87,18 @@ one_code texts distinct term code other is also = elim is [
   ]
 ]
 
+-- so terms have one row of codes
+pub one_codes : (texts : List (List ℕ)) → AllPairs ◌≢◌ texts → (terms : List Term) (codes others : List ℕ) → AreCodesOf texts terms codes
+    → AreCodesOf texts terms others → codes ≡ others
+one_codes texts distinct [] [] [] are also = refl
+one_codes texts distinct [] [] (other ∷ others) are also = absurd also
+one_codes texts distinct [] (code ∷ codes) others are also = absurd are
+one_codes texts distinct (term ∷ terms) [] others are also = absurd are
+one_codes texts distinct (term ∷ terms) (code ∷ codes) [] are also = absurd also
+one_codes texts distinct (term ∷ terms) (code ∷ codes) (other ∷ others) are also =
+    let first = one_code texts distinct term code other are.0 also.0 in
+    let rest = one_codes texts distinct terms codes others are.1 also.1 in λ i. first i ∷ rest i
+
 -- ---- rows of codes put into a relation
 
 -- the row of codes is that of the fact, which is over the relation of the number

@@ -22,8 +22,8 @@ use esto_steps::{Steps, projected};
 use esto_term::{OutOfMemory, Term};
 use std::alloc::Global;
 
-// Whether the atom's relation is there, with as many columns as the atom has terms.
-fn is_over(atom: &Atom, relations: &[StoredRows]) -> bool
+/// Whether the atom's relation is there, with as many columns as the atom has terms.
+pub(crate) fn is_over(atom: &Atom, relations: &[StoredRows]) -> bool
     ensures { TellsOver relations.now atom.now result }
 {
     match relations.get(atom.relation) {
@@ -32,7 +32,7 @@ fn is_over(atom: &Atom, relations: &[StoredRows]) -> bool
     }
 }
 
-// The same of each of the atoms.
+/// The same of each of the atoms.
 fn are_over(body: &[Atom], relations: &[StoredRows]) -> bool
     ensures { TellsAllOver relations.now body.now result }
 {
@@ -44,15 +44,15 @@ fn are_over(body: &[Atom], relations: &[StoredRows]) -> bool
     true
 }
 
-// Whether the steps have one get alone, which filters nothing.
+/// Whether the steps have one get alone, which filters nothing.
 fn is_plain(steps: &Steps) -> bool
     ensures { IsTrue result → (get : Get) × (steps.now.gets ≡ get ∷ []) × (get.filters ≡ []) }
 {
     steps.gets.len() == 1 && steps.gets.item(0).filters.is_empty()
 }
 
-// The results of the steps over the relations. Of one get that filters nothing the rows are only projected, so that the same
-// row may come more than once.
+/// The results of the steps over the relations. Of one get that filters nothing the rows are only projected, so that
+/// the same row may come more than once.
 fn results(alloc: Global, steps: &Steps, relations: &[StoredRows]) -> Result<Rows, OutOfMemory>
     requires { TakeWhole relations.now steps.now.gets }
     ensures arity { IfOk result (λ it. it.arity ≡ length steps.now.head) }
@@ -66,7 +66,7 @@ fn results(alloc: Global, steps: &Steps, relations: &[StoredRows]) -> Result<Row
     projected(alloc, &steps.head, &relations[number].rows)
 }
 
-// The answers of the query over the relations, by its steps. Where an atom is not over the relations there are none.
+/// The answers of the query over the relations, by its steps. Where an atom is not over the relations there are none.
 fn answers_by(
     alloc: Global,
     head: &[Term],
@@ -93,7 +93,7 @@ fn answers_by(
     results(alloc, steps, relations)
 }
 
-// The answers of the query over the relations. Constants of the query get codes.
+/// The answers of the query over the relations. Constants of the query get codes.
 fn answers_over(
     alloc: Global,
     head: &[Term],
@@ -116,8 +116,9 @@ fn answers_over(
 }
 
 impl CodedFacts {
-    /// The answers of the query of that head and body over the facts, as rows of codes, in no stated order, where the same row
-    /// may come more than once. Constants of the query get codes. The executor joins the body's atoms in an order of its own.
+    /// The answers of the query of that head and body over the facts, as rows of codes, in no stated order, where the
+    /// same row may come more than once. Constants of the query get codes. The executor joins the body's atoms in an
+    /// order of its own. OutOfMemory comes too where more than 2^63 texts have codes.
     pub fn answers(
         &mut self,
         alloc: Global,

@@ -4,6 +4,9 @@ ghost use Rattle.esto_columns.specs.Interned.{AreCodedRows, Grows};
 ghost use Rattle.esto_relmodel.specs.RowFacts.{row_fact};
 ghost use Rattle.esto_semantics.specs.Maps.{AreFlat};
 ghost use Rattle.esto_semantics.specs.declared.fact.Fact.{Fact};
+ghost use Rattle.esto_stores.specs.Coded.{CodesRows};
+ghost use Rattle.esto_stores.specs.Keys.{key_fault, key_rows};
+ghost use Rattle.esto_stores.specs.Table.{table_fault, table_rows};
 ghost use Rattle.esto_term.specs.declared.term.Term.{Term};
 ghost use Rattle.esto_coded.specs.Coded.{StandFor, HasPlace, arities_of};
 ghost use Rattle.esto_coded.specs.Relations.{AreWhole, coded_of};
@@ -11,16 +14,18 @@ ghost use Rattle.esto_coded.specs.Relations.{AreWhole, coded_of};
 use crate::facts::put_facts;
 use crate::relations::{no_relations, put_rows};
 use esto_columns::{Codes, Rows, StoredRows, code_taken_rows};
+use esto_ports::FileError;
 use esto_semantics::Facts;
-use esto_term::{OutOfMemory, TextRows};
+use esto_stores::{code_keys, code_table};
+use esto_term::{OutOfMemory, TextRow, TextRows};
 use std::alloc::Global;
 use std::marker::Model;
 
 /// The first code of a node: the codes of texts stand below it.
 pub const FIRST_NODE: u64 = 9_223_372_036_854_775_808;
 
-/// Facts over constants and plain terms, which are nodes, as rows of codes: contracts see the texts in the order of their
-/// codes, and for each relation its rows. For which facts they stand, read as a set, says `StandFor`.
+/// Facts over constants and plain terms, which are nodes, as rows of codes: contracts see the texts in the order of
+/// their codes, and for each relation its rows. For which facts they stand, read as a set, says `StandFor`.
 #[derive(Drop)]
 pub struct CodedFacts {
     pub(crate) codes: Codes,
@@ -38,30 +43,24 @@ impl Model for CodedFacts {
     ghost invariant = { λ it. AreWhole it.relations.items };
 }
 
-/// Puts the rows of texts, as rows of codes, into the relation of the number.
-fn put_texts(
+/// Puts the rows of codes into the relation of the number.
+fn put_codes(
     alloc: Global,
     number: usize,
-    rows: TextRows,
-    codes: &mut Codes,
+    rows: Rows,
     relations: &mut Vec<StoredRows>,
 ) -> Result<(), OutOfMemory>
-    requires { (row : List (List ℕ)) → Contains rows row
-        → slice_get (arities_of (coded_of codes.old relations.old.items)) number ≡ Some (length row) }
+    requires { slice_get (arities_of (coded_of [] relations.old.items)) number ≡ Some rows.arity }
     ensures whole { AreWhole relations.old.items → AreWhole relations.new.items }
-    ensures arities { OnOk result (arities_of (coded_of codes.new relations.new.items)
-        ≡ arities_of (coded_of codes.old relations.old.items)) }
-    ensures facts { OnOk result ((facts : List (Fact Term))
-        → StandFor (coded_of codes.old relations.old.items) facts
-        → StandFor (coded_of codes.new relations.new.items) (facts ++ map (row_fact number) rows)) }
+    ensures arities { OnOk result (arities_of (coded_of [] relations.new.items)
+        ≡ arities_of (coded_of [] relations.old.items)) }
+    ensures facts { OnOk result ((texts : List (List ℕ)) (list : List (List (List ℕ)))
+        → AreCodedRows texts rows.rows list → (facts : List (Fact Term))
+        → StandFor (coded_of texts relations.old.items) facts
+        → StandFor (coded_of texts relations.new.items) (facts ++ map (row_fact number) list)) }
 {
-    if number >= relations.len() {
-        return Ok(());
-    }
-    let arity = relations[number].rows.arity();
-    let coded = code_taken_rows(alloc, rows, arity, codes)?;
     let relation = &mut relations[number];
-    put_rows(alloc, coded, &mut relation.rows)
+    put_rows(alloc, rows, &mut relation.rows)
 }
 
 impl CodedFacts {
@@ -77,27 +76,32 @@ impl CodedFacts {
         })
     }
 
-    /// Puts the facts of the rows of texts, each over its cells as constants.
-    pub fn add_rows(
+    /// Puts the facts of rows of texts, each over its cells as constants, of which these are the rows of codes. After an
+    /// error some of them may be put.
+    pub fn put_coded(
         &mut self,
         alloc: Global,
         relation: usize,
-        rows: TextRows,
+        rows: Rows,
     ) -> Result<(), OutOfMemory>
-        requires { (row : List (List ℕ)) → Contains rows row
-            → slice_get (arities_of self.old) relation ≡ Some (length row) }
+        requires { slice_get (arities_of self.old) relation ≡ Some rows.arity }
         ensures arities { OnOk result (arities_of self.new ≡ arities_of self.old) }
-        ensures facts { OnOk result ((facts : List (Fact Term)) → StandFor self.old facts
-            → StandFor self.new (facts ++ map (row_fact relation) rows)) }
+        ensures texts { self.new.texts ≡ self.old.texts }
+        ensures facts { OnOk result ((list : List (List (List ℕ)))
+            → AreCodedRows self.old.texts rows.rows list
+            → (facts : List (Fact Term)) → StandFor self.old facts
+            → StandFor self.new (facts ++ map (row_fact relation) list)) }
     {
-        put_texts(alloc, relation, rows, &mut self.codes, &mut self.relations)
+        put_codes(alloc, relation, rows, &mut self.relations)
     }
 
-    /// Puts the facts. Want of memory is answered too where a node's number has no code.
+    /// Puts the facts. Want of memory is answered too where a node's number has no code. After an error some of them
+    /// may be put.
     pub fn add_facts(&mut self, alloc: Global, facts: &Facts) -> Result<(), OutOfMemory>
         requires flat { AreFlat facts.now }
         requires places { (fact : Fact Term) → Contains facts.now fact → HasPlace self.old fact }
         ensures arities { OnOk result (arities_of self.new ≡ arities_of self.old) }
+        ensures grown { Grows self.old.texts self.new.texts }
         ensures facts { OnOk result ((all : List (Fact Term)) → StandFor self.old all
             → StandFor self.new (all ++ facts.now)) }
     {
@@ -118,5 +122,39 @@ impl CodedFacts {
         ensures rows { IfOk result (λ it. (it.arity ≡ arity) × AreCodedRows self.new.texts it.rows rows) }
     {
         code_taken_rows(alloc, rows, arity, &mut self.codes)
+    }
+
+    /// The rows of a CSV file that declares these columns, as rows of codes, in order, or its first fault. New texts
+    /// get codes.
+    pub fn code_table(
+        &mut self,
+        alloc: Global,
+        bytes: &[u8],
+        columns: &TextRow,
+    ) -> Result<Rows, FileError>
+        ensures arities { arities_of self.new ≡ arities_of self.old }
+        ensures facts { (facts : List (Fact Term)) → StandFor self.old facts → StandFor self.new facts }
+        ensures grown { Grows self.old.texts self.new.texts }
+        ensures rows { CodesRows (table_rows columns.now bytes.now)
+            (table_fault columns.now bytes.now) (length columns.now) self.new.texts result }
+    {
+        code_table(alloc, bytes, columns, &mut self.codes)
+    }
+
+    /// The rows of a key file with so many columns, as rows of codes, in order, or its first fault. New texts get
+    /// codes.
+    pub fn code_keys(
+        &mut self,
+        alloc: Global,
+        bytes: &[u8],
+        cells: usize,
+    ) -> Result<Rows, FileError>
+        ensures arities { arities_of self.new ≡ arities_of self.old }
+        ensures facts { (facts : List (Fact Term)) → StandFor self.old facts → StandFor self.new facts }
+        ensures grown { Grows self.old.texts self.new.texts }
+        ensures rows { CodesRows (key_rows bytes.now) (key_fault cells bytes.now) cells
+            self.new.texts result }
+    {
+        code_keys(alloc, bytes, cells, &mut self.codes)
     }
 }

@@ -78,6 +78,7 @@ fn put_fact(
     ensures whole { AreWhole relations.old.items → AreWhole relations.new.items }
     ensures arities { OnOk result (arities_of (coded_of codes.new relations.new.items)
         ≡ arities_of (coded_of codes.old relations.old.items)) }
+    ensures grown { Grows codes.old codes.new }
     ensures facts { OnOk result ((all : List (Fact Term))
         → StandFor (coded_of codes.old relations.old.items) all
         → StandFor (coded_of codes.new relations.new.items) (all ++ fact.now ∷ [])) }
@@ -100,6 +101,7 @@ pub(crate) fn put_facts(
     ensures whole { AreWhole relations.old.items → AreWhole relations.new.items }
     ensures arities { OnOk result (arities_of (coded_of codes.new relations.new.items)
         ≡ arities_of (coded_of codes.old relations.old.items)) }
+    ensures grown { Grows codes.old codes.new }
     ensures facts { OnOk result ((all : List (Fact Term))
         → StandFor (coded_of codes.old relations.old.items) all
         → StandFor (coded_of codes.new relations.new.items) (all ++ facts.now)) }

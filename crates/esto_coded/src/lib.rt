@@ -5,6 +5,7 @@
 mod answers;
 mod coded;
 mod facts;
+mod indexes;
 mod meets;
 mod mirrored;
 mod relations;

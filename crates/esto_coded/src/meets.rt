@@ -1,13 +1,14 @@
 //! Whether facts meet a rule.
-ghost use Rattle.std.specs.Prelude.{◌≡◌, ◌↔◌, [], ◌∷◌, ◌++◌, List, ℕ, Contains, slice_index_or, IsTrue, IfOk, OnOk};
+ghost use Rattle.std.specs.Prelude.{◌≡◌, ◌↔◌, [], ◌∷◌, ◌++◌, List, ℕ, length, Contains, slice_index_or, IsTrue, IfOk, OnOk};
 ghost use Rattle.esto_columns.specs.Interned.{Grows};
 ghost use Rattle.esto_constraint.specs.Constraints.{rule_of};
 ghost use Rattle.esto_semantics.specs.Maps.{IsFixedBy};
 ghost use Rattle.esto_semantics.specs.Rules.{IsEqualityRule, IsMet, IsTupleRule, tuple, equality, denial};
 ghost use Rattle.esto_semantics.specs.declared.fact.Fact.{Fact};
 ghost use Rattle.esto_term.specs.declared.term.Term.{Term};
+ghost use Rattle.esto_term.specs.declared.term.Term.TheVariants.{Const};
 ghost use Rattle.esto_chase_laws.specs.Making.{frontier};
-ghost use Rattle.esto_coded.specs.Answered.{IsCodedAnswer};
+ghost use Rattle.esto_coded.specs.Answered.{AreCodedAnswers, IsCodedAnswer};
 ghost use Rattle.esto_coded.specs.Coded.{AreTelling, StandFor, arities_of};
 ghost use Rattle.esto_coded.specs.Met.{StaysFor, AnswersWhether};
 ghost use Rattle.esto_coded.specs.Mirrored.{IsMirrored};
@@ -61,12 +62,33 @@ fn agree(rows: &Rows) -> bool
 }
 
 impl CodedFacts {
+    /// The answers of the query, where indexes are made before for the joins of its body: other rules join relations by
+    /// the same columns.
+    fn answers_by_indexes(
+        &mut self,
+        alloc: Global,
+        head: &[Term],
+        body: &[Atom],
+    ) -> Result<Rows, OutOfMemory>
+        requires { (term : Term) → Contains head.now term → IsFixedBy body.now term }
+        ensures stays { StaysFor self.old self.new }
+        ensures texts { IfOk result (λ _. AreTelling self.new.texts) }
+        ensures constants { IfOk result (λ _. (text : List ℕ) → Contains head.now (Const text)
+            → Contains self.new.texts text) }
+        ensures arity { IfOk result (λ it. it.arity ≡ length head.now) }
+        ensures rows { IfOk result (λ it. AreCodedAnswers self.new
+            (record { head = head.now; body = body.now }) it.rows) }
+    {
+        self.index_joins(alloc, body)?;
+        self.answers(alloc, head, body)
+    }
+
     /// Whether the facts meet the denial of the body.
     fn meets_denial(&mut self, alloc: Global, body: &[Atom]) -> Result<bool, OutOfMemory>
         ensures stays { StaysFor self.old self.new }
         ensures met { IfOk result (AnswersWhether self.old (denial body.now)) }
     {
-        let rows = self.answers(alloc, &[], body)?;
+        let rows = self.answers_by_indexes(alloc, &[], body)?;
         Ok(rows.len() == 0)
     }
 
@@ -84,12 +106,12 @@ impl CodedFacts {
         ensures met { IfOk result (AnswersWhether self.old (equality body.now left.now right.now)) }
     {
         let sides = both_of(alloc, left, right)?;
-        let rows = self.answers(alloc, sides.items(), body)?;
+        let rows = self.answers_by_indexes(alloc, sides.items(), body)?;
         Ok(agree(&rows))
     }
 
-    /// Whether the facts meet each equality rule whose body begins with this half and is mirrored: those of its matches that
-    /// agree on the shared terms agree on the side.
+    /// Whether the facts meet each equality rule whose body begins with this half and is mirrored: those of its matches
+    /// that agree on the shared terms agree on the side.
     fn meets_mirrored(
         &mut self,
         alloc: Global,
@@ -104,11 +126,12 @@ impl CodedFacts {
             → AnswersWhether self.old (equality (first.now ++ second) left.now right) it) }
     {
         let head = with_first(alloc, left, shared)?;
-        let rows = self.answers(alloc, head.items(), first)?;
+        let rows = self.answers_by_indexes(alloc, head.items(), first)?;
         are_told(alloc, &rows)
     }
 
-    /// Whether the facts meet the equality rule of the body and the two sides. A mirrored body is asked for one half alone.
+    /// Whether the facts meet the equality rule of the body and the two sides. A mirrored body is asked for one half
+    /// alone.
     fn meets_halves(
         &mut self,
         alloc: Global,
@@ -163,12 +186,12 @@ impl CodedFacts {
             → IsTrue it ↔ ((row : List ℕ) → Contains rows.now.rows row
             → IsCodedAnswer self.new (record { head = head.now; body = body.now }) facts row)) }
     {
-        let answers = self.answers(alloc, head, body)?;
+        let answers = self.answers_by_indexes(alloc, head, body)?;
         is_part(alloc, rows, &answers)
     }
 
-    /// The same of the query over the atoms of the body and of the head together. Atoms of the head that share variables
-    /// with the body alone are linked by it.
+    /// The same of the query over the atoms of the body and of the head together. Atoms of the head that share
+    /// variables with the body alone are linked by it.
     fn go_on(
         &mut self,
         alloc: Global,
@@ -202,7 +225,7 @@ impl CodedFacts {
         ensures stays { StaysFor self.old self.new }
         ensures met { IfOk result (AnswersWhether self.old (tuple body.now head.now)) }
     {
-        let given = self.answers(alloc, shared, body)?;
+        let given = self.answers_by_indexes(alloc, shared, body)?;
         if given.len() == 0 {
             return Ok(true);
         }
@@ -224,7 +247,8 @@ impl CodedFacts {
         self.meets_over(alloc, shared.items(), body, head)
     }
 
-    /// Whether the facts meet the rule.
+    /// Whether the facts meet the rule. Indexes are made of the relations that are joined for it, as by `index_joins`.
+    /// OutOfMemory comes too where more than 2^63 texts have codes.
     pub fn meets(&mut self, alloc: Global, rule: &Constraint) -> Result<bool, OutOfMemory>
         ensures arities { arities_of self.new ≡ arities_of self.old }
         ensures facts { (facts : List (Fact Term)) → StandFor self.old facts → StandFor self.new facts }

@@ -13,7 +13,7 @@ use esto_semantics::Atom;
 use esto_term::{OutOfMemory, Replicate, Term, Terms, Values, has_term};
 use std::alloc::Global;
 
-// Whether the other term stands for the term, by the two lists.
+/// Whether the other term stands for the term, by the two lists.
 fn goes(from: &Terms, to: &Terms, term: &Term, other: &Term) -> bool
     ensures { IsTrue result → renamed from.now to.now term.now ≡ other.now }
 {
@@ -28,7 +28,7 @@ fn goes(from: &Terms, to: &Terms, term: &Term, other: &Term) -> bool
     term.equal(other)
 }
 
-// Whether the other terms stand for the terms, one each.
+/// Whether the other terms stand for the terms, one each.
 fn all_go(from: &Terms, to: &Terms, terms: &[Term], others: &[Term]) -> bool
     ensures { IsTrue result → map (renamed from.now to.now) terms.now ≡ others.now }
 {
@@ -43,7 +43,7 @@ fn all_go(from: &Terms, to: &Terms, terms: &[Term], others: &[Term]) -> bool
     true
 }
 
-// Whether the other atom stands for the atom.
+/// Whether the other atom stands for the atom.
 fn atom_goes(from: &Terms, to: &Terms, atom: &Atom, other: &Atom) -> bool
     ensures { IsTrue result → image (renamed from.now to.now) atom.now ≡ other.now }
 {
@@ -53,7 +53,7 @@ fn atom_goes(from: &Terms, to: &Terms, atom: &Atom, other: &Atom) -> bool
     all_go(from, to, atom.terms.items(), other.terms.items())
 }
 
-// Whether the other atoms stand for the atoms, one each.
+/// Whether the other atoms stand for the atoms, one each.
 fn atoms_go(from: &Terms, to: &Terms, atoms: &[Atom], others: &[Atom]) -> bool
     ensures { IsTrue result → map (image (renamed from.now to.now)) atoms.now ≡ others.now }
 {
@@ -68,7 +68,7 @@ fn atoms_go(from: &Terms, to: &Terms, atoms: &[Atom], others: &[Atom]) -> bool
     true
 }
 
-// Whether the other side stands for the side, and each of the shared terms for itself.
+/// Whether the other side stands for the side, and each of the shared terms for itself.
 fn sides_go(from: &Terms, to: &Terms, side: &Term, other: &Term, shared: &[Term]) -> bool
     ensures { IsTrue result → (renamed from.now to.now side.now ≡ other.now)
         × (map (renamed from.now to.now) shared.now ≡ shared.now) }
@@ -79,7 +79,7 @@ fn sides_go(from: &Terms, to: &Terms, side: &Term, other: &Term, shared: &[Term]
     all_go(from, to, shared, shared)
 }
 
-// Whether the halves and the sides go over to one another, by the variables of the one half and those of the other.
+/// Whether the halves and the sides go over to one another, by the variables of the one half and those of the other.
 fn go_over(
     first: &[Atom],
     second: &[Atom],
@@ -107,7 +107,7 @@ fn go_over(
     sides_go(to, from, right, left, shared)
 }
 
-// Whether the halves and the sides are mirrored over what both halves share.
+/// Whether the halves and the sides are mirrored over what both halves share.
 pub(crate) fn are_mirrored(
     alloc: Global,
     first: &[Atom],
@@ -127,7 +127,7 @@ pub(crate) fn are_mirrored(
     Ok(all)
 }
 
-// The term, and then the others.
+/// The term, and then the others.
 pub(crate) fn with_first(alloc: Global, term: &Term, others: &Terms) -> Result<Terms, OutOfMemory>
     ensures { IfOk result (λ it. it ≡ term.now ∷ others.now) }
 {
@@ -136,7 +136,7 @@ pub(crate) fn with_first(alloc: Global, term: &Term, others: &Terms) -> Result<T
     Ok(all)
 }
 
-// The codes of the row after the first.
+/// The codes of the row after the first.
 fn key_of(row: &[u64]) -> &[u64]
     ensures { result.now ≡ drop 1 row.now }
 {
@@ -146,7 +146,7 @@ fn key_of(row: &[u64]) -> &[u64]
     }
 }
 
-// Whether the rows have the same codes but for the first.
+/// Whether the rows have the same codes but for the first.
 fn is_contrary(row: &[u64], other: &[u64]) -> bool
     ensures { IsTrue result ↔ IsContrary row.now other.now }
 {
@@ -159,15 +159,15 @@ fn is_contrary(row: &[u64], other: &[u64]) -> bool
     *code != *more && key == rest
 }
 
-// Whether the two rows are the same.
+/// Whether the two rows are the same.
 fn is_same(row: &[u64], other: &[u64]) -> bool
     ensures { IsTrue result ↔ (row.now ≡ other.now) }
 {
     row == other
 }
 
-// Whether one of the rows before the place has the same codes as the row but for the first, by the index of these: only
-// those of its bucket are looked at, and none after the row itself. They are read into the list.
+/// Whether one of the rows before the place has the same codes as the row but for the first, by the index of these:
+/// only those of its bucket are looked at, and none after the row itself. They are read into the list.
 fn has_contrary(
     rows: &Rows,
     at: usize,
@@ -198,8 +198,8 @@ fn has_contrary(
     Ok(false)
 }
 
-// Whether the row at the place shows that the rows are not told, and puts it into the index of the rows before it. Rows
-// are read into the two lists.
+/// Whether the row at the place shows that the rows are not told, and puts it into the index of the rows before it.
+/// Rows are read into the two lists.
 fn is_apart(
     rows: &Rows,
     at: usize,
@@ -219,7 +219,7 @@ fn is_apart(
     Ok(apart)
 }
 
-// Whether in each of the rows the codes after the first tell the first. The index is empty before.
+/// Whether in each of the rows the codes after the first tell the first. The index is empty before.
 fn are_told_by(alloc: Global, rows: &Rows, index: &mut Index) -> Result<bool, OutOfMemory>
     requires { IsIndexOf index.old [] }
     ensures { IfOk result (λ it. IsTrue it ↔ AreTold rows.now.rows) }

@@ -15,7 +15,7 @@ use esto_steps::{Get, Gets, Link, Links, Source, Sources, Steps};
 use esto_term::{List, OutOfMemory, Replicate, Term, Terms};
 use std::alloc::Global;
 
-// The first place of the term among the terms.
+/// The first place of the term among the terms.
 fn place_of(terms: &[Term], term: &Term) -> Option<usize>
     ensures { MatchOption result (¬ (Contains terms.now term.now))
         (λ place. slice_get terms.now place ≡ Some term.now) }
@@ -28,7 +28,7 @@ fn place_of(terms: &[Term], term: &Term) -> Option<usize>
     None
 }
 
-// A source of the term among the bound ones, or None where it is new. A constant gets a code.
+/// A source of the term among the bound ones, or None where it is new. A constant gets a code.
 fn source_of(term: &Term, bound: &[Term], codes: &mut Codes) -> Result<Option<Source>, OutOfMemory>
     ensures source { IfOk result (λ it. MatchOption it
         (IsNew bound.now term.now)
@@ -47,7 +47,7 @@ fn source_of(term: &Term, bound: &[Term], codes: &mut Codes) -> Result<Option<So
     }
 }
 
-// Puts the link of the column at the end, if its term is a constant or one of the bound ones.
+/// Puts the link of the column at the end, if its term is a constant or one of the bound ones.
 fn push_link(
     term: &Term,
     column: usize,
@@ -65,7 +65,7 @@ fn push_link(
     links.push(Link { column, source })
 }
 
-// The same, and puts the term after the bound ones.
+/// The same, and puts the term after the bound ones.
 fn push_column(
     alloc: Global,
     term: &Term,
@@ -83,7 +83,7 @@ fn push_column(
     bound.push(term.copy(alloc)?)
 }
 
-// The filters of an atom's terms after the bound ones, which the terms are put after.
+/// The filters of an atom's terms after the bound ones, which the terms are put after.
 fn filters_of(
     alloc: Global,
     terms: &[Term],
@@ -101,7 +101,7 @@ fn filters_of(
     Ok(links)
 }
 
-// Puts the get of the atom at the end, and its terms after the bound ones.
+/// Puts the get of the atom at the end, and its terms after the bound ones.
 fn push_get(
     alloc: Global,
     atom: &Atom,
@@ -122,7 +122,7 @@ fn push_get(
     })
 }
 
-// The gets of the atoms, in order. Their terms are put after the bound ones, of which there are none.
+/// The gets of the atoms, in order. Their terms are put after the bound ones, of which there are none.
 fn gets_of(
     alloc: Global,
     body: &[Atom],
@@ -141,7 +141,7 @@ fn gets_of(
     Ok(gets)
 }
 
-// The sources of the head's terms, which are known.
+/// The sources of the head's terms, which are known.
 fn head_of(
     alloc: Global,
     head: &[Term],
@@ -162,8 +162,8 @@ fn head_of(
     Ok(sources)
 }
 
-/// The steps of the query of that head and body: for each atom a get of all rows of its relation, which are filtered where
-/// a term is a constant or stands earlier, and the sources of the head. Constants get codes.
+/// The steps of the query of that head and body: for each atom a get of all rows of its relation, which are filtered
+/// where a term is a constant or stands earlier, and the sources of the head. Constants get codes.
 pub(crate) fn steps_of(
     alloc: Global,
     head: &[Term],

@@ -1,6 +1,6 @@
 -- The rows of the files of all fragments, opened one after the other.
 use Rattle.std.proofs.Common.{◌≡◌, ◌≢◌, ◌↔◌, ◌<◌, ◌≤◌, ◌+◌, ◌==◌, ℕ, zero, suc, false, List, [], ◌∷◌, ◌++◌, length, length-append, get_or, slice_get, Contains}
-use Rattle.std.proofs.Common.{Option, Some, Result, Ok, Err, refl, sym, ap, subst, ◌∙◌, arith, inl, inr}
+use Rattle.std.proofs.Common.{None, Option, Some, Result, Ok, Err, refl, sym, ap, subst, ◌∙◌, arith, inl, inr}
 use Rattle.std.specs.Prelude.{OnOk}
 use Rattle.std.specs.Result.{IsErrAnd}
 use Rattle.std.proofs.lemmas.Bool.Decides.{nat_tests}
@@ -13,13 +13,13 @@ use Rattle.esto_course.specs.Course.{Names, Stops, judges, gives}
 use Rattle.esto_course.specs.Course.Stops.{refused}
 use Rattle.esto_course.proofs.Asking.{quiet_judges}
 use Rattle.esto_course.proofs.Steps.{first_stops, then_goes, gives_goes}
-use Rattle.esto_fill.specs.Coding.{AreCodedLists}
+use Rattle.esto_fill.specs.Coding.{AreCodedLists, CodesFile}
 use Rattle.esto_steps.specs.Rows.{IsRowOf, held_by}
 use Rattle.esto_ports.specs.Files.{Files}
 use Rattle.esto_ports.specs.declared.file_fault.FileError.{FileError}
 use Rattle.esto_ports.specs.declared.file_fault.FileError.TheVariants.{Fault}
 use Rattle.esto_ports.specs.declared.file_fault.FileFault.{FileFault}
-use Rattle.esto_run.specs.Stores.{GivesRows, IsFileRow, IsRowIn}
+use Rattle.esto_run.specs.Stores.{IsFileRow, IsRowIn}
 use Rattle.esto_semantics.specs.declared.fact.Fact.{Fact}
 use Rattle.esto_stores.specs.Rows.{Row}
 use Rattle.esto_term.proofs.ListLemmas.{Contains-nil, at_pushed, thing_at}
@@ -35,43 +35,28 @@ use Rattle.esto_opening.proofs.AskedSteps.{exit_asks}
 use Rattle.esto_opening.proofs.FileSteps.{opened_asks, opened_goes, unfetched_asks, unfetched_stops, unread_asks, unread_stops}
 use Rattle.esto_fragments.proofs.FragmentLemmas.{content_there}
 use Rattle.esto_opening.proofs.LoopSteps.{IsAlong, along_end_asks, along_ends, along_goes, along_starts, along_stop_asks, along_stops, kept_asks}
-use Rattle.esto_data.specs.Audit.{AddsRows, OpensNextRows, OpensRows, ReadsRows, all_fragments}
+use Rattle.esto_data.specs.Audit.{AddsRows, OpensNextRows, OpensRows, all_fragments}
 
 -- ---- the content of one file
 
--- the content has no fault, or this is the first
-pub rows_read : (stored : Stored) (bytes : List ℕ) (rows : List Row)
-    → GivesRows (IsRowIn stored.store.shape bytes) (content_fault stored bytes) (Ok rows) → ReadsRows stored bytes (Ok rows)
+-- it has no fault, and its rows came to the lists
+pub rows_added : (stored : Stored) (bytes same : List ℕ) → same ≡ bytes → (texts more : List (List ℕ)) (old new : List CodedRows)
+    → CodesFile (IsRowIn stored.store.shape same) (content_fault stored same) texts more old new (Ok tt)
+    → Answers (reads_content stored bytes) ⊥ (Ok tt) × AddsRows stored.store.shape bytes texts more old new
 unfolding judges
-rows_read stored bytes rows gives = gives
+rows_added stored bytes same is texts more old new added =
+    subst (λ (it : List ℕ). (content_fault stored it ≡ None) × AddsRows stored.store.shape it texts more old new) is added
 
-pub rows_refused : (stored : Stored) (bytes name : List ℕ) (fault : FileFault) → content_fault stored bytes ≡ Some fault → name ≡ stored.definition.name
-    → ReadsRows stored bytes (Err (BadFragment name fault))
+-- or this is the first fault
+pub rows_refused : (stored : Stored) (bytes same : List ℕ) → same ≡ bytes → (texts more : List (List ℕ)) (old new : List CodedRows) (error : FileError)
+    (fault : FileFault) → error ≡ Fault fault → CodesFile (IsRowIn stored.store.shape same) (content_fault stored same) texts more old new (Err error)
+    → (name : List ℕ) → name ≡ stored.definition.name → Answers (reads_content stored bytes) ⊥ (Err (BadFragment name fault))
 unfolding judges
-rows_refused stored bytes name fault found is = refused (record { cause = tt }) (fault, found, ap (λ it. BadFragment it fault) is)
-
--- the error that was given is the first fault
-pub fault_given : (Has : Row → Type 0) (found : Option FileFault) (error : FileError) (fault : FileFault) → error ≡ Fault fault
-    → GivesRows Has found (Err error) → found ≡ Some fault
-fault_given Has found error fault is gives = subst (λ (it : FileError). GivesRows Has found (Err it)) is gives
-
--- the bytes that were read are those of the file
-given_at : (stored : Stored) (bytes same : List ℕ) → same ≡ bytes → (result : Result (List Row) FileError)
-    → GivesRows (IsRowIn stored.store.shape same) (content_fault stored same) result
-    → GivesRows (IsRowIn stored.store.shape bytes) (content_fault stored bytes) result
-given_at stored bytes same is result gives =
-    subst (λ (it : List ℕ). GivesRows (IsRowIn stored.store.shape it) (content_fault stored it) result) is gives
-
-pub rows_read_at : (stored : Stored) (bytes same : List ℕ) → same ≡ bytes → (rows : List Row)
-    → GivesRows (IsRowIn stored.store.shape same) (content_fault stored same) (Ok rows) → ReadsRows stored bytes (Ok rows)
-rows_read_at stored bytes same is rows gives = rows_read stored bytes rows (given_at stored bytes same is (Ok rows) gives)
-
-pub rows_refused_at : (stored : Stored) (bytes same : List ℕ) → same ≡ bytes → (error : FileError) (fault : FileFault) → error ≡ Fault fault
-    → GivesRows (IsRowIn stored.store.shape same) (content_fault stored same) (Err error) → (name : List ℕ) → name ≡ stored.definition.name
-    → ReadsRows stored bytes (Err (BadFragment name fault))
-rows_refused_at stored bytes same is error fault error_is gives name name_is =
-    rows_refused stored bytes name fault
-    (fault_given (IsRowIn stored.store.shape bytes) (content_fault stored bytes) error fault error_is (given_at stored bytes same is (Err error) gives)) name_is
+rows_refused stored bytes same is texts more old new error fault error_is added name name_is =
+    let found : content_fault stored same ≡ Some fault =
+    subst (λ (it : FileError). CodesFile (IsRowIn stored.store.shape same) (content_fault stored same) texts more old new (Err it)) error_is added in
+    refused (record { cause = tt })
+    (fault, subst (λ (it : List ℕ). content_fault stored it ≡ Some fault) is found, ap (λ it. BadFragment it fault) name_is)
 
 -- ---- one file
 

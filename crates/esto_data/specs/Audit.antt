@@ -5,13 +5,13 @@ use Rattle.std.specs.List.{range_with_len}
 use Rattle.esto_catalog.specs.declared.catalogue.Catalogue.{Catalogue}
 use Rattle.esto_catalog.specs.declared.catalogue.Shape.{Shape}
 use Rattle.esto_catalog.specs.declared.catalogue.Store.{Store}
-use Rattle.esto_fragments.specs.Fragments.{Stored, opens_fragment, opens_fragments, reads_content}
+use Rattle.esto_fragments.specs.Fragments.{opens_fragment, opens_fragments}
 use Rattle.esto_constraint.specs.Constraints.{rules_of}
 use Rattle.esto_constraint.specs.EncodingRules.{written}
 use Rattle.esto_columns.specs.CodedRows.{CodedRows}
 use Rattle.esto_columns.specs.Interned.{AreCodedRows}
 use Rattle.esto_course.specs.Course.{Course, Names, Stops, judges, gives, and_then}
-use Rattle.esto_fill.specs.Coding.{AreCodedLists}
+use Rattle.esto_fill.specs.Coding.{AddsList, AreCodedLists}
 use Rattle.esto_fill.specs.Databases.{database_of}
 use Rattle.esto_fill.specs.Differences.{Audits}
 use Rattle.esto_fill.specs.Files.{AreReadable}
@@ -141,16 +141,9 @@ OpensRows files catalogue texts rose before after (Err refusal) =
     Stops IsWant (IsCaused rose) (opens_fragments files catalogue (all_fragments catalogue)) refusal
     × AsksIn before after (opens_fragments files catalogue (all_fragments catalogue)) (Err refusal)
 
--- The content of the fragment's file has no fault, and these are its rows; or the course stops.
-abbrev pub ReadsRows : Stored → List ℕ → Result (List Row) Status → Type 0
-ReadsRows stored bytes (Ok rows) = (reads_content stored bytes).goes tt × ((row : Row) → Contains rows row ↔ IsRowIn stored.store.shape bytes row)
-ReadsRows stored bytes (Err refusal) = Stops IsWant (IsCaused ⊥) (reads_content stored bytes) refusal
-
 -- To the lists of rows of codes came that of the rows that the bytes say in this shape.
 abbrev pub AddsRows : Shape → List ℕ → List (List ℕ) → List (List ℕ) → List CodedRows → List CodedRows → Type 0
-AddsRows shape bytes texts more old new =
-    (own : List Row) × ((row : Row) → Contains own row ↔ IsRowIn shape bytes row)
-    × ((rows : List (List Row)) → AreCodedLists texts old rows → AreCodedLists more new (rows ++ own ∷ []))
+AddsRows shape bytes texts more old new = AddsList (IsRowIn shape bytes) texts more old new
 
 -- The file of the fragment of the number was opened, and its rows came to those that were there; or the course stops. To the names that were asked for came
 -- those for which it asked.

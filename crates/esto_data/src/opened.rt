@@ -1,47 +1,23 @@
 //! The rows of the files of all fragments, as rows of codes.
-ghost use Rattle.std.specs.Prelude.{◌≡◌, ◌<◌, ◌≤◌, length, IfOk, OnOk};
+ghost use Rattle.std.specs.Prelude.{◌≡◌, ◌<◌, ◌≤◌, length, OnOk};
 ghost use Rattle.esto_catalog.specs.Soundness.{IsShapeFor};
 ghost use Rattle.esto_fill.specs.CodedParts.{Stays};
 ghost use Rattle.esto_fill.specs.Coding.{IsCoded};
 ghost use Rattle.esto_fragments.specs.Fragments.{reads_content};
 ghost use Rattle.esto_ports.specs.Faults.{Rises};
-ghost use Rattle.esto_run.specs.Opened.{HaveWidth};
 ghost use Rattle.esto_opening.specs.Answers.{Answers};
-ghost use Rattle.esto_data.specs.Audit.{AddsRows, OpensNextRows, OpensRows, ReadsRows};
+ghost use Rattle.esto_data.specs.Audit.{AddsRows, OpensNextRows, OpensRows};
 
 use esto_catalog::{Catalogue, Store, catalogues_are_sound};
-use esto_fill::{CodedData, CodedRowsList, add_coded_rows};
+use esto_fill::{CodedData, CodedRowsList, code_store};
 use esto_opening::{DATA_LIMIT, Status, fetch};
 use esto_ports::{FileError, Shelf};
-use esto_run::open_store;
-use esto_term::{Bytes, List, Replicate, TextRows};
+use esto_term::{Bytes, List, Replicate};
 use esto_views::FragmentDef;
 use std::alloc::Global;
 
-// The rows of the content of the fragment's file, or the status of the content's first fault.
-fn read_rows(
-    alloc: Global,
-    store: &Store,
-    fragment: &FragmentDef,
-    bytes: &Bytes,
-) -> Result<TextRows, Status>
-    requires { IsShapeFor store.now.shape fragment.now.view }
-    ensures rows { ReadsRows (record { definition = fragment.now; store = store.now }) bytes.now
-        result }
-    ensures wide { IfOk result (HaveWidth (length fragment.now.view.head)) }
-{
-    match open_store(alloc, store, fragment, bytes.bytes()) {
-        Ok(rows) => Ok(rows),
-        Err(FileError::Fault(fault)) => {
-            let name = fragment.name.copy(alloc)?;
-            Err(Status::BadFragment(name, fault))
-        }
-        Err(FileError::OutOfMemory) => Err(Status::OutOfMemory),
-    }
-}
-
-// Puts the rows of the content of the fragment's file, as rows of codes, at the end; or answers the status of the content's
-// first fault.
+// Puts the rows of the content of the fragment's file, as rows of codes, at the end; or answers the status of the
+// content's first fault.
 fn code_content(
     alloc: Global,
     store: &Store,
@@ -58,9 +34,14 @@ fn code_content(
         coded.old.facts.texts coded.new.facts.texts rows.old rows.new) }
     ensures stays { OnOk result (Stays coded.old coded.new) }
 {
-    let texts = read_rows(alloc, store, fragment, bytes)?;
-    add_coded_rows(alloc, coded, texts, fragment.view.head.len(), rows)?;
-    Ok(())
+    match code_store(alloc, store, fragment, bytes.bytes(), coded, rows) {
+        Ok(()) => Ok(()),
+        Err(FileError::Fault(fault)) => {
+            let name = fragment.name.copy(alloc)?;
+            Err(Status::BadFragment(name, fault))
+        }
+        Err(FileError::OutOfMemory) => Err(Status::OutOfMemory),
+    }
 }
 
 // Fetches the file of the fragment of the number, and puts its rows, as rows of codes, at the end.
@@ -88,8 +69,8 @@ fn open_rows<S: Shelf>(
     code_content(alloc, store, fragment, &bytes, coded, rows)
 }
 
-/// The rows of the files of all fragments, as rows of codes: each is fetched, and its content read and coded, before the
-/// next is fetched.
+/// The rows of the files of all fragments, as rows of codes: each is fetched, and its content read and coded, before
+/// the next is fetched.
 pub fn open_all_rows<S: Shelf>(
     alloc: Global,
     shelf: &mut S,

@@ -3,12 +3,13 @@ use Rattle.std.proofs.Common.{◌≡◌, ◌⊎◌, ◌↔◌, ◌+◌, inl, inr
 use Rattle.std.proofs.Common.{Contains, refl, sym, ap, ◌∙◌, subst, append_assoc, append-nil, arith}
 use Rattle.std.specs.Prelude.{OnOk, Result, Ok, Err, if◌then◌else◌, ◌==◌, ◌||◌, codes}
 use Rattle.std.specs.List.{list_any, onto_first}
-use Rattle.std.proofs.lemmas.Bool.{cases_Bool, eqb-true, false≢true}
+use Rattle.std.proofs.lemmas.Bool.{cases_Bool, false≢true}
 use Rattle.std.proofs.lemmas.List.Elements.{Contains-append_cases, Contains-append_left, Contains-append_right}
 use Rattle.std.proofs.lemmas.Option.{none-some}
 use Rattle.esto_catalog.specs.Datasets.{StandFrom, model_relations, part, relations_of}
 use Rattle.esto_catalog.specs.declared.dataset.Dataset.{Dataset}
 use Rattle.esto_coded.specs.Coded.{Coded, HasPlace, StandFor, arities_of}
+use Rattle.esto_columns.specs.Interned.{AreCodedRows}
 use Rattle.esto_docmodel.specs.DocumentFacts.{DocFact, root, field, item, value, below, flat}
 use Rattle.esto_docmodel.specs.Encodings.{facts_from, is_kept, kept_of, size}
 use Rattle.esto_docmodel.specs.Shapes.{documents}
@@ -20,26 +21,23 @@ use Rattle.esto_docmodel.proofs.EncodeLemmas.{rising_append, size_append}
 use Rattle.esto_docs.specs.Encoding.{AreEncoded}
 use Rattle.esto_docs.specs.Files.{file_trees, is_bad, lines_fault, trees_fault, trees_of_line, trees_of_lines}
 use Rattle.esto_docs.proofs.LineLemmas.{line_bad, line_good}
-use Rattle.esto_lines.specs.Faults.{fault_at}
 use Rattle.esto_lines.specs.Lines.{IsOneLine, line_feed, lines_of}
 use Rattle.esto_ports.specs.declared.file_fault.FileError.{FileError}
 use Rattle.esto_ports.specs.declared.file_fault.FileError.TheVariants as content
 use Rattle.esto_ports.specs.declared.file_fault.FileFault.{FileFault}
-use Rattle.esto_ports.specs.declared.file_fault.FileKind.{FileKind}
-use Rattle.esto_ports.specs.declared.file_fault.FileKind.TheVariants.{Cells, NotUtf8}
 use Rattle.esto_query.specs.declared.schema.Relation.{Relation}
 use Rattle.esto_read.specs.declared.words.DataModel.{DataModel}
 use Rattle.esto_read.specs.declared.words.DataModel.TheVariants.{Table, Documents, Keys}
 use Rattle.esto_relmodel.specs.Once.{AreEachOnce}
-use Rattle.esto_relmodel.specs.RowFacts.{row_fact}
+use Rattle.esto_relmodel.specs.RowFacts.{AreRowFacts, row_fact}
 use Rattle.esto_semantics.specs.Maps.{AreFlat}
 use Rattle.esto_semantics.specs.declared.fact.Fact.{Fact}
 use Rattle.esto_stores.specs.Keys.{key_fault, key_rows}
-use Rattle.esto_stores.specs.Rows.{Row, are_texts, first_fault}
+use Rattle.esto_stores.specs.Rows.{Row}
 use Rattle.esto_stores.specs.Table.{table_fault, table_rows}
 use Rattle.esto_term.proofs.ListLemmas.{Contains-cases, Contains-filter_from, Contains-head, Contains-map, Contains-map_from, Contains-nil, Contains-one, Contains-rest, map_at}
 use Rattle.esto_term.specs.declared.term.Term.{Term}
-use Rattle.esto_fill.specs.CodedParts.{HasPlaces, HasRelations, Puts, PutsEncoded, PutsFile, PutsKept, PutsRows, PutsTrees}
+use Rattle.esto_fill.specs.CodedParts.{HasPlaces, HasRelations, Puts, PutsEncoded, PutsFile, PutsKept, PutsRead, PutsTrees}
 use Rattle.esto_fill.specs.Coding.{IsCodedFrom, IsOver}
 use Rattle.esto_fill.specs.Files.{AreWantedOf, FindsFault, fault_by_model}
 use Rattle.esto_fill.specs.Wanted.{IsKeptFor, is_wanted}
@@ -73,6 +71,18 @@ puts_more own more first middle last before after = record {
   arities = after.arities ∙ before.arities;
 }
 
+-- rows that are coded, and put where they are coded
+pub coded_put : (relation : ℕ) (rows : List Row) (codes : List (List ℕ)) (old : CodedData) (middle last : Coded)
+    → ((facts : List (Fact Term)) → StandFor old.facts facts → StandFor middle facts) → arities_of middle ≡ arities_of old.facts
+    → AreCodedRows middle.texts codes rows
+    → ((list : List Row) → AreCodedRows middle.texts codes list → (facts : List (Fact Term)) → StandFor middle facts
+    → StandFor last (facts ++ map (row_fact relation) list))
+    → arities_of last ≡ arities_of middle → Puts (map (row_fact relation) rows) old (record { facts = last; next = old.next })
+coded_put relation rows codes old middle last kept same are puts more = record {
+  stand = λ facts stand. puts rows are facts (kept facts stand);
+  arities = more ∙ same;
+}
+
 -- ---- rows, each once
 
 module _ (relation : ℕ) (rows kept : List Row) (once : AreEachOnce rows kept) where
@@ -99,9 +109,15 @@ module _ (relation : ℕ) (rows kept : List Row) (once : AreEachOnce rows kept) 
             (subst (Contains (map (row_fact relation) rows)) is (Contains-map (row_fact relation) rows row ((once.same row).0 among)))
       ]
 
+-- of the facts of the rows, each row once, those are put that are wanted; and no node
+abbrev PutsRows : Wanted → ℕ → List Row → CodedData → CodedData → Type 0
+PutsRows wanted relation rows old new =
+    (facts own : List (Fact Term)) × AreRowFacts relation rows facts × (is_wanted wanted relation ≡ true → own ≡ facts)
+    × (is_wanted wanted relation ≡ false → own ≡ []) × Puts own old new × (new.next ≡ old.next)
+
 module _ (wanted : Wanted) (relation : ℕ) (rows : List Row) where
   -- where the relation is wanted, the facts of the rows each once are put
-  pub rows_put : (old new : CodedData) → is_wanted wanted relation ≡ true → new.next ≡ old.next → Puts (map (row_fact relation) rows) old new
+  rows_put : (old new : CodedData) → is_wanted wanted relation ≡ true → new.next ≡ old.next → Puts (map (row_fact relation) rows) old new
       → PutsRows wanted relation rows old new
   rows_put old new told next puts =
       let (kept, once) = rows_once rows in
@@ -120,7 +136,7 @@ module _ (wanted : Wanted) (relation : ℕ) (rows : List Row) where
       )
 
   -- and where it is not, none
-  pub rows_left : (coded : CodedData) → is_wanted wanted relation ≡ false → PutsRows wanted relation rows coded coded
+  rows_left : (coded : CodedData) → is_wanted wanted relation ≡ false → PutsRows wanted relation rows coded coded
   rows_left coded told =
       let (kept, once) = rows_once rows in (
         map (row_fact relation) kept,
@@ -294,49 +310,33 @@ module _ (line : List ℕ) (one : IsOneLine line) where
 pub first_line : (bytes line after : List ℕ) → lines_of bytes ≡ line ∷ lines_of after → IsOneLine line
 first_line bytes line after is = no_feed bytes line (subst (λ those. Contains those line) (sym is) (Contains-head line (lines_of after)))
 
--- ---- lines of keys
-
--- rows without a fault have as many cells as they are to have
-cells_wide : (kind : FileKind) (width : ℕ) (taken : Row → Row) (number : ℕ) (rows : List Row) → first_fault kind width taken number rows ≡ None
-    → (row : Row) → Contains rows row → length row ≡ width
-unfolding first_fault
-cells_wide kind width taken number [] none row inside = absurd (Contains-nil row inside)
-cells_wide kind width taken number (cells ∷ rest) none row inside =
-    by (length cells == width) refl none (λ passed there. cells_wide kind width taken (number + 1) rest passed row there)
-  where
-    later : (good : Bool) → (if good then first_fault kind width taken (number + 1) rest else Some (fault_at NotUtf8 number)) ≡ None
-        → length cells ≡ width → (first_fault kind width taken (number + 1) rest ≡ None → Contains rest row → length row ≡ width) → length row ≡ width
-    later true passed long again = elim (Contains-cases cells rest row inside) [
-      | inl is ↦ ap length (sym is) ∙ long
-      | inr there ↦ again passed there
-    ]
-    later false passed long again = absurd (none-some _ (sym passed))
-
-    by : (same : Bool) → (length cells == width) ≡ same
-        → (if same then (if are_texts (taken cells) then first_fault kind width taken (number + 1) rest else Some (fault_at NotUtf8 number))
-        else Some (fault_at kind number)) ≡ None → (first_fault kind width taken (number + 1) rest ≡ None → Contains rest row → length row ≡ width)
-        → length row ≡ width
-    by true is passed again = later (are_texts (taken cells)) passed (eqb-true (length cells) width is) again
-    by false is passed again = absurd (none-some _ (sym passed))
-
-pub keys_wide : (width : ℕ) (bytes : List ℕ) → key_fault width bytes ≡ None → (row : Row) → Contains (key_rows bytes) row → length row ≡ width
-unfolding key_fault
-keys_wide width bytes none = cells_wide Cells width (λ cells. cells) 1 (key_rows bytes) none
-
 -- ---- what a file gives
 
 module _ (dataset : Dataset) (wanted : Wanted) (bytes : List ℕ) (old new : CodedData) where
-  pub table_put : (rows : List Row) → (table_fault dataset.columns bytes ≡ None) × (rows ≡ table_rows dataset.columns bytes)
-      → PutsRows wanted dataset.base rows old new → PutsFile Table dataset wanted bytes old new (Ok tt)
-  table_put rows read (facts, own, are, all, none, puts, next) =
-      let given = table_gives dataset wanted bytes old.next rows facts own are all none read in
+  of_table : PutsRows wanted dataset.base (table_rows dataset.columns bytes) old new → table_fault dataset.columns bytes ≡ None
+      → PutsFile Table dataset wanted bytes old new (Ok tt)
+  of_table (facts, own, are, all, none, puts, next) clear =
+      let given = table_gives dataset wanted bytes old.next (table_rows dataset.columns bytes) facts own are all none (clear, refl) in
       (given.0, (record { facts = own; next = old.next }, given.1, (puts, next)))
 
-  pub keys_put : (rows : List Row) → (key_fault 3 bytes ≡ None) × (rows ≡ key_rows bytes) → PutsRows wanted dataset.base rows old new
-      → PutsFile Keys dataset wanted bytes old new (Ok tt)
-  keys_put rows read (facts, own, are, all, none, puts, next) =
-      let given = keys_give dataset wanted bytes old.next rows facts own are all none read in
+  of_keys : PutsRows wanted dataset.base (key_rows bytes) old new → key_fault 3 bytes ≡ None → PutsFile Keys dataset wanted bytes old new (Ok tt)
+  of_keys (facts, own, are, all, none, puts, next) clear =
+      let given = keys_give dataset wanted bytes old.next (key_rows bytes) facts own are all none (clear, refl) in
       (given.0, (record { facts = own; next = old.next }, given.1, (puts, next)))
+
+  -- the rows of a file whose relation is wanted are put
+  pub table_put : is_wanted wanted dataset.base ≡ true → (result : Result (Unit {0}) FileError)
+      → PutsRead dataset.base (table_rows dataset.columns bytes) (table_fault dataset.columns bytes) old new result
+      → PutsFile Table dataset wanted bytes old new result
+  table_put told (Ok done) (clear, puts, next) = of_table (rows_put wanted dataset.base (table_rows dataset.columns bytes) old new told next puts) clear
+  table_put told (Err (content.Fault found)) fault = fault
+  table_put told (Err content.OutOfMemory) want = tt
+
+  pub keys_put : is_wanted wanted dataset.base ≡ true → (result : Result (Unit {0}) FileError)
+      → PutsRead dataset.base (key_rows bytes) (key_fault 3 bytes) old new result → PutsFile Keys dataset wanted bytes old new result
+  keys_put told (Ok done) (clear, puts, next) = of_keys (rows_put wanted dataset.base (key_rows bytes) old new told next puts) clear
+  keys_put told (Err (content.Fault found)) fault = fault
+  keys_put told (Err content.OutOfMemory) want = tt
 
   pub documents_put : (relations : Kept) → IsKeptFor wanted dataset.base relations → (result : Result (Unit {0}) FileError)
       → PutsTrees relations (file_trees dataset.layout bytes) (trees_fault dataset.layout bytes) old new result
@@ -359,6 +359,14 @@ module _ (dataset : Dataset) (wanted : Wanted) (bytes : List ℕ) (old new : Cod
   finds_fault model (Ok done) puts = puts.0
   finds_fault model (Err (content.Fault found)) fault = fault
   finds_fault model (Err content.OutOfMemory) want = tt
+
+module _ (dataset : Dataset) (wanted : Wanted) (bytes : List ℕ) (coded : CodedData) (told : is_wanted wanted dataset.base ≡ false) where
+  -- and where it is not wanted, none
+  pub table_left : table_fault dataset.columns bytes ≡ None → PutsFile Table dataset wanted bytes coded coded (Ok tt)
+  table_left clear = of_table dataset wanted bytes coded coded (rows_left wanted dataset.base (table_rows dataset.columns bytes) coded told) clear
+
+  pub keys_left : key_fault 3 bytes ≡ None → PutsFile Keys dataset wanted bytes coded coded (Ok tt)
+  keys_left clear = of_keys dataset wanted bytes coded coded (rows_left wanted dataset.base (key_rows bytes) coded told) clear
 
 -- ---- what is loaded
 

@@ -10,7 +10,7 @@ use Rattle.esto_coded.specs.Answered.{AreCodedAnswers}
 use Rattle.esto_coded.specs.Coded.{Coded, AreCodesOf, AreTelling, IsCodeOf, StandFor}
 use Rattle.esto_coded.specs.Shown.{HasNodeAt, LeastNode}
 use Rattle.esto_coded.specs.declared.coded.TheConstants.{FIRST_NODE}
-use Rattle.esto_coded.proofs.StandLemmas.{codes_grow, one_code, text_codes}
+use Rattle.esto_coded.proofs.StandLemmas.{codes_grow, one_codes, text_codes}
 use Rattle.esto_columns.specs.CodedRows.{CodedRows}
 use Rattle.esto_columns.specs.Interned as interned
 use Rattle.esto_columns.proofs.CodingLemmas.{grows_on}
@@ -113,19 +113,6 @@ module _ (texts : List (List ℕ)) where
             let one : term ≡ Const cell = constant ∙ ap Const (same_Some text cell (sym at ∙ here)) in λ i. one i ∷ later i
         | inr (node, plain, own) ↦ absurd (let within = slice_get_within texts code cell here in omega (arith, within, few, own))
       ]
-
--- terms have one row of codes, where no two texts are the same
-codes_one : (texts : List (List ℕ)) → AllPairs ◌≢◌ texts → (terms : List Term) (row other : List ℕ) → AreCodesOf texts terms row
-    → AreCodesOf texts terms other → row ≡ other
-codes_one texts distinct [] [] [] one two = refl
-codes_one texts distinct [] [] (code ∷ other) one two = absurd two
-codes_one texts distinct [] (code ∷ row) other one two = absurd one
-codes_one texts distinct (term ∷ terms) [] other one two = absurd one
-codes_one texts distinct (term ∷ terms) (code ∷ row) [] one two = absurd two
-codes_one texts distinct (term ∷ terms) (code ∷ row) (its ∷ other) one two =
-    let here = one_code texts distinct term code its one.0 two.0 in
-    let later = codes_one texts distinct terms row other one.1 two.1 in
-    λ i. here i ∷ later i
 
 -- ---- rows that answer
 
@@ -336,7 +323,7 @@ module _ (texts : List (List ℕ)) (rows : List (List ℕ)) (Terms : List Term �
           let other = text_coded texts held lists codes cells.0 cells.1 in
           let constant = row_of_texts from.0 cells.0 cells.2 in
           subst (Contains held)
-          (codes_one texts distinct (map Const cells.0) other.0 row (text_codes texts other.0 cells.0 other.2)
+          (one_codes texts distinct (map Const cells.0) other.0 row (text_codes texts other.0 cells.0 other.2)
           (subst (λ those. AreCodesOf texts those row) constant from.2)) other.1
 
       backward : Contains held row → Contains rows row
@@ -346,7 +333,7 @@ module _ (texts : List (List ℕ)) (rows : List (List ℕ)) (Terms : List Term �
           let own = are.back from.0 from.1 in
           let constant = row_of_texts from.0 cells.0 from.2 in
           subst (Contains rows)
-          (codes_one texts distinct (map Const cells.0) own.0 row (subst (λ those. AreCodesOf texts those own.0) constant own.2)
+          (one_codes texts distinct (map Const cells.0) own.0 row (subst (λ those. AreCodesOf texts those own.0) constant own.2)
           (text_codes texts row cells.0 cells.2)) own.1
 
 -- ---- the answers of a union

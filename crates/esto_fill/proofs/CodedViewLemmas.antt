@@ -1,11 +1,13 @@
 -- Views over rows of codes: those whose heads can hold no node, and rows of fragments that are those of their views.
 use Rattle.std.proofs.Common.{◌≡◌, ◌↔◌, ◌<◌, ◌≤◌, inl, inr, ℕ, zero, suc, List, [], ◌∷◌, ◌++◌, length, map, Some, slice_get, Contains, refl, sym, ap, ◌∙◌, subst, arith}
+use Rattle.std.specs.Prelude.{Option, None, Ok}
 use Rattle.std.proofs.lemmas.Bool.{cases_order}
 use Rattle.std.proofs.lemmas.Option.{get_or_from_slice_get, same_Some, slice_get_within}
 use Rattle.esto_coded.specs.Coded.{Coded, IsCodeOf, StandFor, rows_in}
 use Rattle.esto_columns.specs.CodedRows.{CodedRows}
 use Rattle.esto_columns.specs.Interned.{AreCodedRows, Grows}
 use Rattle.esto_columns.proofs.CodingLemmas.{rows_grow}
+use Rattle.esto_ports.specs.declared.file_fault.FileFault.{FileFault}
 use Rattle.esto_query.specs.Making.{query_of}
 use Rattle.esto_semantics.specs.Facts.{Database, image}
 use Rattle.esto_semantics.specs.Queries.{ConjunctiveQuery, IsAnswer}
@@ -21,7 +23,7 @@ use Rattle.esto_term.specs.declared.term.Term.{Term}
 use Rattle.esto_views.specs.Fragments.{views_of}
 use Rattle.esto_views.specs.declared.fragments.FragmentDef.{FragmentDef}
 use Rattle.esto_fill.specs.CodedParts.{IsCodedFreeIn, IsCodedFreeView}
-use Rattle.esto_fill.specs.Coding.{AreCodedLists}
+use Rattle.esto_fill.specs.Coding.{AreCodedLists, CodesFile}
 use Rattle.esto_fill.specs.Databases.{database_of, value_of}
 use Rattle.esto_fill.specs.Differences.{HoldViewRows}
 use Rattle.esto_fill.specs.Texts.{AreExactly, HaveTextsOnly}
@@ -65,6 +67,19 @@ lists_more old new coded own lists rows grown last before =
     (zip_weaker (λ (it : CodedRows) (those : List Row). AreCodedRows old it.rows those) (λ (it : CodedRows) (those : List Row). AreCodedRows new it.rows those)
     coded lists (λ it those inside are. rows_grow old new it.rows those grown are) before)
     (last, tt)
+
+-- the rows of a file without a fault are put
+pub file_added : (rows : List Row) (fault : Option FileFault) (old new : List (List ℕ)) (coded next : List CodedRows) (own : CodedRows) → fault ≡ None
+    → Grows old new → AreCodedRows new own.rows rows → next ≡ coded ++ own ∷ [] → CodesFile (Contains rows) fault old new coded next (Ok tt)
+file_added rows fault old new coded next own clear grown are is = (
+  clear,
+  (
+    rows,
+    λ row. ((λ inside. inside), (λ inside. inside)),
+    λ lists before. subst (λ (those : List CodedRows). AreCodedLists new those (lists ++ rows ∷ [])) (sym is)
+        (lists_more old new coded own lists rows grown are before),
+  ),
+)
 
 -- they are as many
 pub lists_long : (texts : List (List ℕ)) (coded : List CodedRows) (lists : List (List Row)) → AreCodedLists texts coded lists → length coded ≡ length lists

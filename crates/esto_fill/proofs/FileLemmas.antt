@@ -32,7 +32,7 @@ use Rattle.esto_term.proofs.PlaceLemmas.{take-item}
 use Rattle.esto_fill.specs.Files.{dataset_fault, nodes_in, AreFactsByModel, AreFactsOf, AreFactsFrom, AreReadable, AreWantedOf, GivesFacts, HaveRisingNames, IsLoadedFrom, RiseByModel}
 use Rattle.esto_fill.specs.Wanted.{IsKeptFor, Leaves, is_wanted}
 use Rattle.esto_fill.specs.declared.wanted.Wanted.{Wanted}
-use Rattle.esto_fill.specs.declared.wanted.Wanted.TheVariants.{Every, Asked}
+use Rattle.esto_fill.specs.declared.wanted.Wanted.TheVariants.{Every}
 use Rattle.esto_fill.proofs.WantedLemmas.{AreOver, chosen, kept_leaves, leaves_append, leaves_flat}
 use Rattle.esto_fill.specs.declared.loaded.Loaded.{Loaded}
 use Rattle.esto_fill.specs.declared.datasets.DatasetBytes.{DatasetBytes}

@@ -1,5 +1,5 @@
 -- For private clauses: what is put into rows of codes, and rows of codes that answer queries.
-use Rattle.std.specs.Prelude.{◌≡◌, ◌↔◌, ◌⊎◌, ℕ, ◌+◌, ◌≤◌, List, [], ◌++◌, true, false, length, slice_get, Contains, Option, Some, None, Result, Ok, Err}
+use Rattle.std.specs.Prelude.{◌≡◌, ◌↔◌, ◌⊎◌, ℕ, ◌+◌, ◌≤◌, List, ◌++◌, map, length, slice_get, Contains, Option, Some, None, Result, Ok, Err}
 use Rattle.esto_catalog.specs.Datasets.{relations_of}
 use Rattle.esto_catalog.specs.declared.dataset.Dataset.{Dataset}
 use Rattle.esto_coded.specs.Coded.{AreCodesOf, HasPlace, StandFor, Coded, arities_of, rows_in}
@@ -18,7 +18,7 @@ use Rattle.esto_ports.specs.declared.file_fault.FileError.{FileError}
 use Rattle.esto_ports.specs.declared.file_fault.FileError.TheVariants as content
 use Rattle.esto_query.specs.declared.schema.Relation.{Relation}
 use Rattle.esto_read.specs.declared.words.DataModel.{DataModel}
-use Rattle.esto_relmodel.specs.RowFacts.{AreRowFacts}
+use Rattle.esto_relmodel.specs.RowFacts.{row_fact}
 use Rattle.esto_run.specs.Answers.{AreRising}
 use Rattle.esto_semantics.specs.Queries.{ConjunctiveQuery}
 use Rattle.esto_semantics.specs.declared.fact.Fact.{Fact}
@@ -27,7 +27,6 @@ use Rattle.esto_term.specs.Kinds.{IsConstant}
 use Rattle.esto_term.specs.declared.term.Term.{Term}
 use Rattle.esto_fill.specs.Coding.{IsCodedOf}
 use Rattle.esto_fill.specs.Files.{AreWantedOf, fault_by_model}
-use Rattle.esto_fill.specs.Wanted.{is_wanted}
 use Rattle.esto_fill.specs.declared.coded_data.CodedData.{CodedData}
 use Rattle.esto_fill.specs.declared.loaded.Loaded.{Loaded}
 use Rattle.esto_fill.specs.declared.rows.AnswerError.{AnswerError}
@@ -54,11 +53,11 @@ pub record Puts (own : List (Fact Term)) (old new : CodedData) : Type 0 where
   pub stand : (facts : List (Fact Term)) → StandFor old.facts facts → StandFor new.facts (facts ++ own)
   pub arities : arities_of new.facts ≡ arities_of old.facts
 
--- The facts of the rows are put, each row once, where the relation is wanted; and no node.
-abbrev pub PutsRows : Wanted → ℕ → List Row → CodedData → CodedData → Type 0
-PutsRows wanted relation rows old new =
-    (facts own : List (Fact Term)) × AreRowFacts relation rows facts × (is_wanted wanted relation ≡ true → own ≡ facts)
-    × (is_wanted wanted relation ≡ false → own ≡ []) × Puts own old new × (new.next ≡ old.next)
+-- The facts of the rows are put, and no node, and there is no fault; or it is the first fault; or memory is wanting.
+abbrev pub PutsRead : ℕ → List Row → Option FileFault → CodedData → CodedData → Result (Unit {0}) FileError → Type 0
+PutsRead relation rows fault old new (Ok _) = (fault ≡ None) × Puts (map (row_fact relation) rows) old new × (new.next ≡ old.next)
+PutsRead relation rows fault old new (Err (content.Fault found)) = fault ≡ Some found
+PutsRead relation rows fault old new (Err content.OutOfMemory) = Unit {0}
 
 -- These facts are put, and nodes are numbered on from that number.
 abbrev pub PutsEncoded : Encoded → CodedData → CodedData → Type 0

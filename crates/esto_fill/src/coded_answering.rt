@@ -118,9 +118,9 @@ fn union_rows(alloc: Global, queries: &[Query], coded: &mut CodedData) -> Result
     Ok(rows)
 }
 
-/// The answers of the union of the queries over the database of whatever facts the rows of codes stand for, as texts: each
-/// once, in rising order, cell by cell by bytes. NodeInRow comes exactly where some answer of one of them holds a node, with
-/// the least column that has one, counted from 1.
+/// The answers of the union of the queries over the database of whatever facts the rows of codes stand for, as texts:
+/// each once, in rising order, cell by cell by bytes. NodeInRow comes exactly where some answer of one of them holds a
+/// node, with the least column that has one, counted from 1.
 pub fn answer_union_coded(
     alloc: Global,
     queries: &[Query],

@@ -1,5 +1,5 @@
 //! Whether facts that rows of codes stand for and the rows of fragments agree.
-ghost use Rattle.std.specs.Prelude.{◌≡◌, ◌↔◌, ◌++◌, ◌∷◌, [], List, IsTrue, true, length, Contains, IfOk, OnOk};
+ghost use Rattle.std.specs.Prelude.{◌≡◌, ◌↔◌, List, IsTrue, true, length, IfOk};
 ghost use Rattle.esto_columns.specs.Interned.{AreCodedRows, Grows};
 ghost use Rattle.esto_constraint.specs.Constraints.{rule_of, rules_of};
 ghost use Rattle.esto_query.specs.Making.{query_of};
@@ -28,33 +28,12 @@ use esto_columns::Rows;
 use esto_constraint::{Constraint, Rules, rules_are_sound};
 use esto_query::{Query, queries_are_sound};
 use esto_semantics::databases_stand_for_facts;
-use esto_term::{List, OutOfMemory, TextRows};
+use esto_term::{List, OutOfMemory};
 use esto_views::FragmentDef;
 use std::alloc::Global;
 
 /// The rows of fragments as rows of codes, a list for each, in order.
 pub type CodedRowsList = List<Rows>;
-
-/// Puts the rows of a fragment, which have so many cells each, as rows of codes at the end.
-pub fn add_coded_rows(
-    alloc: Global,
-    coded: &mut CodedData,
-    texts: TextRows,
-    arity: usize,
-    rows: &mut CodedRowsList,
-) -> Result<(), OutOfMemory>
-    requires wide { (row : Row) → Contains texts row → length row ≡ arity }
-    requires coded { IsCoded coded.old }
-    ensures rows { OnOk result ((lists : List (List Row))
-        → AreCodedLists coded.old.facts.texts rows.old lists
-        → AreCodedLists coded.new.facts.texts rows.new (lists ++ texts ∷ [])) }
-    ensures kept { (loaded : Loaded) → IsCodedOf loaded coded.old → IsCodedOf loaded coded.new }
-    ensures grown { Grows coded.old.facts.texts coded.new.facts.texts }
-{
-    let own = coded.facts.code_rows(alloc, texts, arity)?;
-    rows.push(own)?;
-    Ok(())
-}
 
 // Whether the rule is one of the laws, or is met.
 fn is_passed(
@@ -93,7 +72,7 @@ fn are_passed(
     Ok(true)
 }
 
-// Whether the rows are, as a set, those of the view.
+// Whether the rows are, as a set, those of the view. Indexes are made before for the joins of its body.
 fn holds_view(
     alloc: Global,
     view: &Query,
@@ -110,6 +89,7 @@ fn holds_view(
     facts_stand_as_databases();
     loaded_facts_are_flat();
     queries_are_sound();
+    coded.facts.index_joins(alloc, view.body.items())?;
     let own = rows_of(alloc, view, coded)?;
     let same = hold_same(alloc, &own, rows)?;
     Ok(same)
@@ -137,9 +117,9 @@ fn hold_views(
     Ok(true)
 }
 
-/// Whether the facts that the rows of codes stand for meet the rules of the catalogue that are none of the laws, and the
-/// rows of each fragment are, as a set, those of its view over them. The laws are not tried. So where facts meet the laws,
-/// and the rows of codes stand for enough of them, they agree with the rows of the fragments.
+/// Whether the facts that the rows of codes stand for meet the rules of the catalogue that are none of the laws, and
+/// the rows of each fragment are, as a set, those of its view over them. The laws are not tried. So where facts meet
+/// the laws, and the rows of codes stand for enough of them, they agree with the rows of the fragments.
 pub fn agree_coded(
     alloc: Global,
     catalogue: &Catalogue,

@@ -10,8 +10,8 @@ use esto_query::Schema;
 use esto_term::{OutOfMemory, Places, Values};
 use std::alloc::Global;
 
-/// The facts of datasets' files as rows of codes, and a number such that no node has it or a greater one. `IsCodedOf` says
-/// for what is loaded they stand.
+/// The facts of datasets' files as rows of codes, and a number such that no node has it or a greater one. `IsCodedOf`
+/// says for what is loaded they stand.
 #[derive(Drop)]
 pub struct CodedData {
     pub facts: CodedFacts,

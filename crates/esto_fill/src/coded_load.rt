@@ -1,9 +1,9 @@
 //! Files of datasets that are put into rows of codes.
-ghost use Rattle.std.specs.Prelude.{◌≡◌, ◌<◌, [], ◌∷◌, ◌++◌, List, Some, length, slice_get, Contains, IfSome, OnOk};
-ghost use Rattle.esto_coded.specs.Coded.{arities_of};
+ghost use Rattle.std.specs.Prelude.{◌≡◌, ◌<◌, [], ◌∷◌, ◌++◌, List, length, slice_get, IfSome, OnOk};
 ghost use Rattle.esto_read.specs.declared.words.DataModel.{DataModel};
-ghost use Rattle.esto_stores.specs.Rows.{Row};
-ghost use Rattle.esto_fill.specs.CodedParts.{HasRelations, PutsFile, PutsRows};
+ghost use Rattle.esto_stores.specs.Keys.{key_fault, key_rows};
+ghost use Rattle.esto_stores.specs.Table.{table_fault, table_rows};
+ghost use Rattle.esto_fill.specs.CodedParts.{HasRelations, PutsFile, PutsRead};
 ghost use Rattle.esto_fill.specs.Coding.{IsCodedFrom, IsOver};
 ghost use Rattle.esto_fill.specs.Files.{FindsFault, dataset_fault};
 ghost use Rattle.esto_fill.specs.declared.datasets.DatasetBytes.{DatasetBytes};
@@ -16,29 +16,27 @@ use esto_catalog::{Catalogue, Dataset, catalogues_are_sound};
 use esto_ports::FileError;
 use esto_read::DataModel;
 use esto_stores::{open_keys, open_table};
-use esto_term::{Bytes, OutOfMemory, TextRows};
+use esto_term::Bytes;
 use std::alloc::Global;
 
-// Puts the facts of the rows, where the relation is wanted.
-fn put_rows(
+// Puts the facts of the rows of a table's file.
+fn put_table_rows(
     alloc: Global,
-    wanted: &Wanted,
-    relation: usize,
-    rows: TextRows,
+    dataset: &Dataset,
+    bytes: &[u8],
     coded: &mut CodedData,
-) -> Result<(), OutOfMemory>
-    requires { (row : Row) → Contains rows row
-        → slice_get (arities_of coded.old.facts) relation ≡ Some (length row) }
-    ensures { OnOk result (PutsRows wanted.now relation rows coded.old coded.new) }
+) -> Result<(), FileError>
+    requires model { dataset.now.model ≡ DataModel.Table }
+    requires relations { HasRelations dataset.now coded.old }
+    ensures { PutsRead dataset.now.base (table_rows dataset.now.columns bytes.now)
+        (table_fault dataset.now.columns bytes.now) coded.old coded.new result }
 {
-    if !wanted.has(relation) {
-        return Ok(());
-    }
-    coded.facts.add_rows(alloc, relation, rows)?;
+    let rows = coded.facts.code_table(alloc, bytes, &dataset.columns)?;
+    coded.facts.put_coded(alloc, dataset.base, rows)?;
     Ok(())
 }
 
-// Puts what is wanted of the facts of the rows of a table's file.
+// Puts the facts of the rows of a table's file, where its relation is wanted; else the file is only tried.
 fn put_table(
     alloc: Global,
     dataset: &Dataset,
@@ -50,12 +48,31 @@ fn put_table(
     requires relations { HasRelations dataset.now coded.old }
     ensures { PutsFile DataModel.Table dataset.now wanted.now bytes.now coded.old coded.new result }
 {
-    let rows = open_table(alloc, bytes, &dataset.columns)?;
-    put_rows(alloc, wanted, dataset.base, rows, coded)?;
+    if wanted.has(dataset.base) {
+        return put_table_rows(alloc, dataset, bytes, coded);
+    }
+    open_table(alloc, bytes, &dataset.columns)?;
     Ok(())
 }
 
-// Puts what is wanted of the facts of the lines of a key file.
+// Puts the facts of the lines of a key file.
+fn put_key_rows(
+    alloc: Global,
+    dataset: &Dataset,
+    bytes: &[u8],
+    coded: &mut CodedData,
+) -> Result<(), FileError>
+    requires model { dataset.now.model ≡ DataModel.Keys }
+    requires relations { HasRelations dataset.now coded.old }
+    ensures { PutsRead dataset.now.base (key_rows bytes.now) (key_fault 3 bytes.now)
+        coded.old coded.new result }
+{
+    let rows = coded.facts.code_keys(alloc, bytes, KEY_CELLS)?;
+    coded.facts.put_coded(alloc, dataset.base, rows)?;
+    Ok(())
+}
+
+// Puts the facts of the lines of a key file, where its relation is wanted; else the file is only tried.
 fn put_keys(
     alloc: Global,
     dataset: &Dataset,
@@ -67,8 +84,10 @@ fn put_keys(
     requires relations { HasRelations dataset.now coded.old }
     ensures { PutsFile DataModel.Keys dataset.now wanted.now bytes.now coded.old coded.new result }
 {
-    let rows = open_keys(alloc, bytes, KEY_CELLS)?;
-    put_rows(alloc, wanted, dataset.base, rows, coded)?;
+    if wanted.has(dataset.base) {
+        return put_key_rows(alloc, dataset, bytes, coded);
+    }
+    open_keys(alloc, bytes, KEY_CELLS)?;
     Ok(())
 }
 
@@ -90,9 +109,9 @@ fn put_file(
     }
 }
 
-/// Puts, of the facts of the file of the dataset of that number, whose nodes are numbered from `next` on, those that are
-/// wanted; or the file has a fault, and this is the first, whatever is wanted. Where not all facts are wanted, others of
-/// wanted relations may be put too. OutOfMemory comes too where a node has no number of 64 bits, or no code.
+/// Puts, of the facts of the file of the dataset of that number, whose nodes are numbered from `next` on, those that
+/// are wanted; or the file has a fault, and this is the first, whatever is wanted. Where not all facts are wanted,
+/// others of wanted relations may be put too. OutOfMemory comes too where a node has no number of 64 bits, or no code.
 pub fn load_coded(
     alloc: Global,
     catalogue: &Catalogue,

@@ -23,7 +23,7 @@ pub struct Trial {
     pub wanted: Wanted,
 }
 
-/// Bodies of queries and parts of rules.
+// Bodies of queries and parts of rules.
 type Bodies = List<Atoms>;
 
 // The bodies of the fragments' views.

@@ -1,23 +1,21 @@
-use Rattle.std.proofs.Common.{refl, sym, ◌∙◌}
-use Rattle.esto_course.specs.Course.Stops.{is_free}
-use Rattle.esto_course.proofs.Steps.{at_exit}
+use Rattle.esto_data.proofs.RowLemmas.{rows_added, rows_refused}
 use Rattle.esto_data.proofs.opened.code_content.Goals as goal
 
-pub returns-in_err-texts-clause-answer : goal.returns-in_err-texts-clause-answer
-returns-in_err-texts-clause-answer c = at_exit _ _ c.from_residual.result c.from_residual.ensures.1 c.in_err-texts.ensures.rows
+pub returns-in-Ok-clause-answer : goal.returns-in-Ok-clause-answer
+returns-in-Ok-clause-answer c =
+    (rows_added (record { definition = c.args.fragment.now; store = c.args.store.now }) c.args.bytes.now c.bytes.result.now c.bytes.ensures
+    c.args.coded.now.facts.texts c.code_store.new.coded.facts.texts c.args.rows.now c.code_store.new.rows c.in-Ok.ensures.rows).0
 
-pub add_coded_rows-requires-clause-wide : goal.add_coded_rows-requires-clause-wide
-add_coded_rows-requires-clause-wide c = λ row inside. c.in_ok-texts.ensures.wide row inside ∙ sym c.len.ensures
+pub returns-in-Ok-clause-rows : goal.returns-in-Ok-clause-rows
+returns-in-Ok-clause-rows c =
+    (rows_added (record { definition = c.args.fragment.now; store = c.args.store.now }) c.args.bytes.now c.bytes.result.now c.bytes.ensures
+    c.args.coded.now.facts.texts c.code_store.new.coded.facts.texts c.args.rows.now c.code_store.new.rows c.in-Ok.ensures.rows).1
 
-pub returns-in_err-add_coded_rows-clause-answer : goal.returns-in_err-add_coded_rows-clause-answer
-returns-in_err-add_coded_rows-clause-answer c =
-    at_exit _ _ c.from_residual-in_err-add_coded_rows.result c.from_residual-in_err-add_coded_rows.ensures.1 (is_free refl)
+pub returns-in-Ok-clause-stays : goal.returns-in-Ok-clause-stays
+returns-in-Ok-clause-stays c = record { kept = c.code_store.ensures.kept; grown = c.code_store.ensures.grown }
 
-pub returns-clause-answer : goal.returns-clause-answer
-returns-clause-answer c = c.in_ok-texts.ensures.rows.0
-
-pub returns-clause-rows : goal.returns-clause-rows
-returns-clause-rows c = (c.in_ok-texts.texts, c.in_ok-texts.ensures.rows.1, c.in_ok-add_coded_rows.ensures.rows)
-
-pub returns-clause-stays : goal.returns-clause-stays
-returns-clause-stays c = record { kept = c.in_ok-add_coded_rows.ensures.kept; grown = c.in_ok-add_coded_rows.ensures.grown }
+pub returns-in_ok-name-in-Err-Fault-clause-answer : goal.returns-in_ok-name-in-Err-Fault-clause-answer
+returns-in_ok-name-in-Err-Fault-clause-answer c =
+    rows_refused (record { definition = c.args.fragment.now; store = c.args.store.now }) c.args.bytes.now c.bytes.result.now c.bytes.ensures
+    c.args.coded.now.facts.texts c.code_store.new.coded.facts.texts c.args.rows.now c.code_store.new.rows c.in-Err-Fault.field-0 c.in-Err-Fault.fault
+    c.in-Err-Fault.field-0-is c.in-Err-Fault.ensures.rows c.in_ok-name-in-Err-Fault.name c.in_ok-name-in-Err-Fault.ensures

@@ -1,12 +1,13 @@
-use Rattle.std.proofs.Common.{◌∙◌, ap, sym, subst, Some, Contains}
-use Rattle.esto_fill.proofs.CodedLoadLemmas.{keys_place, keys_put, keys_wide}
+use Rattle.std.proofs.Common.{◌∙◌, sym}
+use Rattle.esto_fill.proofs.CodedLoadLemmas.{keys_left, keys_put}
 use Rattle.esto_fill.proofs.coded_load.put_keys.Goals as goal
 
-pub put_rows-requires : goal.put_rows-requires
-put_rows-requires c row inside =
-    keys_place c.args.dataset.now c.args.coded.now c.requires.relations c.requires.model ∙ ap Some (sym (keys_wide 3
-    c.args.bytes.now c.in_ok-rows.ensures.0 row (subst (λ those. Contains those row) c.in_ok-rows.ensures.1 inside)))
+pub returns-then-has : goal.returns-then-has
+returns-then-has c =
+    keys_put c.args.dataset.now c.args.wanted.now c.args.bytes.now c.args.coded.now _ (sym c.has.ensures ∙ c.if-has.true) c.put_key_rows.result
+    c.put_key_rows.ensures
 
 pub returns : goal.returns
 returns c =
-    keys_put c.args.dataset.now c.args.wanted.now c.args.bytes.now c.args.coded.now _ c.in_ok-rows.rows c.in_ok-rows.ensures c.in_ok-put_rows.ensures
+    keys_left c.args.dataset.now c.args.wanted.now c.args.bytes.now c.args.coded.now (sym c.has.ensures ∙ c.if-has.false)
+    c.in_ok-open_keys.ensures.0

@@ -4,5 +4,5 @@ use Rattle.esto_coded.proofs.coded.CodedFacts.are_answers.Goals as goal
 
 pub returns-clause-each : goal.returns-clause-each
 returns-clause-each c = IfOk-weaker c.is_part.result _ _
-    (part_told c.answers.new.self c.args.head.now c.args.body.now c.args.rows.now.rows c.in_ok-answers.answers.rows c.in_ok-answers.ensures.rows)
+    (part_told c.answers_by_indexes.new.self c.args.head.now c.args.body.now c.args.rows.now.rows c.in_ok-answers.answers.rows c.in_ok-answers.ensures.rows)
     c.is_part.ensures

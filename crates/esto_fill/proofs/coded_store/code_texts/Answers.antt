@@ -2,7 +2,7 @@ use Rattle.std.proofs.Common.{List, ◌++◌, ◌∷◌, [], sym, subst}
 use Rattle.esto_columns.specs.CodedRows.{CodedRows}
 use Rattle.esto_fill.specs.Coding.{AreCodedLists}
 use Rattle.esto_fill.proofs.CodedViewLemmas.{lists_more}
-use Rattle.esto_fill.proofs.coded_audit.add_coded_rows.Goals as goal
+use Rattle.esto_fill.proofs.coded_store.code_texts.Goals as goal
 
 pub returns-clause-rows : goal.returns-clause-rows
 returns-clause-rows c lists before =
