@@ -32,10 +32,10 @@ use Rattle.esto_run.specs.Used.{AreUsed}
 use Rattle.esto_term.proofs.ListLemmas.{thing_at}
 use Rattle.esto_views.specs.Plans.{plan_query}
 use Rattle.esto_views.specs.declared.plan.Plan.{Plan}
-use Rattle.esto_outcome_laws.specs.Ends.{EndsOrLacks}
-use Rattle.esto_outcome_laws.specs.Ends.Ends.{goes, stops, lacks}
-use Rattle.esto_outcome_laws.proofs.CourseLemmas.{ends_by, ends_judged, ends_more, ends_refused, ends_then, gives_ends, judges_accepted, judges_accepts}
-use Rattle.esto_outcome_laws.proofs.CourseLemmas.{judges_goes, refuses_ends}
+use Rattle.esto_top.specs.Ends.{EndsOrLacks}
+use Rattle.esto_top.specs.Ends.Ends.{goes, stops, lacks}
+use Rattle.esto_top.proofs.CourseLemmas.{ends_by, ends_judged, ends_more, ends_refused, ends_then, gives_ends, judges_accepted, judges_accepts}
+use Rattle.esto_top.proofs.CourseLemmas.{judges_goes, refuses_ends}
 use Rattle.esto_top.specs.Bench.{bench_course}
 use Rattle.esto_top.specs.Check.{check_course, check_text, prints_check}
 use Rattle.esto_top.specs.Existing.{HasOutcome, LacksFile, OutcomesExist}

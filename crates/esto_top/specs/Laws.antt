@@ -4,9 +4,9 @@ use Rattle.esto_semantics.specs.ListedLaws.{NoRewritingExists, PickWeighsLeastOf
 use Rattle.esto_opening.specs.Alike.{CataloguesOpenAlike, UnionsOpenAlike}
 use Rattle.esto_fragments.specs.Alike.{FragmentOpensAlike, FragmentsOpenAlike, StoresHaveOneContent}
 use Rattle.esto_opening.specs.Unions.{OpenedFormUnions, UnionsOfOneAreQueries}
-use Rattle.esto_outcome_laws.specs.Steps.{AnswersEnd, AuditsEnd, CasesHaveSummaries, CataloguesOpen, ContainmentsEnd, ItemsAreChosen, MinimisationsEnd}
-use Rattle.esto_outcome_laws.specs.Steps.{PlansHaveLists, PlansHaveTexts, QueriesArePlanned, QueriesHaveEnds, SetsHaveRows, SetsOpen, SetsUseFragments}
-use Rattle.esto_outcome_laws.specs.Steps.{ExplanationsEnd, FillsEnd, UnionsAreListed, UnionsAreRun, UnionsOpen, VerificationsEnd}
+use Rattle.esto_top.specs.Steps.{AnswersEnd, AuditsEnd, CasesHaveSummaries, CataloguesOpen, ContainmentsEnd, ItemsAreChosen, MinimisationsEnd}
+use Rattle.esto_top.specs.Steps.{PlansHaveLists, PlansHaveTexts, QueriesArePlanned, QueriesHaveEnds, SetsHaveRows, SetsOpen, SetsUseFragments}
+use Rattle.esto_top.specs.Steps.{ExplanationsEnd, FillsEnd, UnionsAreListed, UnionsAreRun, UnionsOpen, VerificationsEnd}
 use Rattle.esto_planning.specs.Alike.{ChoiceIsOne, ClashIsMoved, EndIsOne, ListIsMoved, ListIsOne, ListingIsMoved, ListingIsOne, PlanIsMoved, PlanIsOne}
 use Rattle.esto_planning.specs.Laws.{ClashExcludesAnswers, CoreHasNoRetract, CoreIsOnly, ItemIsListed, PlaceIsWithin, PlanHasForm, PlanIsUniversal}
 use Rattle.esto_planning.specs.Laws.{PlanTellsAnswers}

@@ -1,3 +1,6 @@
+pub mod Ends
+pub mod LawsBelow
+pub mod Steps
 pub mod Check
 pub mod List
 pub mod Run

@@ -16,6 +16,10 @@ ghost use Rattle.esto_top.specs.Runs.{OutcomesAreRuns};
 ghost use Rattle.esto_top.specs.Unions.{OutcomesAreUnionLists, OutcomesAreUnionRuns};
 ghost use Rattle.esto_top.specs.Unions.{UnionOutcomesAgree};
 
+use crate::ends::{
+    cases_have_summaries, commands_come_to_an_end, files_are_opened, plans_have_lists,
+    queries_have_plans_or_clashes, sets_are_run, unions_are_listed_and_run,
+};
 use esto_backchase::listed_sets_cover_rewritings;
 use esto_bench::summaries_are_one;
 use esto_certify::{
@@ -29,10 +33,6 @@ use esto_disjuncts::{
 };
 use esto_fragments::{fragment_files_are_one, readable_fragments_are_opened};
 use esto_opening::{opened_unions_are_queries, openings_are_one};
-use esto_outcome_laws::{
-    cases_have_summaries, commands_come_to_an_end, files_are_opened, plans_have_lists,
-    queries_have_plans_or_clashes, sets_are_run, unions_are_listed_and_run,
-};
 use esto_planning::{
     chosen_items_are_listed, planned_plans_are_universal, planned_plans_have_their_form,
     plans_and_lists_are_moved, plans_and_lists_are_one,

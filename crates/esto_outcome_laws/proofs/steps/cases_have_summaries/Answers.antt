@@ -1,5 +1,0 @@
-use Rattle.esto_outcome_laws.proofs.BenchLemmas.{summaries_exist}
-use Rattle.esto_outcome_laws.proofs.steps.cases_have_summaries.Goals as goal
-
-pub returns : goal.returns
-returns c = λ size some. summaries_exist c.laws_below_hold.ensures c.bench_laws_hold.ensures size some
