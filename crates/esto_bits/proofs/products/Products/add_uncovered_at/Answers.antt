@@ -1,8 +1,14 @@
-use Rattle.std.proofs.Common.{◌≡◌, ◌∙◌, length}
+use Rattle.std.proofs.Common.{◌≡◌, ◌∙◌, length, sym}
 use Rattle.std.proofs.lemmas.List.Elements.{All-contains}
 use Rattle.esto_term.proofs.ListLemmas.{Contains-at}
 use Rattle.esto_bits.proofs.JoinLemmas.{left_in, left_out}
 use Rattle.esto_bits.proofs.products.Products.add_uncovered_at.Goals as goal
+
+pub covered-requires : goal.covered-requires
+covered-requires c =
+    All-contains (λ set. length set ≡ c.args.sets.now.count) c.args.sets.now.sets c.in_ok-set.set c.products_are_antichains.ensures.over
+    (Contains-at c.args.sets.now.sets c.args.at c.in_ok-set.set c.in_ok-set.ensures)
+    ∙ c.requires.sets ∙ sym c.requires.others
 
 pub add-requires : goal.add-requires
 add-requires c =
