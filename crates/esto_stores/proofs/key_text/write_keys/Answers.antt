@@ -1,8 +1,15 @@
-use Rattle.std.proofs.Common.{◌≡◌, ◌∙◌, sym, ap, true}
+use Rattle.std.proofs.Common.{◌≡◌, ◌∙◌, refl, sym, ap, true}
 use Rattle.std.specs.List.{list_all}
+use Rattle.esto_stores.specs.KeyText.{keys_text}
 use Rattle.esto_stores.specs.Rows.{are_texts}
 use Rattle.esto_stores.proofs.KeyTextLemmas.{rows_read, keys_no_fault, all_written}
 use Rattle.esto_stores.proofs.key_text.write_keys.Goals as goal
+
+pub rows-init : goal.rows-init
+rows-init c = (c.new-text.ensures, refl)
+
+pub returns-clause-text : goal.returns-clause-text
+returns-clause-text c = (all_written _ _ _ c.rows-test.false c.rows.invariant).0 ∙ ap keys_text c.items-row-items.ensures
 
 pub returns-clause-rows : goal.returns-clause-rows
 returns-clause-rows c =
