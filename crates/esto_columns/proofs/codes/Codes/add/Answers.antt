@@ -1,5 +1,6 @@
-use Rattle.std.proofs.Common.{◌≡◌, ◌⊎◌, ◌++◌, ◌∷◌, [], ℕ, List, length, map, subst}
+use Rattle.std.proofs.Common.{◌≡◌, ◌⊎◌, ◌++◌, ◌∷◌, [], ℕ, List, length, map, subst, sym, ◌∙◌}
 use Rattle.std.specs.Str.{bytes_eq}
+use Rattle.std.proofs.lemmas.Bool.{false≢true}
 use Rattle.esto_columns.proofs.NumberLemmas.{passes_at, list_grown, told_from}
 use Rattle.esto_columns.proofs.CodeLemmas.{texts_grown}
 use Rattle.esto_columns.proofs.codes.Codes.add.Goals as goal
@@ -27,3 +28,9 @@ returns-clause-grown c =
     (λ key. told_from c.in-Ok.owned.items c.args.text.now key.items c.in-Ok.ensures.items)
     c.self.inside.texts.keys c.insert_full.new.self.keys c.in-Ok.owned c.in-Ok-insert_full.number c.in-Ok.ensures.items c.in-Ok-insert_full.ensures.keys
     (c.self.invariant).distinct (returns-clause-found c))
+
+pub returns-clause-utf8 : goal.returns-clause-utf8
+returns-clause-utf8 c = c.is_utf8.ensures.0 c.if-not-is_utf8.false
+
+pub returns-then-not-is_utf8-clause-fault : goal.returns-then-not-is_utf8-clause-fault
+returns-then-not-is_utf8-clause-fault c = λ is. false≢true (sym c.if-not-is_utf8.true ∙ c.is_utf8.ensures.1 is)
