@@ -1,5 +1,5 @@
 //! The loop, and what it promises.
-ghost use Rattle.std.specs.Prelude.{◌≡◌, ◌<◌, ◌⊎◌, ◌↔◌, ℕ, Bool, List, length, take, slice_index, Contains, IfOk, OnOk};
+ghost use Rattle.std.specs.Prelude.{◌≡◌, ◌<◌, ◌⊎◌, ◌↔◌, ℕ, Bool, List, [], length, take, slice_index, Contains, IfOk, OnOk};
 ghost use Rattle.esto_semantics.specs.Maps.{AreFlat};
 ghost use Rattle.esto_semantics.specs.Rules.{Rule};
 ghost use Rattle.esto_semantics.specs.Sets.{Has};
@@ -12,7 +12,7 @@ ghost use Rattle.esto_world_laws.specs.Derived.{AreDerived};
 ghost use Rattle.esto_world_laws.specs.Laws.{AreGiven, IsSound, IsReceivedNowhere, IsDatabase, AreNestedWithin};
 ghost use Rattle.esto_world_laws.specs.Steps.{AreAnswered, AreJoined};
 ghost use Rattle.esto_world_laws.specs.Worlds.{InWorld, AreOfCount, IsClosed, IsBroken, IsDenied};
-ghost use Rattle.esto_condchase.specs.Rounds.{IsEntryOf, IsGrownBy};
+ghost use Rattle.esto_condchase.specs.Rounds.{IsAdded, IsEntryOf, IsGrownBy};
 ghost use Rattle.esto_world_laws.specs.declared.entry.Entry.{Entry};
 
 use crate::covering::{add, add_all};
@@ -54,6 +54,42 @@ fn entry_of(alloc: Global, fact: &ExpandedFact, atoms: usize) -> Result<Entry, O
     })
 }
 
+/// Adds the entry of an expanded fact, unless the entries cover it.
+fn give(
+    alloc: Global,
+    fact: &ExpandedFact,
+    atoms: usize,
+    entries: &mut Known,
+) -> Result<(), OutOfMemory>
+    requires atom { fact.now.atom < atoms }
+    requires counts { AreOfCount atoms entries.old }
+    ensures { OnOk result ((entry : Entry) × IsEntryOf fact.now entry
+        × (length entry.product ≡ atoms)
+        × IsAdded entries.old entry.claim entry.product entry.reason entries.new) }
+{
+    let entry = entry_of(alloc, fact, atoms)?;
+    add(alloc, entries, &entry)
+}
+
+/// Puts the entries of the expanded facts, where there are none yet.
+fn give_all(
+    alloc: Global,
+    facts: &[ExpandedFact],
+    atoms: usize,
+    entries: &mut Known,
+) -> Result<(), OutOfMemory>
+    requires atoms { (fact : ExpandedFact) → Contains facts.now fact → fact.atom < atoms }
+    requires none { entries.old ≡ [] }
+    ensures derived { OnOk result ((rules : List Rule) → AreDerived facts.now rules entries.new) }
+    ensures counted { OnOk result (AreOfCount atoms entries.new) }
+    ensures given { OnOk result (AreGiven facts.now entries.new) }
+{
+    'facts: for fact in facts {
+        give(alloc, fact, atoms, entries)?;
+    }
+    Ok(())
+}
+
 /// The entries of the expanded facts.
 fn given(alloc: Global, facts: &[ExpandedFact], atoms: usize) -> Result<Known, OutOfMemory>
     requires { (fact : ExpandedFact) → Contains facts.now fact → fact.atom < atoms }
@@ -63,10 +99,7 @@ fn given(alloc: Global, facts: &[ExpandedFact], atoms: usize) -> Result<Known, O
     ensures given { IfOk result (AreGiven facts.now) }
 {
     let mut entries = Known::new(alloc)?;
-    'facts: for fact in facts {
-        let entry = entry_of(alloc, fact, atoms)?;
-        add(alloc, &mut entries, &entry)?;
-    }
+    give_all(alloc, facts, atoms, &mut entries)?;
     Ok(entries)
 }
 

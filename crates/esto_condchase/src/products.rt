@@ -5,6 +5,8 @@ ghost use Rattle.esto_semantics.specs.Sets.{Covers};
 ghost use Rattle.esto_world_laws.specs.Laws.{HasMatch};
 ghost use Rattle.esto_world_laws.specs.Steps.{AreJoined};
 ghost use Rattle.esto_world_laws.specs.Worlds.{InWorld, AreOfCount};
+ghost use Rattle.esto_known.specs.Groups.{AreGroups};
+ghost use Rattle.esto_world_laws.specs.declared.entry.Entry.{Entry};
 ghost use Rattle.esto_condchase.specs.Products.{AreGroupsOf, AreReachedOf, IsNext, IsFirst};
 
 use crate::covered::telling;
@@ -87,6 +89,32 @@ fn go_on(
     Ok(())
 }
 
+/// The minimal sets of atoms in whose worlds the body has a match that makes the head one with the targets, where the
+/// groups are those of the entries.
+fn products_among(
+    alloc: Global,
+    groups: &Groups,
+    head: &Terms,
+    body: &[Atom],
+    targets: &[Term],
+    count: usize,
+) -> Result<Products, OutOfMemory>
+    requires heads { length targets.now ≡ length head.now }
+    requires groups { AreGroupsOf count groups.now }
+    ensures count { IfOk result (λ it. it.count ≡ count) }
+    ensures tell { IfOk result (λ it. (entries : List Entry) → AreGroups entries groups.now
+        → AreJoined entries entries → (set : List Bool) → Covers it.sets set
+        ↔ HasMatch (InWorld entries set) head.now body.now targets.now) }
+{
+    let mut ones = first(alloc, groups, head.items(), targets, count)?;
+    let mut from = head.copy(alloc)?;
+    'atoms: for (place, atom) in body.iter().enumerate() {
+        let rest = &body[place + 1..];
+        go_on(alloc, groups, atom, rest, count, &mut from, &mut ones)?;
+    }
+    sets_of_all(alloc, ones.items(), count)
+}
+
 /// The minimal sets of atoms in whose worlds the body has a match that makes the head, place by place, one with the
 /// targets: the world of a set has such a match exactly where one of them is a subset of the set. The links of the
 /// entries are joined.
@@ -106,19 +134,5 @@ pub fn products_of_matches(
         ↔ HasMatch (InWorld entries.now set) head.now body.now targets.now) }
 {
     let groups = Groups::of(alloc, entries, count)?;
-    let mut ones = first(alloc, &groups, head.items(), targets, count)?;
-    let mut from = head.copy(alloc)?;
-    'atoms: for (place, atom) in body.iter().enumerate() {
-        go_on(
-            alloc,
-            &groups,
-            atom,
-            &body[place + 1..],
-            count,
-            &mut from,
-            &mut ones,
-        )?;
-    }
-    let found = sets_of_all(alloc, ones.items(), count)?;
-    Ok(found)
+    products_among(alloc, &groups, head, body, targets, count)
 }
