@@ -7,3 +7,4 @@ pub mod CodingLemmas
 pub mod SortedLemmas
 pub mod IndexLemmas
 pub mod RowIndexLemmas
+pub mod FindLemmas

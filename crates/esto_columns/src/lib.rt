@@ -4,6 +4,7 @@
 
 mod codes;
 mod coding;
+mod finding;
 mod fragment;
 mod index;
 mod laws;

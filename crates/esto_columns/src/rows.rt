@@ -174,6 +174,19 @@ impl Rows {
         self.indexes.push(RowIndex { columns, index })
     }
 
+    /// The index of the rows by the columns, in this order, if they have one.
+    pub fn index_by(&self, columns: &[usize]) -> Option<&Index>
+        ensures { MatchOption result Unit (λ index.
+            IsIndexOf index.now (map (key_at columns.now) self.now.rows)) }
+    {
+        'indexes: for own in self.indexes.items() {
+            if own.columns.items() == columns {
+                return Some(&own.index);
+            }
+        }
+        None
+    }
+
     /// Places of rows in rising order, among which are all that hold the codes of the key in the columns. `None` may
     /// come where the rows have no index by these columns, in this order.
     pub fn places(
@@ -185,12 +198,10 @@ impl Rows {
         ensures { IfOk result (λ found. MatchOption found Unit (λ places.
             AreAmongPlaces key.now (map (key_at columns.now) self.now.rows) places.items)) }
     {
-        'indexes: for own in self.indexes.items() {
-            if own.columns.items() == columns {
-                let places = own.index.places(alloc, key)?;
-                return Ok(Some(places));
-            }
-        }
-        Ok(None)
+        let Some(index) = self.index_by(columns) else {
+            return Ok(None);
+        };
+        let places = index.places(alloc, key)?;
+        Ok(Some(places))
     }
 }

@@ -38,37 +38,3 @@ gains_from_none new Has gains row = (
   λ there. elim ((gains row).0 there) [ inl none ↦ absurd (Contains-nil row none) | inr has ↦ has ],
   λ has. (gains row).1 (inr has),
 )
-
--- ---- a row that stands at a place
-
--- lists of one length with the same items are one
-same_items : (xs ys : List ℕ) → length xs ≡ length ys → ((at : ℕ) → at < length xs → get_or xs at 0 ≡ get_or ys at 0) → xs ≡ ys
-same_items [] [] long same = refl
-same_items [] (y ∷ ys) long same = absurd (omega (arith, long))
-same_items (x ∷ xs) [] long same = absurd (omega (arith, long))
-same_items (x ∷ xs) (y ∷ ys) long same =
-    let first : x ≡ y = same 0 (omega arith) in
-    let rest = same_items xs ys (omega (arith, long)) (λ at below. same (suc at) (omega (arith, below))) in λ i. first i ∷ rest i
-
-pub row_there : (rows : List (List ℕ)) (place arity : ℕ) (row : List ℕ) → place < length rows → ((it : List ℕ) → Contains rows it → length it ≡ arity)
-    → length row ≡ arity → ((column : ℕ) → column < arity → get_or (get_or rows place []) column 0 ≡ get_or row column 0) → Contains rows row
-row_there rows place arity row below long own same =
-    let there : Contains rows (get_or rows place []) = Contains-get_or rows place [] below in
-    let width = long (get_or rows place []) there in
-    subst (Contains rows) (same_items (get_or rows place []) row (width ∙ sym own) (λ column within. same column (omega (arith, within, width)))) there
-
-pub same_more : (row other : List ℕ) (count : ℕ) → ((column : ℕ) → column < count → get_or row column 0 ≡ get_or other column 0)
-    → get_or row count 0 ≡ get_or other count 0 → (column : ℕ) → column < count + 1 → get_or row column 0 ≡ get_or other column 0
-same_more row other count before here column below = elim (cases_order column count) [
-  | inl same ↦ ap (λ n. get_or row n 0) same ∙ here ∙ ap (λ n. get_or other n 0) (sym same)
-  | inr (inl less) ↦ before column less
-  | inr (inr past) ↦ absurd (omega (arith, past, below))
-]
-
-pub column_code : (rows : List (List ℕ)) (place column : ℕ) (codes : List ℕ) (code : ℕ) → place < length rows
-    → codes ≡ map (λ row. get_or row column 0) rows → slice_get codes place ≡ Some code → get_or (get_or rows place []) column 0 ≡ code
-column_code rows place column codes code below is at =
-    let row = thing_at rows place below in
-    ap (λ it. get_or it column 0) (get_or_from_slice_get rows place row.0 [] row.1)
-    ∙ same_Some (get_or row.0 column 0) code
-    (sym (map_at (λ it. get_or it column 0) rows place row.0 row.1) ∙ ap (λ them. slice_get them place) (sym is) ∙ at)

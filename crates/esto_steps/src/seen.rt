@@ -4,7 +4,7 @@ ghost use Rattle.esto_columns.specs.CodedRows.{CodedRows};
 ghost use Rattle.esto_steps.specs.Joined.{GainsOnly};
 
 use esto_columns::{Index, Rows};
-use esto_term::{OutOfMemory, Values};
+use esto_term::OutOfMemory;
 use std::alloc::Global;
 use std::marker::Model;
 
@@ -25,47 +25,6 @@ impl Model for Seen {
     ghost view = { λ it. it.rows };
 }
 
-/// Whether the row stands at the place of the rows.
-fn is_at(rows: &Rows, place: usize, row: &[u64]) -> bool
-    ensures { IsTrue result → Contains rows.now.rows row.now }
-{
-    let arity = rows.arity();
-    if place >= rows.len() || row.len() != arity {
-        return false;
-    }
-    'columns: for column in 0..arity {
-        if rows.column(column).item(place) != row[column] {
-            return false;
-        }
-    }
-    true
-}
-
-/// Whether the row is one of the rows, as far as a look at those of its bucket tells.
-fn is_among(rows: &Rows, index: &Index, row: &[u64]) -> bool
-    ensures { IsTrue result → Contains rows.now.rows row.now }
-{
-    let mut next = index.last_of(row);
-    'places: while next > 0 {
-        let place = next - 1;
-        if is_at(rows, place, row) {
-            return true;
-        }
-        next = index.before(place);
-    }
-    false
-}
-
-/// Puts each of the rows into the index.
-fn index_rows(alloc: Global, rows: &Rows, index: &mut Index) -> Result<(), OutOfMemory> {
-    let mut row = Values::new(alloc);
-    'rows: for at in 0..rows.len() {
-        rows.read_row(at, &mut row)?;
-        index.add(row.items())?;
-    }
-    Ok(())
-}
-
 impl Seen {
     /// No rows of the arity, with room for so many.
     pub(crate) fn new(alloc: Global, arity: usize, room: usize) -> Result<Seen, OutOfMemory>
@@ -80,7 +39,7 @@ impl Seen {
     pub(crate) fn has(&self, row: &[u64]) -> bool
         ensures { IsTrue result → Contains self.now.rows row.now }
     {
-        is_among(&self.rows, &self.index, row)
+        self.rows.find(&self.index, row).is_some()
     }
 
     /// Sees to it that there is room for one more row.
@@ -91,8 +50,8 @@ impl Seen {
             return Ok(());
         }
         self.room = self.rows.len().saturating_mul(2).saturating_add(1);
-        self.index = Index::new(alloc, self.room)?;
-        index_rows(alloc, &self.rows, &mut self.index)
+        self.index = self.rows.own_index(alloc, self.room)?;
+        Ok(())
     }
 
     /// Puts the row at the end.
