@@ -164,12 +164,12 @@ pub asked_all : (get : Get) (rows so_far seen asked : List (List ℕ)) (count : 
 asked_all get rows so_far seen asked count past below cells row among =
     below.complete cells row (subst (λ them. Contains them cells) (sym (take_all count so_far past)) among)
 
-pub asked_turn : (get : Get) (rows so_far : List (List ℕ)) (count : ℕ) (seen asked new_seen new : List (List ℕ)) (cells given : List ℕ) → given ≡ cells
-    → count < length so_far → slice_get so_far count ≡ Some cells → IsAskedBelow get rows so_far count seen asked
+pub asked_turn : (get : Get) (rows so_far : List (List ℕ)) (count : ℕ) (seen asked new_seen new : List (List ℕ)) → count < length so_far
+    → IsAskedBelow get rows so_far count seen asked
     → ((row : List ℕ) → Contains asked row → Contains new row) → ((row : List ℕ) → Contains new row → Contains asked row ⊎ Contains rows row)
     → (AreAnswered get.inputs rows seen asked → AreAnswered get.inputs rows new_seen new)
-    → (AreAnswered get.inputs rows seen asked → (row : List ℕ) → Contains rows row → Follows get given row → Contains new row)
+    → (AreAnswered get.inputs rows seen asked → (row : List ℕ) → Contains rows row → Follows get (get_or so_far count []) row → Contains new row)
     → IsAskedBelow get rows so_far (count + 1) new_seen new
-asked_turn get rows so_far count seen asked new_seen new cells given same below is before kept sound answered complete =
-    asked_more get rows so_far count seen asked new_seen new cells below (sym (get_or_from_slice_get so_far count cells cells is)) before kept sound answered
-    (λ told row among follows. complete told row among (subst (λ it. Follows get it row) (sym same) follows))
+asked_turn get rows so_far count seen asked new_seen new below before kept sound answered complete =
+    asked_more get rows so_far count seen asked new_seen new (get_or so_far count []) below
+    (get_or_default so_far count [] (get_or so_far count []) below) before kept sound answered complete

@@ -1,5 +1,5 @@
 -- Codes that sources name, and links that are met.
-use Rattle.std.proofs.Common.{◌≡◌, ◌⊎◌, inl, inr, ℕ, zero, suc, ◌-◌, ◌<◌, ◌≤◌, nat_lt, Bool, true, false, List, [], ◌∷◌, ◌++◌, map, length, get_or, Some, None, slice_get}
+use Rattle.std.proofs.Common.{◌≡◌, ◌⊎◌, inl, inr, ℕ, zero, suc, ◌-◌, ◌<◌, ◌≤◌, nat_lt, Bool, true, false, List, [], ◌∷◌, ◌++◌, map, length, get_or, Option, Some, None, slice_get}
 use Rattle.std.proofs.Common.{Contains, refl, sym}
 use Rattle.std.proofs.Common.{ap, ◌∙◌, subst, arith}
 use Rattle.std.proofs.lemmas.Bool.Decides.{nat_tests}
@@ -95,3 +95,9 @@ pub links_name : (links : List Link) (sources columns : List Source) (cells row 
 links_name links sources columns cells row sources_are columns_are met =
     let names = met_names cells row links met in
     (names.0, subst (λ it. NamesCodes cells it names.0) (sym sources_are) names.1, subst (λ it. NamesCodes row it names.0) (sym columns_are) names.2)
+
+-- ---- a code past the cells, in a row after them
+
+pub code_back : (cells row : List ℕ) (place : ℕ) (found : Option ℕ) → length cells ≤ place → found ≡ slice_get row (place - length cells)
+    → found ≡ slice_get (cells ++ row) place
+code_back cells row place found past is = is ∙ sym (back cells row place past)

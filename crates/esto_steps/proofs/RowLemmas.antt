@@ -1,11 +1,8 @@
 -- Rows that are gained, and rows that stand at a place.
-use Rattle.std.proofs.Common.{◌≡◌, ◌↔◌, inl, inr, ℕ, suc, ◌+◌, ◌<◌, List, [], ◌∷◌, ◌++◌, map, length, get_or, Some, slice_get, Contains, refl, sym, ap}
-use Rattle.std.proofs.Common.{◌∙◌, subst, arith}
-use Rattle.std.proofs.lemmas.Bool.{cases_order}
-use Rattle.std.proofs.lemmas.List.Elements.{Contains-get_or, Contains-append_left, Contains-push, Contains-push_cases}
-use Rattle.std.proofs.lemmas.Option.{same_Some, get_or_from_slice_get}
+use Rattle.std.proofs.Common.{◌≡◌, ◌↔◌, inl, inr, ℕ, List, [], ◌∷◌, ◌++◌, Contains, sym}
+use Rattle.std.proofs.Common.{◌∙◌, subst}
+use Rattle.std.proofs.lemmas.List.Elements.{Contains-append_left, Contains-push, Contains-push_cases}
 use Rattle.esto_term.proofs.ListLemmas.{Contains-nil}
-use Rattle.esto_term.proofs.ListLemmas.{map_at, thing_at}
 use Rattle.esto_steps.specs.declared.steps.Source.{Source}
 use Rattle.esto_steps.specs.Named.{NamesCodes}
 use Rattle.esto_steps.specs.Joined.{GainsOnly}

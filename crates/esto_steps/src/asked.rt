@@ -1,5 +1,5 @@
 //! The rows of a fragment that rows so far ask for.
-ghost use Rattle.std.specs.Prelude.{◌≡◌, ◌++◌, ◌⊎◌, [], List, ℕ, length, map, Contains, IfOk, OnOk};
+ghost use Rattle.std.specs.Prelude.{◌≡◌, ◌++◌, ◌⊎◌, ◌<◌, [], List, ℕ, length, map, slice_index_or, Contains, IfOk, OnOk};
 ghost use Rattle.std.specs.List.{filter};
 ghost use Rattle.esto_columns.specs.Asked.{IsAllowed, holds_all};
 ghost use Rattle.esto_steps.specs.Meaning.{Follows};
@@ -67,16 +67,18 @@ fn push_asked<F: Fragment>(
     push_rows(alloc, &rows, asked)
 }
 
-/// Asks the fragment for the rows that have the inputs of the row so far, if they are not asked for yet.
+/// Asks the fragment for the rows that have the inputs of the row so far at the place, if they are not asked for yet.
 fn ask<F: Fragment>(
     alloc: Global,
     get: &Get,
     fragment: &F,
-    cells: &[u64],
+    so_far: &Rows,
+    at: usize,
     sources: &Sources,
     seen: &mut Seen,
     asked: &mut Rows,
 ) -> Result<(), OutOfMemory>
+    requires there { at < length so_far.now.rows }
     requires allowed { IsAllowed (F.shape fragment.now) (map (λ link. link.column) get.now.inputs) }
     requires sources { sources.now ≡ map (λ link. link.source) get.now.inputs }
     requires arity { asked.old.arity ≡ (F.shape fragment.now).arity }
@@ -93,9 +95,9 @@ fn ask<F: Fragment>(
     ensures complete { OnOk result
         (AreAnswered get.now.inputs (F.rows fragment.now) seen.old.rows asked.old.rows
         → (row : List ℕ) → Contains (F.rows fragment.now) row
-        → Follows get.now cells.now row → Contains asked.new.rows row) }
+        → Follows get.now (slice_index_or so_far.now.rows at []) row → Contains asked.new.rows row) }
 {
-    let Some(key) = codes_at(alloc, cells, sources)? else {
+    let Some(key) = codes_at(alloc, so_far, at, sources)? else {
         return Ok(());
     };
     if seen.has(key.items()) {
@@ -125,10 +127,8 @@ fn ask_each<F: Fragment>(
         → Contains so_far.now.rows cells → Contains (F.rows fragment.now) row
         → Follows get.now cells row → Contains asked.new.rows row) }
 {
-    let mut cells = Values::new(alloc);
     'rows: for at in 0..so_far.len() {
-        so_far.read_row(at, &mut cells)?;
-        ask(alloc, get, fragment, cells.items(), sources, seen, asked)?;
+        ask(alloc, get, fragment, so_far, at, sources, seen, asked)?;
     }
     Ok(())
 }

@@ -4,10 +4,10 @@ ghost use Rattle.esto_steps.specs.declared.steps.Link.{Link};
 
 use crate::links::sources_of;
 use crate::probe::places_met;
-use crate::sample::{Buffers, place_in, read_key, scaled};
+use crate::sample::{place_in, read_key, scaled};
 use crate::steps::{Link, Links, Sources};
 use esto_columns::{Index, Rows};
-use esto_term::{List, OutOfMemory};
+use esto_term::{List, OutOfMemory, Values};
 use std::alloc::Global;
 
 /// How many of the rows so far are tried, at most.
@@ -127,12 +127,12 @@ fn chain_at(
     sources: &Sources,
     index: &Index,
     most: usize,
-    buffers: &mut Buffers,
+    key: &mut Values<u64>,
 ) -> Result<usize, OutOfMemory> {
-    if !read_key(so_far, at, sources, buffers)? {
+    if !read_key(so_far, at, sources, key)? {
         return Ok(0);
     }
-    Ok(chain_length(index, buffers.key.items(), most))
+    Ok(chain_length(index, key.items(), most))
 }
 
 /// Whether no more places than the most are on the chains of all rows so far.
@@ -143,10 +143,10 @@ fn are_at_most(
     index: &Index,
     most: usize,
 ) -> Result<bool, OutOfMemory> {
-    let mut buffers = Buffers::new(alloc);
+    let mut key = Values::new(alloc);
     let mut left = most;
     'rows: for at in 0..so_far.len() {
-        let count = chain_at(so_far, at, sources, index, left, &mut buffers)?;
+        let count = chain_at(so_far, at, sources, index, left, &mut key)?;
         if count > left {
             return Ok(false);
         }

@@ -1,6 +1,6 @@
 //! How many of a table's rows have one of some keys. Nothing rests on it but speed, so nothing here has a contract.
 use crate::links::columns_of;
-use crate::sample::{Buffers, place_in, read_key, scaled};
+use crate::sample::{place_in, read_key, scaled};
 use crate::seen::Seen;
 use crate::steps::{Links, Sources};
 use esto_columns::Rows;
@@ -16,12 +16,12 @@ const MOST: usize = 65_536;
 /// How many of the places that an index gives for a key are looked at.
 const PER_KEY: usize = 512;
 
-/// How many rows were counted, how many places were found for their keys, and lists that are filled anew for each.
+/// How many rows were counted, how many places were found for their keys, and a key that is read anew for each.
 #[derive(Drop)]
 struct Counts {
     rows: usize,
     places: usize,
-    buffers: Buffers,
+    key: Values<u64>,
 }
 
 impl Counts {
@@ -30,7 +30,7 @@ impl Counts {
         Counts {
             rows: 0,
             places: 0,
-            buffers: Buffers::new(alloc),
+            key: Values::new(alloc),
         }
     }
 }
@@ -52,11 +52,11 @@ fn count_some(
 ) -> Result<usize, OutOfMemory> {
     let step = rows.len() / LOOKED + 1;
     let looked = rows.len() / step;
-    let mut buffers = Buffers::new(alloc);
+    let mut key = Values::new(alloc);
     let mut count: usize = 0;
     'rows: for turn in 0..looked {
-        let named = read_key(rows, place_in(turn, step), columns, &mut buffers)?;
-        if named && keys.has(buffers.key.items()) {
+        let named = read_key(rows, place_in(turn, step), columns, &mut key)?;
+        if named && keys.has(key.items()) {
             count = count.saturating_add(1);
         }
     }
@@ -69,15 +69,15 @@ fn count_key(
     places: &[usize],
     columns: &Sources,
     key: &[u64],
-    buffers: &mut Buffers,
+    own: &mut Values<u64>,
 ) -> Result<usize, OutOfMemory> {
     let step = places.len() / PER_KEY + 1;
     let looked = places.len() / step;
     let mut count: usize = 0;
     'places: for turn in 0..looked {
         let place = place_at(places, place_in(turn, step));
-        let named = read_key(rows, place, columns, buffers)?;
-        if named && buffers.key.items() == key {
+        let named = read_key(rows, place, columns, own)?;
+        if named && own.items() == key {
             count = count.saturating_add(1);
         }
     }
@@ -116,7 +116,7 @@ fn count_key_by(
     if counts.places > MOST {
         return Ok(false);
     }
-    let count = count_key(rows, places.as_slice(), columns, key, &mut counts.buffers)?;
+    let count = count_key(rows, places.as_slice(), columns, key, &mut counts.key)?;
     counts.rows = counts.rows.saturating_add(count);
     Ok(true)
 }

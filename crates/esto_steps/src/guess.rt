@@ -11,21 +11,8 @@ use std::alloc::Global;
 /// How many of the rows so far a guess looks at.
 const SAMPLE: usize = 64;
 
-/// Puts the codes that the sources name in the cells after the keys, if they are new.
+/// Puts the codes that the sources name in the row at the place, if there is one, after the keys, if they are new.
 fn put_key(
-    alloc: Global,
-    cells: &[u64],
-    sources: &Sources,
-    keys: &mut Seen,
-) -> Result<(), OutOfMemory> {
-    match codes_at(alloc, cells, sources)? {
-        Some(key) => keys.put_new(alloc, key.items()),
-        None => Ok(()),
-    }
-}
-
-/// The same for the cells of the row at the place, if there is one.
-fn put_key_at(
     alloc: Global,
     rows: &Rows,
     at: usize,
@@ -35,8 +22,10 @@ fn put_key_at(
     if at >= rows.len() {
         return Ok(());
     }
-    let cells = rows.row(alloc, at)?;
-    put_key(alloc, cells.items(), sources, keys)
+    match codes_at(alloc, rows, at, sources)? {
+        Some(key) => keys.put_new(alloc, key.items()),
+        None => Ok(()),
+    }
 }
 
 /// Puts the codes that the links name in some of the rows, which are spread evenly over all, after the keys.
@@ -49,7 +38,7 @@ fn put_some_keys(
     let step = rows.len() / SAMPLE + 1;
     let sources = sources_of(alloc, links)?;
     'sample: for turn in 0..SAMPLE {
-        put_key_at(alloc, rows, step.saturating_mul(turn), &sources, keys)?;
+        put_key(alloc, rows, step.saturating_mul(turn), &sources, keys)?;
     }
     Ok(())
 }

@@ -9,12 +9,11 @@ use esto_term::{OutOfMemory, Values};
 use std::alloc::Global;
 
 /// Puts the key of the row at the place into the index of the rows before it: the codes that the columns name in it,
-/// and any where they don't all name one. The row and the key are read into the two lists.
+/// and any where they don't all name one. The key is read into the list.
 fn index_row(
     rows: &Rows,
     columns: &Sources,
     at: usize,
-    row: &mut Values<u64>,
     key: &mut Values<u64>,
     index: &mut Index,
 ) -> Result<(), OutOfMemory>
@@ -22,8 +21,7 @@ fn index_row(
     requires own { FindsRows (take at rows.now.rows) columns.now index.old }
     ensures { OnOk result (FindsRows (take (at + 1) rows.now.rows) columns.now index.new) }
 {
-    rows.read_row(at, row)?;
-    name_codes(row.items(), columns, key)?;
+    name_codes(&[], rows, at, columns, key)?;
     index.add(key.items())
 }
 
@@ -32,10 +30,9 @@ pub(crate) fn index_of(alloc: Global, rows: &Rows, columns: &Sources) -> Result<
     ensures { IfOk result (FindsRows rows.now.rows columns.now) }
 {
     let mut index = Index::new(alloc, rows.len())?;
-    let mut row = Values::new(alloc);
     let mut key = Values::new(alloc);
     'rows: for at in 0..rows.len() {
-        index_row(rows, columns, at, &mut row, &mut key, &mut index)?;
+        index_row(rows, columns, at, &mut key, &mut index)?;
     }
     Ok(index)
 }

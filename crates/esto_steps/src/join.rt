@@ -1,5 +1,5 @@
 //! Rows so far joined with rows of a fragment.
-ghost use Rattle.std.specs.Prelude.{◌≡◌, ◌↔◌, ◌++◌, ◌<◌, [], List, ℕ, Some, slice_get, length, drop, map};
+ghost use Rattle.std.specs.Prelude.{◌≡◌, ◌↔◌, ◌<◌, [], List, ℕ, Some, slice_get, slice_index_or, length, map};
 ghost use Rattle.std.specs.Prelude.{Contains, IfOk, OnOk, IsTrue};
 ghost use Rattle.esto_steps.specs.Meaning.{IsMet, Follows};
 ghost use Rattle.esto_steps.specs.declared.steps.Link.{Link};
@@ -10,7 +10,7 @@ ghost use Rattle.esto_steps.specs.Indexed.{FindsRows};
 ghost use Rattle.esto_steps.specs.Joined.{IsJoin, IsFollower, IsFollowerAt, IsKept, GainsOnly};
 ghost use Rattle.esto_steps.specs.Named.{NamesCodes};
 
-use crate::codes::{each_met, name_codes};
+use crate::codes::{each_met, each_passed, name_codes};
 use crate::index::index_of;
 use crate::links::{columns_of, early_links, sources_of};
 use crate::seen::{Seen, put_unseen};
@@ -26,13 +26,12 @@ pub struct Join<'a> {
     pub kept: &'a Sources,
 }
 
-/// Lists that are filled anew for each row: the cells of a row so far and its key, the cells with those of a row of the
-/// fragment after them, and what is kept of these.
+/// Lists that are filled anew for each row: the cells of a row so far and its key, and what is kept of the cells with
+/// those of a row of the fragment after them.
 #[derive(Drop)]
 pub(crate) struct Buffers {
     pub(crate) cells: Values<u64>,
     key: Values<u64>,
-    both: Values<u64>,
     kept: Values<u64>,
 }
 
@@ -42,47 +41,18 @@ impl Buffers {
         Buffers {
             cells: Values::new(alloc),
             key: Values::new(alloc),
-            both: Values::new(alloc),
             kept: Values::new(alloc),
         }
     }
 }
 
-/// Makes the codes the cells with those of the row at the place after them.
-fn append_row(
-    cells: &[u64],
-    rows: &Rows,
-    place: usize,
-    both: &mut Values<u64>,
-) -> Result<(), OutOfMemory>
+/// Whether the row at the place follows the cells.
+fn follows(get: &Get, cells: &[u64], rows: &Rows, place: usize) -> bool
     requires { place < length rows.now.rows }
-    ensures { OnOk result ((row : List ℕ)
-        × (slice_get rows.now.rows place ≡ Some row) × (both.new ≡ cells.now ++ row)) }
+    ensures { IsTrue result
+        ↔ Follows get.now cells.now (slice_index_or rows.now.rows place []) }
 {
-    both.truncate(0);
-    'cells: for code in cells {
-        both.push(*code)?;
-    }
-    rows.push_row(place, both)
-}
-
-/// The codes of the two that stand past so many.
-fn past(both: &[u64], width: usize) -> &[u64]
-    ensures { result.now ≡ drop width both.now }
-{
-    if width < both.len() {
-        &both[width..]
-    } else {
-        &[]
-    }
-}
-
-/// Whether the row follows the cells; the two are also given one after the other.
-fn follows(get: &Get, cells: &[u64], both: &[u64], row: &[u64]) -> bool
-    requires { both.now ≡ cells.now ++ row.now }
-    ensures { IsTrue result ↔ Follows get.now cells.now row.now }
-{
-    each_met(cells, row, &get.inputs) && each_met(both, row, &get.filters)
+    each_met(cells, rows, place, &get.inputs) && each_passed(cells, rows, place, &get.filters)
 }
 
 /// Puts what is kept of the cells with the row at the place after them at the end, where the row is there and follows
@@ -104,13 +74,11 @@ pub(crate) fn push_follower(
     if place >= rows.len() {
         return Ok(());
     }
-    append_row(buffers.cells.items(), rows, place, &mut buffers.both)?;
     let cells = buffers.cells.items();
-    let both = buffers.both.items();
-    if !follows(join.get, cells, both, past(both, cells.len())) {
+    if !follows(join.get, cells, rows, place) {
         return Ok(());
     }
-    if !name_codes(both, join.kept, &mut buffers.kept)? {
+    if !name_codes(cells, rows, place, join.kept, &mut buffers.kept)? {
         return Ok(());
     }
     put_unseen(alloc, into, buffers.kept.items())
@@ -165,10 +133,10 @@ fn push_joined(
         → GainsOnly into.old.rows into.new.rows
         (IsKept join.now.kept.now (IsFollower join.now.get.now cells rows.now.rows))) }
 {
-    so_far.read_row(at, &mut buffers.cells)?;
-    if !name_codes(buffers.cells.items(), sources, &mut buffers.key)? {
+    if !name_codes(&[], so_far, at, sources, &mut buffers.key)? {
         return Ok(());
     }
+    so_far.read_row(at, &mut buffers.cells)?;
     push_followers(alloc, join, rows, index, buffers, into)
 }
 

@@ -9,13 +9,12 @@ use esto_columns::Rows;
 use esto_term::{OutOfMemory, Values};
 use std::alloc::Global;
 
-/// Puts the codes of the head in the row at the place at the end, where each is there. The row and the codes are read
-/// into the two lists.
+/// Puts the codes of the head in the row at the place at the end, where each is there. The codes are read into the
+/// list.
 fn push_projected(
     head: &Sources,
     rows: &Rows,
     at: usize,
-    cells: &mut Values<u64>,
     codes: &mut Values<u64>,
     into: &mut Rows,
 ) -> Result<(), OutOfMemory>
@@ -25,8 +24,7 @@ fn push_projected(
     ensures rows { OnOk result ((row : List ℕ) → slice_get rows.now.rows at ≡ Some row
         → GainsOnly into.old.rows into.new.rows (NamesCodes row head.now)) }
 {
-    rows.read_row(at, cells)?;
-    if !name_codes(cells.items(), head, codes)? {
+    if !name_codes(&[], rows, at, head, codes)? {
         return Ok(());
     }
     into.add(codes.items())
@@ -44,10 +42,9 @@ fn push_each_projected(
     ensures rows { OnOk result ((row : List ℕ) → Contains into.new.rows row
         ↔ ((end : List ℕ) × Contains rows.now.rows end × NamesCodes end head.now row)) }
 {
-    let mut cells = Values::new(alloc);
     let mut codes = Values::new(alloc);
     'rows: for at in 0..rows.len() {
-        push_projected(head, rows, at, &mut cells, &mut codes, into)?;
+        push_projected(head, rows, at, &mut codes, into)?;
     }
     Ok(())
 }

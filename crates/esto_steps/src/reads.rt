@@ -130,14 +130,15 @@ fn push_first(
         → AreStood cells.now (take (at + 1) rows.now.rows) seen.new.rows few.new.rows) }
 {
     let _arity = rows.arity();
-    rows.read_row(at, &mut buffers.row)?;
-    if !name_codes(buffers.row.items(), cells, &mut buffers.key)? {
+    if !name_codes(&[], rows, at, cells, &mut buffers.key)? {
+        rows.read_row(at, &mut buffers.row)?;
         return few.add(buffers.row.items());
     }
     if seen.has(buffers.key.items()) {
         return Ok(());
     }
     seen.put(alloc, buffers.key.items())?;
+    rows.read_row(at, &mut buffers.row)?;
     few.add(buffers.row.items())
 }
 

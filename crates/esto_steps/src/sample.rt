@@ -4,27 +4,9 @@ use crate::codes::name_codes;
 use crate::steps::Sources;
 use esto_columns::Rows;
 use esto_term::{OutOfMemory, Values};
-use std::alloc::Global;
 
 /// By what the number of a stretch is multiplied to scatter the places that are looked at.
 const FACTOR: u64 = 0x9E37_79B9_7F4A_7C15;
-
-/// Lists that are filled anew for each row: its codes, and those in the columns.
-#[derive(Drop)]
-pub(crate) struct Buffers {
-    row: Values<u64>,
-    pub(crate) key: Values<u64>,
-}
-
-impl Buffers {
-    /// Empty lists, which take no memory.
-    pub(crate) fn new(alloc: Global) -> Buffers {
-        Buffers {
-            row: Values::new(alloc),
-            key: Values::new(alloc),
-        }
-    }
-}
 
 /// How many there are among all, where so many were counted among some of them.
 pub(crate) fn scaled(count: usize, looked: usize, all: usize) -> usize {
@@ -44,11 +26,10 @@ pub(crate) fn read_key(
     rows: &Rows,
     at: usize,
     columns: &Sources,
-    buffers: &mut Buffers,
+    key: &mut Values<u64>,
 ) -> Result<bool, OutOfMemory> {
     if at >= rows.len() {
         return Ok(false);
     }
-    rows.read_row(at, &mut buffers.row)?;
-    name_codes(buffers.row.items(), columns, &mut buffers.key)
+    name_codes(&[], rows, at, columns, key)
 }

@@ -1,4 +1,4 @@
-use Rattle.std.proofs.Common.{inl, inr, ℕ, List, [], ◌∷◌, ◌++◌, refl, sym, subst, ap, ◌∙◌}
+use Rattle.std.proofs.Common.{inl, inr, ℕ, List, [], ◌∷◌, ◌++◌, get_or, refl, sym, subst, ap, ◌∙◌}
 use Rattle.std.proofs.lemmas.Option.{MatchOption-at_none, MatchOption-at_some}
 use Rattle.std.proofs.lemmas.Result.{on_ok_weaker}
 use Rattle.std.specs.List.{filter}
@@ -20,9 +20,9 @@ returns-in_default-clause-answered g c = λ answered. answered
 
 pub returns-in_default-clause-complete : goal.returns-in_default-clause-complete
 returns-in_default-clause-complete g c = λ answered row among follows.
-    absurd (MatchOption-at_none (¬ ((codes : List ℕ) × NamesCodes c.args.cells.now c.args.sources.now codes))
-    (NamesCodes c.args.cells.now c.args.sources.now) c.in_default.is c.in_ok-key.ensures
-    (named_by c.args.get.now (g.F.Fragment.rows c.args.fragment.now) c.args.cells.now c.args.sources.now c.requires.sources row follows))
+    absurd (MatchOption-at_none (¬ ((codes : List ℕ) × NamesCodes (get_or c.args.so_far.now.rows c.args.at []) c.args.sources.now codes))
+    (NamesCodes (get_or c.args.so_far.now.rows c.args.at []) c.args.sources.now) c.in_default.is c.in_ok-key.ensures
+    (named_by c.args.get.now (g.F.Fragment.rows c.args.fragment.now) (get_or c.args.so_far.now.rows c.args.at []) c.args.sources.now c.requires.sources row follows))
 
 pub returns-then-has-clause-kept : goal.returns-then-has-clause-kept
 returns-then-has-clause-kept g c = λ row has. has
@@ -35,26 +35,26 @@ returns-then-has-clause-answered g c = λ answered. answered
 
 pub returns-then-has-clause-complete : goal.returns-then-has-clause-complete
 returns-then-has-clause-complete g c =
-    seen_complete c.args.get.now (g.F.Fragment.rows c.args.fragment.now) c.args.cells.now c.args.sources.now c.requires.sources c.items.result.now
-    (subst (NamesCodes c.args.cells.now c.args.sources.now) (sym c.items.ensures)
-    (MatchOption-at_some (¬ ((codes : List ℕ) × NamesCodes c.args.cells.now c.args.sources.now codes))
-    (NamesCodes c.args.cells.now c.args.sources.now) c.in-Some.key c.in-Some.is c.in_ok-key.ensures))
+    seen_complete c.args.get.now (g.F.Fragment.rows c.args.fragment.now) (get_or c.args.so_far.now.rows c.args.at []) c.args.sources.now c.requires.sources c.items.result.now
+    (subst (NamesCodes (get_or c.args.so_far.now.rows c.args.at []) c.args.sources.now) (sym c.items.ensures)
+    (MatchOption-at_some (¬ ((codes : List ℕ) × NamesCodes (get_or c.args.so_far.now.rows c.args.at []) c.args.sources.now codes))
+    (NamesCodes (get_or c.args.so_far.now.rows c.args.at []) c.args.sources.now) c.in-Some.key c.in-Some.is c.in_ok-key.ensures))
     c.args.seen.now.rows c.args.asked.now.rows (c.has.ensures c.if-has.true)
 
 pub put-requires : goal.put-requires
 put-requires g c =
-    named_length c.args.get.now.inputs c.args.cells.now c.args.sources.now c.requires.sources c.items-2.result.now
-    (subst (NamesCodes c.args.cells.now c.args.sources.now) (sym c.items-2.ensures)
-    (MatchOption-at_some (¬ ((codes : List ℕ) × NamesCodes c.args.cells.now c.args.sources.now codes))
-    (NamesCodes c.args.cells.now c.args.sources.now) c.in-Some.key c.in-Some.is c.in_ok-key.ensures))
+    named_length c.args.get.now.inputs (get_or c.args.so_far.now.rows c.args.at []) c.args.sources.now c.requires.sources c.items-2.result.now
+    (subst (NamesCodes (get_or c.args.so_far.now.rows c.args.at []) c.args.sources.now) (sym c.items-2.ensures)
+    (MatchOption-at_some (¬ ((codes : List ℕ) × NamesCodes (get_or c.args.so_far.now.rows c.args.at []) c.args.sources.now codes))
+    (NamesCodes (get_or c.args.so_far.now.rows c.args.at []) c.args.sources.now) c.in-Some.key c.in-Some.is c.in_ok-key.ensures))
     ∙ sym c.requires.width
 
 pub push_asked-requires-clause-key : goal.push_asked-requires-clause-key
 push_asked-requires-clause-key g c =
-    named_length c.args.get.now.inputs c.args.cells.now c.args.sources.now c.requires.sources c.items-3.result.now
-    (subst (NamesCodes c.args.cells.now c.args.sources.now) (sym c.items-3.ensures)
-    (MatchOption-at_some (¬ ((codes : List ℕ) × NamesCodes c.args.cells.now c.args.sources.now codes))
-    (NamesCodes c.args.cells.now c.args.sources.now) c.in-Some.key c.in-Some.is c.in_ok-key.ensures))
+    named_length c.args.get.now.inputs (get_or c.args.so_far.now.rows c.args.at []) c.args.sources.now c.requires.sources c.items-3.result.now
+    (subst (NamesCodes (get_or c.args.so_far.now.rows c.args.at []) c.args.sources.now) (sym c.items-3.ensures)
+    (MatchOption-at_some (¬ ((codes : List ℕ) × NamesCodes (get_or c.args.so_far.now.rows c.args.at []) c.args.sources.now codes))
+    (NamesCodes (get_or c.args.so_far.now.rows c.args.at []) c.args.sources.now) c.in-Some.key c.in-Some.is c.in_ok-key.ensures))
 
 pub returns-clause-arity : goal.returns-clause-arity
 returns-clause-arity g c = on_ok_weaker c.push_asked.result (λ grown. ap (λ (it : CodedRows). it.arity) grown) c.push_asked.ensures
@@ -95,8 +95,8 @@ returns-clause-complete g c =
     (filter (holds_all (inputs_with c.args.get.now.inputs c.items-3.result.now)) (g.F.Fragment.rows c.args.fragment.now))
     (ap (λ (it : CodedRows). it.rows) grown) (g.F.Fragment.rows c.args.fragment.now) (inputs_with c.args.get.now.inputs c.items-3.result.now)
     refl
-    c.args.get.now c.items-3.result.now refl c.args.seen.now.rows c.args.cells.now c.args.sources.now c.requires.sources
-    (subst (NamesCodes c.args.cells.now c.args.sources.now) (sym c.items-3.ensures)
-    (MatchOption-at_some (¬ ((codes : List ℕ) × NamesCodes c.args.cells.now c.args.sources.now codes))
-    (NamesCodes c.args.cells.now c.args.sources.now) c.in-Some.key c.in-Some.is c.in_ok-key.ensures)))
+    c.args.get.now c.items-3.result.now refl c.args.seen.now.rows (get_or c.args.so_far.now.rows c.args.at []) c.args.sources.now c.requires.sources
+    (subst (NamesCodes (get_or c.args.so_far.now.rows c.args.at []) c.args.sources.now) (sym c.items-3.ensures)
+    (MatchOption-at_some (¬ ((codes : List ℕ) × NamesCodes (get_or c.args.so_far.now.rows c.args.at []) c.args.sources.now codes))
+    (NamesCodes (get_or c.args.so_far.now.rows c.args.at []) c.args.sources.now) c.in-Some.key c.in-Some.is c.in_ok-key.ensures)))
     c.push_asked.ensures

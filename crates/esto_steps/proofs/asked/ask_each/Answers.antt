@@ -13,6 +13,9 @@ rows-init g c = (
   ap (λ (it : CodedRows). it.arity) c.requires.unseen,
 )
 
+pub ask-requires-clause-there : goal.ask-requires-clause-there
+ask-requires-clause-there g c = subst (λ it. c.rows.at < it) c.len-at-end.ensures c.rows-test.true
+
 pub ask-requires-clause-arity : goal.ask-requires-clause-arity
 ask-requires-clause-arity g c = c.rows.invariant.1
 
@@ -22,8 +25,7 @@ ask-requires-clause-width g c = c.rows.invariant.2
 pub rows-preserved : goal.rows-preserved
 rows-preserved g c = (
   asked_turn c.args.get.now (g.F.Fragment.rows c.args.fragment.now) c.args.so_far.now.rows c.rows.at c.rows.seen.rows c.rows.asked.rows c.ask.new.seen.rows
-      c.ask.new.asked.rows c.read_row.new.codes c.items.result.now c.items.ensures
-      (subst (λ it. c.rows.at < it) c.len-at-end.ensures c.rows-test.true) c.in_ok-read_row.ensures c.rows.invariant.0 c.in_ok-ask.ensures.kept
+      c.ask.new.asked.rows (subst (λ it. c.rows.at < it) c.len-at-end.ensures c.rows-test.true) c.rows.invariant.0 c.in_ok-ask.ensures.kept
       c.in_ok-ask.ensures.sound c.in_ok-ask.ensures.answered c.in_ok-ask.ensures.complete,
   c.in_ok-ask.ensures.arity ∙ c.rows.invariant.1,
   c.in_ok-ask.ensures.width ∙ c.rows.invariant.2,

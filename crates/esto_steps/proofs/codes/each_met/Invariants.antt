@@ -1,6 +1,7 @@
+use Rattle.std.proofs.Common.{[], get_or}
 use Rattle.esto_term.proofs.ListLemmas.{HoldsBelow}
 use Rattle.esto_steps.specs.Meaning.{IsMet}
 use Rattle.esto_steps.proofs.codes.each_met.Given as goal
 
 abbrev pub invariant-links : goal.invariant-links
-invariant-links l = HoldsBelow (λ _ link. IsMet l.cells l.row link) l.link-items l.link-index
+invariant-links l = HoldsBelow (λ _ link. IsMet l.cells (get_or l.rows.rows l.place []) link) l.link-items l.link-index

@@ -1,7 +1,7 @@
-use Rattle.std.proofs.Common.{◌≡◌, ◌++◌, drop, length, sym, subst, ap, ◌∙◌, arith}
+use Rattle.std.proofs.Common.{◌<◌, [], ◌++◌, get_or, sym, subst, ap, ◌∙◌, arith}
 use Rattle.std.proofs.lemmas.Bool.{false≢true}
+use Rattle.std.proofs.lemmas.Option.{slice_get-get_or}
 use Rattle.std.proofs.lemmas.Result.{on_ok_weaker}
-use Rattle.std.proofs.Math.Seq.{drop-append_seam}
 use Rattle.esto_steps.specs.Meaning.{Follows}
 use Rattle.esto_steps.specs.Named.{NamesCodes}
 use Rattle.esto_steps.proofs.NamedLemmas.{names_true, names_false}
@@ -15,41 +15,31 @@ returns-then-place-len-clause-rows c =
 
 pub returns-then-not-follows-clause-rows : goal.returns-then-not-follows-clause-rows
 returns-then-not-follows-clause-rows c =
-    let found = c.in_ok-append_row.ensures in
-    let cells_are : c.items-cells.result.now ≡ c.args.buffers.now.cells = c.items-cells.ensures in
-    let both_are : c.items-both.result.now ≡ c.args.buffers.now.cells ++ found.0 =
-    c.items-both.ensures ∙ found.2 ∙ ap (λ it. it ++ found.0) c.items.ensures in
-    let row_is : c.past.result.now ≡ found.0 =
-    c.past.ensures ∙ (λ i. drop (length (cells_are i)) (both_are i)) ∙ drop-append_seam c.args.buffers.now.cells found.0 in
-    gains_unless c.args.join.now.get.now c.args.join.now.kept.now c.args.buffers.now.cells c.args.rows.now.rows c.args.into.now.rows c.args.place
-    found.0 found.1
+    let row = get_or c.args.rows.now.rows c.args.place [] in
+    gains_unless c.args.join.now.get.now c.args.join.now.kept.now c.args.buffers.now.cells c.args.rows.now.rows c.args.into.now.rows c.args.place row
+    (slice_get-get_or c.args.rows.now.rows c.args.place [] (subst (λ it. c.args.place < it) c.len.ensures c.if-place-len.false))
     (λ follows. false≢true (sym c.if-not-follows.true ∙ c.follows.ensures.1
-    (subst (Follows c.args.join.now.get.now c.items-cells.result.now) (sym row_is)
-    (subst (λ cells. Follows c.args.join.now.get.now cells found.0) (sym cells_are) follows))))
+    (subst (λ cells. Follows c.args.join.now.get.now cells row) (sym c.items-cells.ensures) follows)))
 
 pub returns-then-not-branch-clause-rows : goal.returns-then-not-branch-clause-rows
 returns-then-not-branch-clause-rows c =
-    let found = c.in_ok-append_row.ensures in
-    gains_unnamed c.args.join.now.get.now c.args.join.now.kept.now c.args.buffers.now.cells c.args.rows.now.rows c.args.into.now.rows c.args.place
-    found.0 c.items-both.result.now found.1 (c.items-both.ensures ∙ found.2 ∙ ap (λ it. it ++ found.0) c.items.ensures)
-    (names_false c.items-both.result.now c.args.join.now.kept.now c.name_codes.new.codes c.in_ok-name_codes.field-0 c.in_ok-name_codes.ensures
-    c.if-not-branch.true)
+    let row = get_or c.args.rows.now.rows c.args.place [] in
+    let both = c.items-cells.result.now ++ row in
+    gains_unnamed c.args.join.now.get.now c.args.join.now.kept.now c.args.buffers.now.cells c.args.rows.now.rows c.args.into.now.rows c.args.place row both
+    (slice_get-get_or c.args.rows.now.rows c.args.place [] (subst (λ it. c.args.place < it) c.len.ensures c.if-place-len.false))
+    (ap (λ it. it ++ row) c.items-cells.ensures)
+    (names_false both c.args.join.now.kept.now c.name_codes.new.codes c.in_ok-name_codes.field-0 c.in_ok-name_codes.ensures c.if-not-branch.true)
 
 pub returns-clause-rows : goal.returns-clause-rows
 returns-clause-rows c =
-    let found = c.in_ok-append_row.ensures in
-    let cells_are : c.items-cells.result.now ≡ c.args.buffers.now.cells = c.items-cells.ensures in
-    let both_are : c.items-both.result.now ≡ c.args.buffers.now.cells ++ found.0 =
-    c.items-both.ensures ∙ found.2 ∙ ap (λ it. it ++ found.0) c.items.ensures in
-    let row_is : c.past.result.now ≡ found.0 =
-    c.past.ensures ∙ (λ i. drop (length (cells_are i)) (both_are i)) ∙ drop-append_seam c.args.buffers.now.cells found.0 in
+    let row = get_or c.args.rows.now.rows c.args.place [] in
+    let both = c.items-cells.result.now ++ row in
     on_ok_weaker c.put_unseen.result
-    (follower_kept c.args.join.now.get.now c.args.join.now.kept.now c.args.buffers.now.cells c.args.rows.now.rows c.args.into.now.rows c.put_unseen.new.seen.rows
-    c.args.place found.0 c.items-both.result.now c.items-2.result.now found.1
-    (subst (λ cells. Follows c.args.join.now.get.now cells found.0) cells_are
-    (subst (Follows c.args.join.now.get.now c.items-cells.result.now) row_is (c.follows.ensures.0 c.if-not-follows.false)))
-    both_are
-    (subst (NamesCodes c.items-both.result.now c.args.join.now.kept.now) (sym c.items-2.ensures)
-    (names_true c.items-both.result.now c.args.join.now.kept.now c.name_codes.new.codes c.in_ok-name_codes.field-0 c.in_ok-name_codes.ensures
-    c.if-not-branch.false)))
+    (follower_kept c.args.join.now.get.now c.args.join.now.kept.now c.args.buffers.now.cells c.args.rows.now.rows c.args.into.now.rows
+    c.put_unseen.new.seen.rows c.args.place row both c.items.result.now
+    (slice_get-get_or c.args.rows.now.rows c.args.place [] (subst (λ it. c.args.place < it) c.len.ensures c.if-place-len.false))
+    (subst (λ cells. Follows c.args.join.now.get.now cells row) c.items-cells.ensures (c.follows.ensures.0 c.if-not-follows.false))
+    (ap (λ it. it ++ row) c.items-cells.ensures)
+    (subst (NamesCodes both c.args.join.now.kept.now) (sym c.items.ensures)
+    (names_true both c.args.join.now.kept.now c.name_codes.new.codes c.in_ok-name_codes.field-0 c.in_ok-name_codes.ensures c.if-not-branch.false)))
     c.put_unseen.ensures.rows
