@@ -1,14 +1,15 @@
--- Rows that are found by an index of them.
-use Rattle.std.proofs.Common.{◌≡◌, ◌↔◌, inl, inr, ℕ, ◌+◌, ◌<◌, ◌≤◌, Bool, true, false, List, [], ◌∷◌, ◌++◌, map, length, get_or, take, Some, slice_get, Contains, refl, sym, ap, ◌∙◌}
-use Rattle.std.proofs.Common.{subst, arith, IsTrue}
+-- Rows that are the same set, by marks at the places where they stand.
+use Rattle.std.proofs.Common.{◌≡◌, ◌↔◌, inl, inr, ℕ, ◌+◌, ◌<◌, ◌≤◌, Bool, true, false, List, [], ◌∷◌, ◌++◌, length, get_or, set, take, Option, Some, None, slice_get, Contains, refl, sym, ap, ◌∙◌}
+use Rattle.std.proofs.Common.{subst, arith, is_some, IsTrue, MatchOption}
 use Rattle.std.proofs.lemmas.Bool.{cases_order, false≢true}
-use Rattle.std.proofs.lemmas.List.{ext_get_or}
-use Rattle.std.proofs.lemmas.List.Elements.{Contains-get_or}
-use Rattle.std.proofs.lemmas.Option.{same_Some, slice_get_within, slice_get-get_or, get_or_from_slice_get}
-use Rattle.esto_term.proofs.ListLemmas.{place-from_Contains, map_at}
+use Rattle.std.proofs.lemmas.Bool.Decides.{eqb_tells}
+use Rattle.std.proofs.lemmas.List.{get_or-set_same, get_or-set_other, take_all}
+use Rattle.std.proofs.lemmas.List.Elements.{Contains-append_left, Contains-push, Contains-push_cases}
+use Rattle.std.proofs.lemmas.Option.{same_Some, slice_get_within}
+use Rattle.esto_term.proofs.ListLemmas.{Contains-nil, Contains-at}
 use Rattle.esto_term.proofs.PlaceLemmas.{take-there}
-use Rattle.esto_columns.specs.Indexed.{Index, LeadsOn, IsIndexOf, bucket_of}
-use Rattle.esto_columns.proofs.IndexLemmas.{OwnsLast}
+use Rattle.esto_columns.specs.RowIndexes.{StandsLast}
+use Rattle.esto_coded.specs.Same.{IsPart, AreMarked}
 
 -- ---- what is told where an answer is known
 
@@ -18,87 +19,90 @@ is_so proof = (λ told. proof, λ it. refl)
 pub is_not : {P : Type 0} → (P → ⊥) → IsTrue false ↔ P
 is_not apart = (λ wrong. absurd (false≢true wrong), λ it. absurd (apart it))
 
--- ---- an index
+-- ---- rows that are rows of others, one by one
 
--- one more row
-pub index_more : (rows : List (List ℕ)) (at : ℕ) (row given : List ℕ) (index new : Index) → slice_get rows at ≡ Some row → given ≡ row
-    → IsIndexOf index (take at rows)
-    → ((listed : List (List ℕ)) → IsIndexOf index listed → IsIndexOf new (listed ++ given ∷ [])) → IsIndexOf new (take (at + 1) rows)
-index_more rows at row given index new there same before added =
-    subst (IsIndexOf new) (ap (λ it. take at rows ++ it ∷ []) same ∙ sym (take-there rows at row there)) (added (take at rows) before)
+pub part_none : (rows others : List (List ℕ)) → IsPart (take 0 rows) others
+part_none rows others row inside = absurd (Contains-nil row inside)
 
--- ---- a walk along the chain of a row's bucket, from its last place to its first
+pub part_more : (rows others : List (List ℕ)) (at : ℕ) (row : List ℕ) → slice_get rows at ≡ Some row → Contains others row → IsPart (take at rows) others
+    → IsPart (take (at + 1) rows) others
+part_more rows others at row there found before it inside =
+    elim (Contains-push_cases (take at rows) row it (subst (λ them. Contains them it) (take-there rows at row there) inside)) [
+      | inl old ↦ before it old
+      | inr same ↦ subst (Contains others) same found
+    ]
 
-module _ (rows : List (List ℕ)) (row : List ℕ) (count : ℕ) where
-  abbrev buckets : List ℕ
-  buckets = map (bucket_of count) rows
+pub part_all : (rows others : List (List ℕ)) (count : ℕ) → length rows ≤ count → IsPart (take count rows) others → IsPart rows others
+part_all rows others count past part = subst (λ them. IsPart them others) (take_all count rows past) part
 
-  -- none of the places from `next` on holds the row, and the place before `next`, if there is one, is of its bucket
-  pub record Sought (next : ℕ) : Type 0 where
-    pub own : OwnsLast buckets (bucket_of count row) next
-    pub none : (place : ℕ) → next ≤ place → slice_get rows place ≡ Some row → ⊥
+-- a look-up that gives nothing, or a place
+pub found_none : (rows : List (List ℕ)) (row : List ℕ) (found : Option ℕ) → MatchOption found (¬ (Contains rows row)) (StandsLast rows row)
+    → is_some found ≡ false → Contains rows row → ⊥
+found_none rows row None tells is = tells
+found_none rows row (Some place) tells is = absurd (false≢true (sym is))
 
-  own_bucket : (place : ℕ) → slice_get rows place ≡ Some row → slice_get buckets place ≡ Some (bucket_of count row)
-  own_bucket place at = map_at (bucket_of count) rows place row at
+pub found_some : (rows : List (List ℕ)) (row : List ℕ) (found : Option ℕ) → MatchOption found (¬ (Contains rows row)) (StandsLast rows row)
+    → is_some found ≡ true → Contains rows row
+found_some rows row None tells is = absurd (false≢true is)
+found_some rows row (Some place) tells is = Contains-at rows place row tells.at
 
-  pub seek_start : (next : ℕ) → LeadsOn buckets (bucket_of count row) (length buckets) next → Sought next
-  seek_start next leads = record {
-    own = leads.own;
-    none = λ place past at.
-        let here = own_bucket place at in
-        let below = leads.past place (slice_get_within buckets place (bucket_of count row) here) here in
-        omega (arith, below, past);
-  }
+-- ---- marks
 
-  pub seek_on : (next place then : ℕ) → place + 1 ≡ next → LeadsOn buckets (bucket_of count row) place then
-      → (slice_get rows place ≡ Some row → ⊥) → Sought next → Sought then
-  seek_on next place then is leads other sought = record {
-    own = leads.own;
-    none = λ some past at. elim (cases_order some place) [
-      | inl same ↦ other (ap (slice_get rows) (sym same) ∙ at)
-      | inr (inl under) ↦ let below = leads.past some under (own_bucket some at) in omega (arith, below, past)
-      | inr (inr above) ↦ sought.none some (omega (arith, is, above)) at
-    ];
-  }
+pub marked_none : (rows : List (List ℕ)) (marks : List Bool) → ((at : ℕ) → get_or marks at false ≡ false) → AreMarked rows [] marks
+marked_none rows marks none place = (
+  λ is. absurd (false≢true (sym (none place) ∙ is)),
+  λ found. absurd (Contains-nil found.0 found.1),
+)
 
-  pub seek_end : (next : ℕ) → next ≤ 0 → Sought next → Contains rows row → ⊥
-  seek_end next end sought inside = let found = place-from_Contains rows row inside in sought.none found.0 (omega (arith, end)) found.1
+one_place : (rows : List (List ℕ)) (row : List ℕ) (place other : ℕ) → StandsLast rows row place → StandsLast rows row other → place ≡ other
+one_place rows row place other here there = elim (cases_order place other) [
+  | inl same ↦ same
+  | inr (inl under) ↦ absurd (here.last other under there.at)
+  | inr (inr above) ↦ absurd (there.last place above here.at)
+]
 
--- ---- a row that stands at a place
+pub marked_more : (rows others : List (List ℕ)) (row : List ℕ) (place : ℕ) (marks : List Bool) → length marks ≡ length rows → StandsLast rows row place
+    → AreMarked rows others marks → AreMarked rows (others ++ row ∷ []) (set marks place true)
+marked_more rows others row place marks long stands are at = elim (eqb_tells at place) [
+  | inl same ↦ (
+    (λ is. (row, Contains-push others row, subst (StandsLast rows row) (sym same.1) stands)),
+    (λ found. ap (λ n. get_or (set marks place true) n false) same.1 ∙ get_or-set_same marks place true false within),
+  )
+  | inr differ ↦ (
+    (λ is. let old = (are at).0 (sym (get_or-set_other marks place at true false differ.1) ∙ is) in
+        (old.0, Contains-append_left others (row ∷ []) old.0 old.1, old.2)),
+    (λ found. get_or-set_other marks place at true false differ.1 ∙ elim (Contains-push_cases others row found.0 found.1) [
+      | inl old ↦ (are at).1 (found.0, old, found.2)
+      | inr same ↦ absurd (differ.1 (one_place rows row at place (subst (λ it. StandsLast rows it at) (sym same) found.2) stands))
+    ]),
+  )
+]
+  where
+    within : place < length marks
+    within = let inside = slice_get_within rows place row stands.at in omega (arith, inside, long)
 
--- it is as long as the others, and the place is one of theirs
-pub at_fits : (rows : List (List ℕ)) (place arity : ℕ) (row : List ℕ) → ((it : List ℕ) → Contains rows it → length it ≡ arity)
-    → slice_get rows place ≡ Some row → (place < length rows) × (length row ≡ arity)
-at_fits rows place arity row long at =
-    let within = slice_get_within rows place row at in
-    (within, long row (place, within, get_or_from_slice_get rows place row row at))
+-- a row that stands at a marked place is one of the others
+pub marked_there : (rows others : List (List ℕ)) (marks : List Bool) (place : ℕ) (row : List ℕ) → AreMarked rows others marks
+    → get_or marks place false ≡ true → slice_get rows place ≡ Some row → Contains others row
+marked_there rows others marks place row are is at =
+    let found = (are place).0 is in subst (Contains others) (same_Some found.0 row (sym found.2.at ∙ at)) found.1
 
--- its codes are those of the columns there
-pub code_there : (rows : List (List ℕ)) (place column : ℕ) (row codes : List ℕ) (code : ℕ) → slice_get rows place ≡ Some row
-    → codes ≡ map (λ it. get_or it column 0) rows → slice_get codes place ≡ Some code → get_or row column 0 ≡ code
-code_there rows place column row codes code at is held =
-    same_Some (get_or row column 0) code (sym (map_at (λ it. get_or it column 0) rows place row at) ∙ ap (λ them. slice_get them place) (sym is) ∙ held)
-
--- a row with these codes stands there
-pub row_there : (rows : List (List ℕ)) (place arity : ℕ) (row : List ℕ) → place < length rows → ((it : List ℕ) → Contains rows it → length it ≡ arity)
-    → length row ≡ arity → ((column : ℕ) → column < arity → get_or (get_or rows place []) column 0 ≡ get_or row column 0) → slice_get rows place ≡ Some row
-row_there rows place arity row below long own same =
-    let width = long (get_or rows place []) (Contains-get_or rows place [] below) in
-    slice_get-get_or rows place [] below
-    ∙ ap Some (ext_get_or 0 (get_or rows place []) row (width ∙ sym own) (λ column within. same column (omega (arith, within, width))))
+-- and the mark at the last place where a row stands tells whether it is
+pub last_told : (rows others : List (List ℕ)) (marks : List Bool) (place : ℕ) (row : List ℕ) (mark : Bool) → AreMarked rows others marks
+    → StandsLast rows row place → get_or marks place false ≡ mark → IsTrue mark ↔ Contains others row
+last_told rows others marks place row mark are stands is = (
+  λ told. marked_there rows others marks place row are (is ∙ told) stands.at,
+  λ inside. sym is ∙ (are place).1 (row, inside, stands),
+)
 
 -- ---- sets of rows
 
--- each row of the one is a row of the other
-abbrev pub IsPart : List (List ℕ) → List (List ℕ) → Type 0
-IsPart rows others = (row : List ℕ) → Contains rows row → Contains others row
+pub not_same : (rows others : List (List ℕ)) → (IsPart others rows → ⊥) → ((row : List ℕ) → Contains rows row ↔ Contains others row) → ⊥
+not_same rows others apart same = apart (λ row inside. (same row).1 inside)
 
-pub not_same : (rows others : List (List ℕ)) → (IsPart rows others → ⊥) → ((row : List ℕ) → Contains rows row ↔ Contains others row) → ⊥
-not_same rows others apart same = apart (λ row inside. (same row).0 inside)
-
-pub same_told : (rows others : List (List ℕ)) (answer : Bool) → IsPart rows others → IsTrue answer ↔ IsPart others rows
+pub same_told : (rows others : List (List ℕ)) (answer : Bool) → IsPart others rows → IsTrue answer ↔ IsPart rows others
     → IsTrue answer ↔ ((row : List ℕ) → Contains rows row ↔ Contains others row)
-same_told rows others answer there told = (
-  λ back row. (there row, told.0 back row),
-  λ same. told.1 (λ row inside. (same row).1 inside),
+same_told rows others answer back told = (
+  λ there row. (told.0 there row, back row),
+  λ same. told.1 (λ row inside. (same row).0 inside),
 )

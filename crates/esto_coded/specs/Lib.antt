@@ -5,3 +5,4 @@ pub mod Shown
 pub mod Met
 pub mod Whole
 pub mod Mirrored
+pub mod Same

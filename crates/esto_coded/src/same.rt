@@ -1,80 +1,21 @@
 //! Whether rows of codes are the same set.
-ghost use Rattle.std.specs.Prelude.{◌≡◌, ◌↔◌, ◌+◌, ◌<◌, ℕ, List, Some, length, take, slice_get, IsTrue, Contains, IfOk, OnOk};
+ghost use Rattle.std.specs.Prelude.{◌≡◌, ◌↔◌, ◌++◌, ◌∷◌, [], ◌<◌, ℕ, Bool, List, Some, false, length, slice_get, slice_index_or, IsTrue, Contains, IfOk};
 ghost use Rattle.esto_columns.specs.Indexed.{IsIndexOf};
+ghost use Rattle.esto_coded.specs.Same.{IsPart, AreMarked};
 
 use esto_columns::{Index, Rows};
 use esto_term::{OutOfMemory, Values};
 use std::alloc::Global;
 
-/// Puts the row at the place into the index of the rows before it. The row is read into the list.
-fn index_row(
-    rows: &Rows,
-    at: usize,
-    row: &mut Values<u64>,
-    index: &mut Index,
-) -> Result<(), OutOfMemory>
-    requires there { at < length rows.now.rows }
-    requires own { IsIndexOf index.old (take at rows.now.rows) }
-    ensures { OnOk result (IsIndexOf index.new (take (at + 1) rows.now.rows)) }
-{
-    rows.read_row(at, row)?;
-    index.add(row.items())
-}
-
-/// The index of the rows, each of which is its own key.
-fn index_of(alloc: Global, rows: &Rows) -> Result<Index, OutOfMemory>
-    ensures { IfOk result (λ it. IsIndexOf it rows.now.rows) }
-{
-    let mut index = Index::new(alloc, rows.len())?;
-    let mut row = Values::new(alloc);
-    'rows: for at in 0..rows.len() {
-        index_row(rows, at, &mut row, &mut index)?;
-    }
-    Ok(index)
-}
-
-/// Whether the row stands at the place of the rows.
-fn is_at(rows: &Rows, place: usize, row: &[u64]) -> bool
-    ensures { IsTrue result ↔ (slice_get rows.now.rows place ≡ Some row.now) }
-{
-    let arity = rows.arity();
-    if place >= rows.len() || row.len() != arity {
-        return false;
-    }
-    'columns: for column in 0..arity {
-        if rows.column(column).item(place) != row[column] {
-            return false;
-        }
-    }
-    true
-}
-
-/// Whether the row is one of the rows, by their index: only those of its bucket are looked at.
-fn is_among(rows: &Rows, index: &Index, row: &[u64]) -> bool
-    requires { IsIndexOf index.now rows.now.rows }
-    ensures { IsTrue result ↔ Contains rows.now.rows row.now }
-{
-    let mut next = index.last_of(row);
-    'places: while next > 0 {
-        let place = next - 1;
-        if is_at(rows, place, row) {
-            return true;
-        }
-        next = index.before(place);
-    }
-    false
-}
-
 /// Whether each row of the one is a row of the other, whose index this is.
 fn are_among(alloc: Global, one: &Rows, other: &Rows, index: &Index) -> Result<bool, OutOfMemory>
     requires { IsIndexOf index.now other.now.rows }
-    ensures { IfOk result (λ it. IsTrue it
-        ↔ ((row : List ℕ) → Contains one.now.rows row → Contains other.now.rows row)) }
+    ensures { IfOk result (λ it. IsTrue it ↔ IsPart one.now.rows other.now.rows) }
 {
     let mut row = Values::new(alloc);
     'rows: for at in 0..one.len() {
         one.read_row(at, &mut row)?;
-        if !is_among(other, index, row.items()) {
+        if other.find(index, row.items()).is_none() {
             return Ok(false);
         }
     }
@@ -86,9 +27,111 @@ pub(crate) fn is_part(alloc: Global, one: &Rows, other: &Rows) -> Result<bool, O
     ensures { IfOk result (λ it. IsTrue it
         ↔ ((row : List ℕ) → Contains one.now.rows row → Contains other.now.rows row)) }
 {
-    let index = index_of(alloc, other)?;
+    let index = other.own_index(alloc, other.len())?;
     let all = are_among(alloc, one, other, &index)?;
     Ok(all)
+}
+
+/// So many places, none of which is marked.
+fn no_marks(alloc: Global, count: usize) -> Result<Values<bool>, OutOfMemory>
+    ensures long { IfOk result (λ it. length it ≡ count) }
+    ensures none { IfOk result (λ it. (at : ℕ) → slice_index_or it at false ≡ false) }
+{
+    let mut marks = Values::new(alloc);
+    'places: for _place in 0..count {
+        marks.push(false)?;
+    }
+    Ok(marks)
+}
+
+/// Marks the last place where the row stands, by the index of the rows. Tells whether there is one.
+fn mark(rows: &Rows, index: &Index, row: &[u64], marks: &mut Values<bool>) -> bool
+    requires own { IsIndexOf index.now rows.now.rows }
+    requires long { length marks.old ≡ length rows.now.rows }
+    ensures long { length marks.new ≡ length marks.old }
+    ensures found { IsTrue result ↔ Contains rows.now.rows row.now }
+    ensures marked { IsTrue result → (others : List (List ℕ))
+        → AreMarked rows.now.rows others marks.old
+        → AreMarked rows.now.rows (others ++ row.now ∷ []) marks.new }
+{
+    let Some(place) = rows.find(index, row) else {
+        return false;
+    };
+    marks.set(place, true);
+    true
+}
+
+/// Marks the last places where the others stand among the rows, whose index this is. Tells whether each of them is
+/// there.
+fn mark_each(
+    alloc: Global,
+    rows: &Rows,
+    index: &Index,
+    others: &Rows,
+    marks: &mut Values<bool>,
+) -> Result<bool, OutOfMemory>
+    requires own { IsIndexOf index.now rows.now.rows }
+    requires long { length marks.old ≡ length rows.now.rows }
+    requires none { AreMarked rows.now.rows [] marks.old }
+    ensures long { length marks.new ≡ length marks.old }
+    ensures part { IfOk result (λ it. IsTrue it ↔ IsPart others.now.rows rows.now.rows) }
+    ensures marked { IfOk result (λ it. IsTrue it
+        → AreMarked rows.now.rows others.now.rows marks.new) }
+{
+    let mut row = Values::new(alloc);
+    'rows: for at in 0..others.len() {
+        others.read_row(at, &mut row)?;
+        if !mark(rows, index, row.items(), marks) {
+            return Ok(false);
+        }
+    }
+    Ok(true)
+}
+
+/// Whether the row at the place is marked, or else the last place where it stands. The row is read into the list.
+fn is_marked(
+    rows: &Rows,
+    index: &Index,
+    marks: &Values<bool>,
+    at: usize,
+    row: &mut Values<u64>,
+) -> Result<bool, OutOfMemory>
+    requires own { IsIndexOf index.now rows.now.rows }
+    requires long { length marks.now ≡ length rows.now.rows }
+    requires there { at < length rows.now.rows }
+    ensures { IfOk result (λ it. (others : List (List ℕ)) (held : List ℕ)
+        → AreMarked rows.now.rows others marks.now → slice_get rows.now.rows at ≡ Some held
+        → IsTrue it ↔ Contains others held) }
+{
+    if marks.item(at) {
+        return Ok(true);
+    }
+    rows.read_row(at, row)?;
+    match rows.find(index, row.items()) {
+        Some(place) => Ok(marks.item(place)),
+        None => Ok(false),
+    }
+}
+
+/// Whether each of the rows is marked, or else the last place where it stands.
+fn are_marked(
+    alloc: Global,
+    rows: &Rows,
+    index: &Index,
+    marks: &Values<bool>,
+) -> Result<bool, OutOfMemory>
+    requires own { IsIndexOf index.now rows.now.rows }
+    requires long { length marks.now ≡ length rows.now.rows }
+    ensures { IfOk result (λ it. (others : List (List ℕ))
+        → AreMarked rows.now.rows others marks.now → IsTrue it ↔ IsPart rows.now.rows others) }
+{
+    let mut row = Values::new(alloc);
+    'rows: for at in 0..rows.len() {
+        if !is_marked(rows, index, marks, at, &mut row)? {
+            return Ok(false);
+        }
+    }
+    Ok(true)
 }
 
 /// Whether each row of one of the two is a row of the other.
@@ -96,9 +139,11 @@ pub fn hold_same(alloc: Global, one: &Rows, other: &Rows) -> Result<bool, OutOfM
     ensures { IfOk result (λ it. IsTrue it
         ↔ ((row : List ℕ) → Contains one.now.rows row ↔ Contains other.now.rows row)) }
 {
-    if !is_part(alloc, one, other)? {
+    let index = one.own_index(alloc, one.len())?;
+    let mut marks = no_marks(alloc, one.len())?;
+    if !mark_each(alloc, one, &index, other, &mut marks)? {
         return Ok(false);
     }
-    let back = is_part(alloc, other, one)?;
+    let back = are_marked(alloc, one, &index, &marks)?;
     Ok(back)
 }
