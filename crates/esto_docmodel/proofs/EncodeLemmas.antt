@@ -14,7 +14,8 @@ use Rattle.esto_docmodel.specs.Encodings.{size, entering, belows, holding, facts
 use Rattle.esto_docmodel.specs.Encodings.{step_atoms, atoms}
 use Rattle.esto_docmodel.specs.Patterns.{done}
 use Rattle.esto_docmodel.specs.Forests.{Label, name, place, Forest, none, kid, Node, node}
-use Rattle.esto_docmodel.specs.Putting.{fact_over, turned, node_facts}
+use Rattle.esto_docmodel.specs.Gaining.{fact_over}
+use Rattle.esto_docmodel.specs.Putting.{turned, node_facts}
 use Rattle.esto_docmodel.specs.Rising.{IsRising, AreRising, AreInside}
 use Rattle.esto_docmodel.specs.Shapes.{shape, row, named_row, shaped_field, documents, entry_shape, entries_of}
 use Rattle.esto_docmodel.specs.declared.field.FieldOf.{FieldOf}
@@ -38,20 +39,13 @@ belows_last : (ys : List ℕ) (x n : ℕ) → belows (ys ++ x ∷ []) n ≡ belo
 belows_last [] x n = refl
 belows_last (y ∷ ys) x n = ap (λ (w : List (DocFact Term)). w ++ below (Plain y) (Plain n) ∷ []) (belows_last ys x n)
 
-below_step : (facts whole : List (Fact Term)) (base n : ℕ) (xs : List ℕ) (i x : ℕ) → i < length xs → x ≡ get_or xs i 0
-    → facts ++ map (flat base) (belows (turned (drop i xs)) n) ≡ whole
-    → (facts ++ fact_over (base + 4) (Plain x ∷ Plain n ∷ []) ∷ []) ++ map (flat base) (belows (turned (drop (i + 1) xs)) n) ≡ whole
-below_step facts whole base n xs i x within is known =
-    append_assoc facts _ _
-    ∙ ap (λ (w : List (DocFact Term)). facts ++ map (flat base) w) (sym (belows_last (turned (drop (i + 1) xs)) x n))
-    ∙ ap (λ (w : List ℕ). facts ++ map (flat base) (belows (turned w) n)) (sym (drop-there xs i x (slice_get-get_or xs i 0 within ∙ ap Some (sym is))))
-    ∙ known
-
-pub below_turn : (facts now whole : List (Fact Term)) (base n : ℕ) (xs : List ℕ) (i : ℕ) → i < length xs
-    → now ≡ facts ++ fact_over (base + 4) (Plain (get_or xs i 0) ∷ Plain n ∷ []) ∷ []
-    → facts ++ map (flat base) (belows (turned (drop i xs)) n) ≡ whole
-    → now ++ map (flat base) (belows (turned (drop (i + 1) xs)) n) ≡ whole
-below_turn facts now whole base n xs i within put known = rw put (below_step facts whole base n xs i (get_or xs i 0) within refl known)
+-- the fact of the first of the nodes above that are left, and those of the others
+pub below_rest : (base n : ℕ) (xs : List ℕ) (i : ℕ) → i < length xs
+    → map (flat base) (belows (turned (drop i xs)) n)
+    ≡ (fact_over (base + 4) (Plain (get_or xs i 0) ∷ Plain n ∷ []) ∷ []) ++ map (flat base) (belows (turned (drop (i + 1) xs)) n)
+below_rest base n xs i within =
+    ap (λ (w : List ℕ). map (flat base) (belows (turned w) n)) (drop-there xs i (get_or xs i 0) (slice_get-get_or xs i 0 within))
+    ∙ ap (λ (w : List (DocFact Term)). map (flat base) w) (belows_last (turned (drop (i + 1) xs)) (get_or xs i 0) n)
 
 -- ---- the facts that are kept
 
@@ -65,21 +59,12 @@ kept_one relations fact is = rw is refl
 pub kept_none : (relations : Kept) (fact : DocFact Term) → is_kept relations fact ≡ false → kept relations (fact ∷ []) ≡ []
 kept_none relations fact is = rw is refl
 
--- a fact is put, or it is of a relation that isn't kept
-pub one_put : (relations : Kept) (fact : DocFact Term) (old new : List (Fact Term)) → is_kept relations fact ≡ true
-    → new ≡ old ++ flat relations.base fact ∷ [] → new ≡ old ++ kept relations (fact ∷ [])
-one_put relations fact old new is put = put ∙ ap (λ (w : List (Fact Term)). old ++ w) (sym (kept_one relations fact is))
-
-pub none_put : (relations : Kept) (fact : DocFact Term) (facts : List (Fact Term)) → is_kept relations fact ≡ false
-    → facts ≡ facts ++ kept relations (fact ∷ [])
-none_put relations fact facts is = sym (append-nil facts) ∙ ap (λ (w : List (Fact Term)). facts ++ w) (sym (kept_none relations fact is))
-
 -- a constant's text tells whether facts of it are kept
 pub has_constant : (texts : KeptTexts) (text : List ℕ) → has_term texts (Const text) ≡ has_text texts text
 has_constant Every text = refl
 has_constant (These texts) text = ap (is_among_kind texts) (outs-Const text)
 
-belows_all : (relations : Kept) (above : List ℕ) (n : ℕ) → relations.below ≡ true → kept relations (belows above n) ≡ map (flat relations.base) (belows above n)
+pub belows_all : (relations : Kept) (above : List ℕ) (n : ℕ) → relations.below ≡ true → kept relations (belows above n) ≡ map (flat relations.base) (belows above n)
 belows_all relations [] n is = refl
 belows_all relations (parent ∷ above) n is =
     kept-append relations (belows above n) (below (Plain parent) (Plain n) ∷ [])
@@ -87,21 +72,12 @@ belows_all relations (parent ∷ above) n is =
     ∙ ap (λ (w : List (Fact Term)). map (flat relations.base) (belows above n) ++ w) (kept_one relations (below (Plain parent) (Plain n)) is)
     ∙ sym (map-append (flat relations.base) (belows above n) (below (Plain parent) (Plain n) ∷ []))
 
-belows_none : (relations : Kept) (above : List ℕ) (n : ℕ) → relations.below ≡ false → kept relations (belows above n) ≡ []
+pub belows_none : (relations : Kept) (above : List ℕ) (n : ℕ) → relations.below ≡ false → kept relations (belows above n) ≡ []
 belows_none relations [] n is = refl
 belows_none relations (parent ∷ above) n is =
     kept-append relations (belows above n) (below (Plain parent) (Plain n) ∷ [])
     ∙ ap (λ (w : List (Fact Term)). w ++ kept relations (below (Plain parent) (Plain n) ∷ [])) (belows_none relations above n is)
     ∙ kept_none relations (below (Plain parent) (Plain n)) is
-
-pub belows_put : (relations : Kept) (above : List ℕ) (n : ℕ) (old new : List (Fact Term)) → relations.below ≡ true
-    → new ≡ old ++ map (flat relations.base) (belows above n) → new ≡ old ++ kept relations (belows above n)
-belows_put relations above n old new is put = put ∙ ap (λ (w : List (Fact Term)). old ++ w) (sym (belows_all relations above n is))
-
-pub no_belows_put : (relations : Kept) (above : List ℕ) (n : ℕ) (facts : List (Fact Term)) → relations.below ≡ false
-    → facts ≡ facts ++ kept relations (belows above n)
-no_belows_put relations above n facts is =
-    sym (append-nil facts) ∙ ap (λ (w : List (Fact Term)). facts ++ w) (sym (belows_none relations above n is))
 
 -- where all five relations are kept, each fact is
 abbrev pub AreAllKept : Kept → Type 0
@@ -111,10 +87,6 @@ pub all_kept : (relations : Kept) → AreAllKept relations → (facts : List (Do
 all_kept relations each [] = refl
 all_kept relations each (fact ∷ facts) = rw (each fact) (ap (λ (w : List (Fact Term)). flat relations.base fact ∷ w) (all_kept relations each facts))
 
-pub all_put : (relations : Kept) → AreAllKept relations → (facts : List (DocFact Term)) (old new : List (Fact Term)) → old ≡ []
-    → new ≡ old ++ kept relations facts → new ≡ map (flat relations.base) facts
-all_put relations each facts old new empty put = put ∙ ap (λ (w : List (Fact Term)). w ++ kept relations facts) empty ∙ all_kept relations each facts
-
 pub every_kept : (base : ℕ) → AreAllKept (every base)
 every_kept base (root n) = refl
 every_kept base (field p k n) = refl
@@ -122,16 +94,10 @@ every_kept base (item p n) = refl
 every_kept base (value n t) = refl
 every_kept base (below a n) = refl
 
-pub every_put : (base : ℕ) (relations : Kept) (facts : List (DocFact Term)) (old new : List (Fact Term)) → relations ≡ every base → old ≡ []
-    → new ≡ old ++ kept relations facts → new ≡ map (flat base) facts
-every_put base relations facts old new is empty put =
-    all_put relations (subst AreAllKept (sym is) (every_kept base)) facts old new empty put
-    ∙ ap (λ (it : Kept). map (flat it.base) facts) is
-
 -- ---- a node
 
 -- a node's facts and those of the nodes after it
-kid_facts : (relations : Kept) (a : List ℕ) (n : ℕ) (l : Label) (t : Node) (rest : Forest)
+pub kid_facts : (relations : Kept) (a : List ℕ) (n : ℕ) (l : Label) (t : Node) (rest : Forest)
     → kept relations (entering a l n ∷ []) ++ (kept relations (node_facts a n t) ++ kept relations (facts_from a (suc n + size t.inside) rest))
     ≡ kept relations (facts_from a n (kid l t.content t.inside rest))
 kid_facts relations a n l t rest =
@@ -140,59 +106,45 @@ kid_facts relations a n l t rest =
     ∙ ap (kept relations) (append_assoc (belows a n) _ _ ∙ ap (λ (w : List (DocFact Term)). belows a n ++ w) (append_assoc (holding t.content n) _ _)))
     ∙ sym (kept-append relations (entering a l n ∷ []) _)
 
-pub kid_step : (relations : Kept) (facts whole : List (Fact Term)) (a : List ℕ) (n : ℕ) (l : Label) (t : Node) (rest : Forest)
-    → facts ++ kept relations (facts_from a n (kid l t.content t.inside rest)) ≡ whole
-    → ((facts ++ kept relations (entering a l n ∷ [])) ++ kept relations (node_facts a n t)) ++ kept relations (facts_from a (suc n + size t.inside) rest)
-    ≡ whole
-kid_step relations facts whole a n l t rest known =
-    append_assoc (facts ++ kept relations (entering a l n ∷ [])) _ _
-    ∙ append_assoc facts _ _
-    ∙ ap (λ (w : List (Fact Term)). facts ++ w) (kid_facts relations a n l t rest)
-    ∙ known
-
 pub kid_count : (n all : ℕ) (t : Node) (rest : Forest) (l : Label) → n + size (kid l t.content t.inside rest) ≡ all → (suc n + size t.inside) + size rest ≡ all
 kid_count n all t rest l known = omega (arith, known)
 
--- what is put for a node, kind by kind, when the nodes above are put
-module _ (relations : Kept) (n : ℕ) (above : List ℕ) (start put : List (Fact Term)) (entered : put ≡ start ++ kept relations (belows (turned above) n)) where
-  node_rest : (t : Node) → put ++ kept relations (holding t.content n ++ facts_from (n ∷ turned above) (suc n) t.inside)
-      ≡ start ++ kept relations (node_facts (turned above) n t)
-  node_rest t = rw entered (append_assoc start _ _
-      ∙ ap (λ (w : List (Fact Term)). start ++ w)
-      (sym (kept-append relations (belows (turned above) n) (holding t.content n ++ facts_from (n ∷ turned above) (suc n) t.inside))))
+-- the facts of a node, kind by kind, after those of the nodes above
+module _ (relations : Kept) (n : ℕ) (above : List ℕ) where
+  node_rest : (t : Node) → kept relations (belows (turned above) n) ++ kept relations (holding t.content n ++ facts_from (n ∷ turned above) (suc n) t.inside)
+      ≡ kept relations (node_facts (turned above) n t)
+  node_rest t = sym (kept-append relations (belows (turned above) n) (holding t.content n ++ facts_from (n ∷ turned above) (suc n) t.inside))
 
-  pub value_put : (tree : Tree) (text said : List ℕ) (now : List (Fact Term)) → tree ≡ Value text → said ≡ text
-      → now ≡ put ++ kept relations (value (Plain n) (Const said) ∷ [])
-      → now ≡ start ++ kept relations (node_facts (turned above) n (shape tree))
-  value_put tree text said now is copied more = rw (is, shape-Value text) (more
-      ∙ ap (λ (w : List ℕ). put ++ kept relations (value (Plain n) (Const w) ∷ [])) copied
+  pub value_facts : (tree : Tree) (text said : List ℕ) → tree ≡ Value text → said ≡ text
+      → kept relations (belows (turned above) n) ++ kept relations (value (Plain n) (Const said) ∷ [])
+      ≡ kept relations (node_facts (turned above) n (shape tree))
+  value_facts tree text said is copied = rw (is, shape-Value text)
+      (ap (λ (w : List ℕ). kept relations (belows (turned above) n) ++ kept relations (value (Plain n) (Const w) ∷ [])) copied
       ∙ node_rest (node (Some text) none))
 
-  pub nothing_put : (tree : Tree) → tree ≡ Nothing → put ≡ start ++ kept relations (node_facts (turned above) n (shape tree))
-  nothing_put tree is = rw (is, shape-Nothing) (sym (append-nil put) ∙ node_rest (node None none))
+  pub nothing_facts : (tree : Tree) → tree ≡ Nothing → kept relations (belows (turned above) n) ≡ kept relations (node_facts (turned above) n (shape tree))
+  nothing_facts tree is = rw (is, shape-Nothing) (sym (append-nil (kept relations (belows (turned above) n))) ∙ node_rest (node None none))
 
-  pub fields_put : (tree : Tree) (fields : List (FieldOf Tree)) (first : ℕ) (now : List (Fact Term)) → tree ≡ Fields fields → first ≡ suc n
-      → now ≡ put ++ kept relations (facts_from (n ∷ turned above) first (named_row (map shaped_field fields)))
-      → now ≡ start ++ kept relations (node_facts (turned above) n (shape tree))
-  fields_put tree fields first now is numbered more = rw (is, shape-Fields fields) (more
-      ∙ ap (λ (k : ℕ). put ++ kept relations (facts_from (n ∷ turned above) k (named_row (map shaped_field fields)))) numbered
+  pub fields_facts : (tree : Tree) (fields : List (FieldOf Tree)) (first : ℕ) → tree ≡ Fields fields → first ≡ suc n
+      → kept relations (belows (turned above) n) ++ kept relations (facts_from (n ∷ turned above) first (named_row (map shaped_field fields)))
+      ≡ kept relations (node_facts (turned above) n (shape tree))
+  fields_facts tree fields first is numbered = rw (is, shape-Fields fields)
+      (ap (λ (k : ℕ). kept relations (belows (turned above) n) ++ kept relations (facts_from (n ∷ turned above) k (named_row (map shaped_field fields)))) numbered
       ∙ node_rest (node None (named_row (map shaped_field fields))))
 
-  pub items_put : (tree : Tree) (items : List Tree) (first : ℕ) (now : List (Fact Term)) → tree ≡ Items items → first ≡ suc n
-      → now ≡ put ++ kept relations (facts_from (n ∷ turned above) first (row (map shape items)))
-      → now ≡ start ++ kept relations (node_facts (turned above) n (shape tree))
-  items_put tree items first now is numbered more = rw (is, shape-Items items) (more
-      ∙ ap (λ (k : ℕ). put ++ kept relations (facts_from (n ∷ turned above) k (row (map shape items)))) numbered
+  pub items_facts : (tree : Tree) (items : List Tree) (first : ℕ) → tree ≡ Items items → first ≡ suc n
+      → kept relations (belows (turned above) n) ++ kept relations (facts_from (n ∷ turned above) first (row (map shape items)))
+      ≡ kept relations (node_facts (turned above) n (shape tree))
+  items_facts tree items first is numbered = rw (is, shape-Items items)
+      (ap (λ (k : ℕ). kept relations (belows (turned above) n) ++ kept relations (facts_from (n ∷ turned above) k (row (map shape items)))) numbered
       ∙ node_rest (node None (row (map shape items))))
 
--- what is put of a document
-pub document_put : (relations : Kept) (start put now : List (Fact Term)) (n : ℕ) (tree : Tree) → put ≡ start ++ kept relations (root (Plain n) ∷ [])
-    → now ≡ put ++ kept relations (node_facts [] n (shape tree)) → now ≡ start ++ kept_of relations n (documents (tree ∷ []))
-document_put relations start put now n tree entered more =
-    more
-    ∙ ap (λ (w : List (Fact Term)). w ++ kept relations (node_facts [] n (shape tree))) entered
-    ∙ sym (append-nil _)
-    ∙ kid_step relations start (start ++ kept_of relations n (documents (tree ∷ []))) [] n place (shape tree) none refl
+-- the facts of a document
+pub document_facts : (relations : Kept) (n : ℕ) (tree : Tree)
+    → kept relations (root (Plain n) ∷ []) ++ kept relations (node_facts [] n (shape tree)) ≡ kept_of relations n (documents (tree ∷ []))
+document_facts relations n tree =
+    ap (λ (w : List (Fact Term)). kept relations (root (Plain n) ∷ []) ++ w) (sym (append-nil (kept relations (node_facts [] n (shape tree)))))
+    ∙ kid_facts relations [] n place (shape tree) none
 
 -- ---- documents one after another
 
@@ -271,77 +223,53 @@ module _ (base v next : ℕ) (path : List Step) (start put : List (Fact Term)) (
       ∙ ap (λ (w : List (DocFact Term)). put ++ map (flat base) w) (sym (append-nil (atoms (entries_of inner) (end path v next) (next + length path))))
       ∙ path_then (atoms (entries_of inner) (end path v next) (next + length path) ++ []))
 
-module _ (relations : Kept) (number next : ℕ) (above inner : List ℕ) (facts whole : List (Fact Term)) (all : ℕ) (is_inner : inner ≡ above ++ number ∷ []) where
-  inside_turned : turned inner ≡ number ∷ turned above
-  inside_turned = ap turned is_inner ∙ turned_last above number
+-- the facts of the first of the fields or items that are left, and those of the others
+module _ (relations : Kept) (number next later : ℕ) (above inner : List ℕ) (is_inner : inner ≡ above ++ number ∷ []) where
+  inside_turned : number ∷ turned above ≡ turned inner
+  inside_turned = sym (ap turned is_inner ∙ turned_last above number)
 
-  pub field_facts : (fields : List (FieldOf Tree)) (i : ℕ) (f : FieldOf Tree) → i < length fields → f ≡ get_or fields i f
-      → facts ++ kept relations (facts_from (number ∷ turned above) next (named_row (map shaped_field (drop i fields)))) ≡ whole
-      → ((facts ++ kept relations (field (Plain number) (Const f.name) (Plain next) ∷ []))
-      ++ kept relations (node_facts (turned inner) next (shape f.tree)))
-      ++ kept relations (facts_from (number ∷ turned above) (suc next + size (shape f.tree).inside) (named_row (map shaped_field (drop (i + 1) fields))))
-      ≡ whole
-  field_facts fields i f within is known =
-      ap (λ (a : List ℕ). ((facts ++ kept relations (field (Plain number) (Const f.name) (Plain next) ∷ []))
-      ++ kept relations (node_facts a next (shape f.tree)))
-      ++ kept relations (facts_from (number ∷ turned above) (suc next + size (shape f.tree).inside) (named_row (map shaped_field (drop (i + 1) fields)))))
-      inside_turned
-      ∙ kid_step relations facts whole (number ∷ turned above) next (name f.name) (shape f.tree) (named_row (map shaped_field (drop (i + 1) fields)))
-      (ap (λ (w : List (FieldOf Tree)). facts ++ kept relations (facts_from (number ∷ turned above) next (named_row (map shaped_field w))))
-      (sym (drop-item fields i f within is)) ∙ known)
+  first_facts : (l : Label) (t : Node) (rest : Forest) → later ≡ suc next + size t.inside
+      → kept relations (facts_from (number ∷ turned above) next (kid l t.content t.inside rest))
+      ≡ (kept relations (entering (number ∷ turned above) l next ∷ []) ++ kept relations (node_facts (turned inner) next t))
+      ++ kept relations (facts_from (number ∷ turned above) later rest)
+  first_facts l t rest numbered =
+      sym (kid_facts relations (number ∷ turned above) next l t rest)
+      ∙ sym (append_assoc (kept relations (entering (number ∷ turned above) l next ∷ [])) _ _)
+      ∙ ap (λ (a : List ℕ). (kept relations (entering (number ∷ turned above) l next ∷ []) ++ kept relations (node_facts a next t))
+      ++ kept relations (facts_from (number ∷ turned above) (suc next + size t.inside) rest)) inside_turned
+      ∙ ap (λ (k : ℕ). (kept relations (entering (number ∷ turned above) l next ∷ []) ++ kept relations (node_facts (turned inner) next t))
+      ++ kept relations (facts_from (number ∷ turned above) k rest)) (sym numbered)
 
-  pub item_facts : (items : List Tree) (i : ℕ) (t : Tree) → i < length items → t ≡ get_or items i t
-      → facts ++ kept relations (facts_from (number ∷ turned above) next (row (map shape (drop i items)))) ≡ whole
-      → ((facts ++ kept relations (item (Plain number) (Plain next) ∷ [])) ++ kept relations (node_facts (turned inner) next (shape t)))
-      ++ kept relations (facts_from (number ∷ turned above) (suc next + size (shape t).inside) (row (map shape (drop (i + 1) items)))) ≡ whole
-  item_facts items i t within is known =
-      ap (λ (a : List ℕ). ((facts ++ kept relations (item (Plain number) (Plain next) ∷ [])) ++ kept relations (node_facts a next (shape t)))
-      ++ kept relations (facts_from (number ∷ turned above) (suc next + size (shape t).inside) (row (map shape (drop (i + 1) items))))) inside_turned
-      ∙ kid_step relations facts whole (number ∷ turned above) next place (shape t) (row (map shape (drop (i + 1) items)))
-      (ap (λ (w : List Tree). facts ++ kept relations (facts_from (number ∷ turned above) next (row (map shape w)))) (sym (drop-item items i t within is))
-      ∙ known)
-
-pub field_count : (next all : ℕ) (fields : List (FieldOf Tree)) (i : ℕ) (f : FieldOf Tree) → i < length fields → f ≡ get_or fields i f
-    → next + size (named_row (map shaped_field (drop i fields))) ≡ all
-    → (suc next + size (shape f.tree).inside) + size (named_row (map shaped_field (drop (i + 1) fields))) ≡ all
-field_count next all fields i f within is known =
-    kid_count next all (shape f.tree) (named_row (map shaped_field (drop (i + 1) fields))) (name f.name)
-    (ap (λ (w : List (FieldOf Tree)). next + size (named_row (map shaped_field w))) (sym (drop-item fields i f within is)) ∙ known)
-
-pub item_count : (next all : ℕ) (items : List Tree) (i : ℕ) (t : Tree) → i < length items → t ≡ get_or items i t
-    → next + size (row (map shape (drop i items))) ≡ all
-    → (suc next + size (shape t).inside) + size (row (map shape (drop (i + 1) items))) ≡ all
-item_count next all items i t within is known =
-    kid_count next all (shape t) (row (map shape (drop (i + 1) items))) place
-    (ap (λ (w : List Tree). next + size (row (map shape w))) (sym (drop-item items i t within is)) ∙ known)
-
-module _ (relations : Kept) (number next later : ℕ) (above inner : List ℕ) (facts entered now whole : List (Fact Term)) (all : ℕ)
-    (is_inner : inner ≡ above ++ number ∷ []) where
-  pub field_turn : (fields : List (FieldOf Tree)) (i : ℕ) (f : FieldOf Tree) → i < length fields → f ≡ get_or fields i f
-      → entered ≡ facts ++ kept relations (field (Plain number) (Const f.name) (Plain next) ∷ [])
-      → now ≡ entered ++ kept relations (node_facts (turned inner) next (shape f.tree))
+  pub field_rest : (fields : List (FieldOf Tree)) (i : ℕ) (f : FieldOf Tree) → i < length fields → f ≡ get_or fields i f
       → later ≡ suc next + size (shape f.tree).inside
-      → (facts ++ kept relations (facts_from (number ∷ turned above) next (named_row (map shaped_field (drop i fields)))) ≡ whole)
-      × (next + size (named_row (map shaped_field (drop i fields))) ≡ all)
-      → (now ++ kept relations (facts_from (number ∷ turned above) later (named_row (map shaped_field (drop (i + 1) fields)))) ≡ whole)
-      × (later + size (named_row (map shaped_field (drop (i + 1) fields))) ≡ all)
-  field_turn fields i f within is put more numbered known =
-      rw (more, put, numbered)
-      (field_facts relations number next above inner facts whole all is_inner fields i f within is known.0, field_count next all fields i f within is known.1)
+      → kept relations (facts_from (number ∷ turned above) next (named_row (map shaped_field (drop i fields))))
+      ≡ (kept relations (field (Plain number) (Const f.name) (Plain next) ∷ []) ++ kept relations (node_facts (turned inner) next (shape f.tree)))
+      ++ kept relations (facts_from (number ∷ turned above) later (named_row (map shaped_field (drop (i + 1) fields))))
+  field_rest fields i f within is numbered =
+      ap (λ (w : List (FieldOf Tree)). kept relations (facts_from (number ∷ turned above) next (named_row (map shaped_field w)))) (drop-item fields i f within is)
+      ∙ first_facts (name f.name) (shape f.tree) (named_row (map shaped_field (drop (i + 1) fields))) numbered
 
-  pub item_turn : (items : List Tree) (i : ℕ) (t : Tree) → i < length items → t ≡ get_or items i t
-      → entered ≡ facts ++ kept relations (item (Plain number) (Plain next) ∷ [])
-      → now ≡ entered ++ kept relations (node_facts (turned inner) next (shape t))
-      → later ≡ suc next + size (shape t).inside
-      → (facts ++ kept relations (facts_from (number ∷ turned above) next (row (map shape (drop i items)))) ≡ whole)
-      × (next + size (row (map shape (drop i items))) ≡ all)
-      → (now ++ kept relations (facts_from (number ∷ turned above) later (row (map shape (drop (i + 1) items)))) ≡ whole)
-      × (later + size (row (map shape (drop (i + 1) items))) ≡ all)
-  item_turn items i t within is put more numbered known =
-      rw (more, put, numbered) (
-        item_facts relations number next above inner facts whole all is_inner items i t within is known.0,
-        item_count next all items i t within is known.1,
-      )
+  pub item_rest : (items : List Tree) (i : ℕ) (t : Tree) → i < length items → t ≡ get_or items i t → later ≡ suc next + size (shape t).inside
+      → kept relations (facts_from (number ∷ turned above) next (row (map shape (drop i items))))
+      ≡ (kept relations (item (Plain number) (Plain next) ∷ []) ++ kept relations (node_facts (turned inner) next (shape t)))
+      ++ kept relations (facts_from (number ∷ turned above) later (row (map shape (drop (i + 1) items))))
+  item_rest items i t within is numbered =
+      ap (λ (w : List Tree). kept relations (facts_from (number ∷ turned above) next (row (map shape w)))) (drop-item items i t within is)
+      ∙ first_facts place (shape t) (row (map shape (drop (i + 1) items))) numbered
+
+pub field_count : (next later all : ℕ) (fields : List (FieldOf Tree)) (i : ℕ) (f : FieldOf Tree) → i < length fields → f ≡ get_or fields i f
+    → later ≡ suc next + size (shape f.tree).inside → next + size (named_row (map shaped_field (drop i fields))) ≡ all
+    → later + size (named_row (map shaped_field (drop (i + 1) fields))) ≡ all
+field_count next later all fields i f within is numbered known =
+    rw numbered (kid_count next all (shape f.tree) (named_row (map shaped_field (drop (i + 1) fields))) (name f.name)
+    (ap (λ (w : List (FieldOf Tree)). next + size (named_row (map shaped_field w))) (sym (drop-item fields i f within is)) ∙ known))
+
+pub item_count : (next later all : ℕ) (items : List Tree) (i : ℕ) (t : Tree) → i < length items → t ≡ get_or items i t
+    → later ≡ suc next + size (shape t).inside → next + size (row (map shape (drop i items))) ≡ all
+    → later + size (row (map shape (drop (i + 1) items))) ≡ all
+item_count next later all items i t within is numbered known =
+    rw numbered (kid_count next all (shape t) (row (map shape (drop (i + 1) items))) place
+    (ap (λ (w : List Tree). next + size (row (map shape w))) (sym (drop-item items i t within is)) ∙ known))
 
 -- ---- names that rise
 

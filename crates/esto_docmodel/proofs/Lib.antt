@@ -11,6 +11,7 @@ pub mod FlatLemmas
 pub mod ShapeLemmas
 pub mod EncodeLemmas
 pub mod RisingLemmas
+pub mod GainLemmas
 pub mod FactLemmas
 pub mod LayoutLemmas
 pub mod MentionLemmas

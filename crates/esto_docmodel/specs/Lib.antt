@@ -7,6 +7,7 @@ pub mod Patterns
 pub mod DocumentFacts
 pub mod Encodings
 pub mod Meanings
+pub mod Gaining
 pub mod Putting
 pub mod Layouts
 pub mod Valuations

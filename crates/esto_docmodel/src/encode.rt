@@ -3,7 +3,7 @@ ghost use Rattle.std.specs.Prelude.{◌≡◌, ◌≤◌, ◌+◌, suc, [], ◌�
 ghost use Rattle.esto_term.specs.declared.term.Term.TheVariants.{Const, Plain};
 ghost use Rattle.esto_docmodel.specs.DocumentFacts.{flat};
 ghost use Rattle.esto_docmodel.specs.Encodings.{atoms_of, atoms, end, step_atoms, used};
-ghost use Rattle.esto_docmodel.specs.Putting.{fact_over};
+ghost use Rattle.esto_docmodel.specs.Gaining.{fact_over};
 ghost use Rattle.esto_docmodel.specs.Shapes.{entries_of};
 
 use crate::pattern::{Entry, Pattern, Step};

@@ -5,6 +5,7 @@
 
 mod documents;
 mod encode;
+mod fact_sink;
 mod field;
 mod fields;
 mod kept;
@@ -15,8 +16,9 @@ mod nodes;
 mod pattern;
 mod tree;
 
-pub use documents::{encode_document, encode_documents};
+pub use documents::{encode_document, encode_documents, put_document};
 pub use encode::{Encoded, EncodedAtoms, encode_pattern};
+pub use fact_sink::FactSink;
 pub use field::FieldOf;
 pub use kept::{Kept, KeptTexts};
 pub use laws::{documents_meet_the_rules, encodings_mean_the_same, matches_rest_on_their_terms};

@@ -2,16 +2,22 @@ use Rattle.std.proofs.Common.{sym, ◌∙◌}
 use Rattle.std.proofs.lemmas.Result.{on_ok_weaker}
 use Rattle.esto_term.specs.declared.term.Term.TheVariants.{Const, Plain}
 use Rattle.esto_docmodel.specs.DocumentFacts.{field}
-use Rattle.esto_docmodel.proofs.EncodeLemmas.{has_constant, none_put, one_put}
+use Rattle.esto_docmodel.proofs.EncodeLemmas.{has_constant, kept_none, kept_one}
+use Rattle.esto_docmodel.proofs.GainLemmas.{gains_none, gains_those}
 use Rattle.esto_docmodel.proofs.nodes.put_field.Goals as goal
 
+pub put_named-requires : goal.put_named-requires
+put_named-requires g c = c.requires.room (field (Plain c.args.parent) (Const c.args.name.now) (Plain c.args.node))
+
 pub returns-then-not-has : goal.returns-then-not-has
-returns-then-not-has c =
-    none_put c.args.relations.now (field (Plain c.args.parent) (Const c.args.name.now) (Plain c.args.node)) c.args.facts.now
-    (has_constant c.args.relations.now.field c.args.name.now ∙ sym c.has.ensures ∙ c.if-not-has.true)
+returns-then-not-has g c =
+    gains_none g.S.FactSink.Holds g.S.FactSink.arities _ c.args.sink.now
+    (kept_none c.args.relations.now (field (Plain c.args.parent) (Const c.args.name.now) (Plain c.args.node))
+    (has_constant c.args.relations.now.field c.args.name.now ∙ sym c.has.ensures ∙ c.if-not-has.true))
 
 pub returns : goal.returns
-returns c = on_ok_weaker c.put_named.result
-    (one_put c.args.relations.now (field (Plain c.args.parent) (Const c.args.name.now) (Plain c.args.node)) c.args.facts.now c.put_named.new.facts
-    (has_constant c.args.relations.now.field c.args.name.now ∙ sym c.has.ensures ∙ c.if-not-has.false))
+returns g c = on_ok_weaker c.put_named.result
+    (gains_those g.S.FactSink.Holds g.S.FactSink.arities _ _ c.args.sink.now c.put_named.new.self
+    (sym (kept_one c.args.relations.now (field (Plain c.args.parent) (Const c.args.name.now) (Plain c.args.node))
+    (has_constant c.args.relations.now.field c.args.name.now ∙ sym c.has.ensures ∙ c.if-not-has.false))))
     c.put_named.ensures
