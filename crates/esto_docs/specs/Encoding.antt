@@ -1,7 +1,9 @@
 -- The facts of the documents of a JSON file.
 use Rattle.std.specs.Prelude.{◌≡◌, ◌+◌, ℕ, false, true, List, Option, Some, None, Result, Ok, Err}
+use Rattle.esto_term.specs.declared.term.Term.{Term}
+use Rattle.esto_semantics.specs.declared.fact.Fact.{Fact}
 use Rattle.esto_docmodel.specs.Encodings.{kept_of, size}
-use Rattle.esto_docmodel.specs.Putting.{Encodes}
+use Rattle.esto_docmodel.specs.Putting.{PutsDocuments}
 use Rattle.esto_docmodel.specs.Rising.{AreRising}
 use Rattle.esto_docmodel.specs.Shapes.{documents}
 use Rattle.esto_docmodel.specs.declared.encode.Encoded.{Encoded}
@@ -27,10 +29,19 @@ GivesEncoded relations first trees fault (Ok encoded) = (fault ≡ None) × AreE
 GivesEncoded relations first trees fault (Err (Fault found)) = fault ≡ Some found
 GivesEncoded relations first trees fault (Err OutOfMemory) = Unit {0}
 
+-- There is no fault, and the sink has gained the facts of the documents, and the answer is the first number that is no node's; or it is the first fault, and
+-- there is one; or memory is wanting.
+abbrev pub GivesNext : {S : Type 0} → (S → List (Fact Term) → Type 0) → (S → Option (List ℕ)) → Kept → ℕ → List Tree → Option FileFault → S → S
+    → Result ℕ FileError → Type 0
+GivesNext Holds arities relations first trees fault old new (Ok next) = (fault ≡ None) × PutsDocuments Holds arities relations trees first next old new
+GivesNext Holds arities relations first trees fault old new (Err (Fault found)) = fault ≡ Some found
+GivesNext Holds arities relations first trees fault old new (Err OutOfMemory) = Unit {0}
+
 -- ---- for private clauses
 
--- The facts of the line's documents are put to those that were there, or the line is bad; or memory is wanting.
-abbrev pub EncodesLine : Kept → List ℕ → Encoded → Encoded → Result (Unit {0}) ParseError → Type 0
-EncodesLine relations line old new (Ok _) = (is_bad line ≡ false) × Encodes relations (trees_of_line line) old new
-EncodesLine relations line old new (Err parse.BadJson) = is_bad line ≡ true
-EncodesLine relations line old new (Err parse.OutOfMemory) = Unit {0}
+-- The facts of the line's documents are put, or the line is bad; or memory is wanting.
+abbrev pub EncodesLine : {S : Type 0} → (S → List (Fact Term) → Type 0) → (S → Option (List ℕ)) → Kept → List ℕ → ℕ → S → S → Result ℕ ParseError → Type 0
+EncodesLine Holds arities relations line first old new (Ok next) =
+    (is_bad line ≡ false) × PutsDocuments Holds arities relations (trees_of_line line) first next old new
+EncodesLine Holds arities relations line first old new (Err parse.BadJson) = is_bad line ≡ true
+EncodesLine Holds arities relations line first old new (Err parse.OutOfMemory) = Unit {0}

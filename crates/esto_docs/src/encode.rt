@@ -1,9 +1,10 @@
 //! The facts of the documents of JSON files.
-ghost use Rattle.std.specs.Prelude.{◌≡◌, ◌∷◌, [], IfOk, OnOk};
+ghost use Rattle.std.specs.Prelude.{◌≡◌, ◌∷◌, [], IfOk};
 ghost use Rattle.serde_json.specs.View.{view, items_view};
-ghost use Rattle.esto_docmodel.specs.Putting.{Encodes};
+ghost use Rattle.esto_docmodel.specs.Gaining.{HaveRoom};
+ghost use Rattle.esto_docmodel.specs.Putting.{PutsDocuments};
 ghost use Rattle.esto_lines.specs.Lines.{lines_of};
-ghost use Rattle.esto_docs.specs.Encoding.{EncodesLine, GivesEncoded, AreEncoded};
+ghost use Rattle.esto_docs.specs.Encoding.{EncodesLine, GivesEncoded, GivesNext};
 ghost use Rattle.esto_docs.specs.Files.{json_of, lines_fault, trees_of_lines, array_fault, trees_of_array, trees_fault, file_trees};
 ghost use Rattle.esto_docs.specs.Trees.{tree_of, trees_of};
 
@@ -11,120 +12,143 @@ use crate::from_json::tree_of;
 use crate::layout::Layout;
 use crate::parse::{ParseError, parse};
 use crate::trees::read_line;
-use esto_docmodel::{Encoded, Kept, encode_document};
+use esto_docmodel::{Encoded, FactSink, Kept, put_document};
 use esto_lines::{cut_line, fault};
 use esto_ports::{FileError, FileKind};
 use esto_term::{List, OutOfMemory};
 use serde_json::Value;
 use std::alloc::Global;
 
-// No facts, before any document is read.
-fn none_encoded(alloc: Global, first: u64) -> Encoded
-    ensures facts { result.facts ≡ [] }
-    ensures next { result.next ≡ first }
-{
-    Encoded {
-        facts: List::new(alloc),
-        next: first,
-    }
-}
-
-// Puts the facts of a line's document at the end, unless the line is blank.
-fn encode_line(
+// Puts the facts of a line's document, unless the line is blank: the first number that is not used.
+fn encode_line<S: FactSink>(
     alloc: Global,
     line: &[u8],
     relations: &Kept,
-    encoded: &mut Encoded,
-) -> Result<(), ParseError>
-    ensures { EncodesLine relations.now line.now encoded.old encoded.new result }
+    sink: &mut S,
+    first: u64,
+) -> Result<u64, ParseError>
+    requires { HaveRoom (S.arities sink.old) relations.now.base }
+    ensures { EncodesLine S.Holds S.arities relations.now line.now first sink.old sink.new result }
 {
     match read_line(alloc, line) {
-        Ok(Some(tree)) => match encode_document(alloc, encoded, relations, &tree) {
-            Ok(()) => Ok(()),
+        Ok(Some(tree)) => match put_document(alloc, sink, relations, &tree, first) {
+            Ok(next) => Ok(next),
             Err(_) => Err(ParseError::OutOfMemory),
         },
-        Ok(None) => Ok(()),
+        Ok(None) => Ok(first),
         Err(error) => Err(error),
     }
 }
 
-// Puts the facts of a file of lines at the end. A line's tree is let go once it is encoded.
-fn encode_lines(
+// Puts the facts of a file of lines. A line's tree is let go once its facts are put.
+fn encode_lines<S: FactSink>(
     alloc: Global,
     bytes: &[u8],
     relations: &Kept,
+    sink: &mut S,
     first: u64,
-) -> Result<Encoded, FileError>
+) -> Result<u64, FileError>
+    requires { HaveRoom (S.arities sink.old) relations.now.base }
     ensures { let lines = lines_of bytes.now in
-        GivesEncoded relations.now first (trees_of_lines lines) (lines_fault 1 lines) result }
+        GivesNext S.Holds S.arities relations.now first (trees_of_lines lines)
+        (lines_fault 1 lines) sink.old sink.new result }
 {
-    let mut encoded = none_encoded(alloc, first);
+    let mut next = first;
     let mut rest = bytes;
     let mut number: u64 = 1;
     'lines: while !rest.is_empty() {
         let (line, after) = cut_line(rest);
-        match encode_line(alloc, line, relations, &mut encoded) {
-            Ok(()) => {}
+        match encode_line(alloc, line, relations, sink, next) {
+            Ok(later) => next = later,
             Err(ParseError::BadJson) => return Err(fault(FileKind::BadJson, number)),
             Err(ParseError::OutOfMemory) => return Err(FileError::OutOfMemory),
         }
         rest = after;
         number += 1;
     }
-    Ok(encoded)
+    Ok(next)
 }
 
-// Puts the facts of a JSON value at the end.
-fn encode_value(
+// Puts the facts of a JSON value.
+fn encode_value<S: FactSink>(
     alloc: Global,
     value: &Value,
     relations: &Kept,
-    encoded: &mut Encoded,
-) -> Result<(), OutOfMemory>
-    ensures { OnOk result
-        (Encodes relations.now (tree_of (view value.now) ∷ []) encoded.old encoded.new) }
+    sink: &mut S,
+    first: u64,
+) -> Result<u64, OutOfMemory>
+    requires { HaveRoom (S.arities sink.old) relations.now.base }
+    ensures { IfOk result (λ next. PutsDocuments S.Holds S.arities relations.now
+        (tree_of (view value.now) ∷ []) first next sink.old sink.new) }
 {
     let tree = tree_of(alloc, value)?;
-    encode_document(alloc, encoded, relations, &tree)
+    put_document(alloc, sink, relations, &tree, first)
 }
 
-// The facts of JSON values.
-fn encode_items(
+// Puts the facts of JSON values.
+fn encode_items<S: FactSink>(
     alloc: Global,
     items: &Vec<Value>,
     relations: &Kept,
+    sink: &mut S,
     first: u64,
-) -> Result<Encoded, OutOfMemory>
-    ensures { IfOk result
-        (AreEncoded relations.now first (trees_of (items_view items.now.items))) }
+) -> Result<u64, OutOfMemory>
+    requires { HaveRoom (S.arities sink.old) relations.now.base }
+    ensures { IfOk result (λ next. PutsDocuments S.Holds S.arities relations.now
+        (trees_of (items_view items.now.items)) first next sink.old sink.new) }
 {
-    let mut encoded = none_encoded(alloc, first);
+    let mut next = first;
     'items: for item in items {
-        encode_value(alloc, item, relations, &mut encoded)?;
+        next = encode_value(alloc, item, relations, sink, next)?;
     }
-    Ok(encoded)
+    Ok(next)
 }
 
-// The facts of a file that is one array.
-fn encode_array(
+// Puts the facts of a file that is one array.
+fn encode_array<S: FactSink>(
     alloc: Global,
     bytes: &[u8],
     relations: &Kept,
+    sink: &mut S,
     first: u64,
-) -> Result<Encoded, FileError>
+) -> Result<u64, FileError>
+    requires { HaveRoom (S.arities sink.old) relations.now.base }
     ensures { let value = json_of bytes.now in
-        GivesEncoded relations.now first (trees_of_array value) (array_fault value) result }
+        GivesNext S.Holds S.arities relations.now first (trees_of_array value)
+        (array_fault value) sink.old sink.new result }
 {
     match parse(alloc, bytes) {
         Ok(value) => match value.as_array() {
-            Some(items) => match encode_items(alloc, items, relations, first) {
-                Ok(encoded) => Ok(encoded),
+            Some(items) => match encode_items(alloc, items, relations, sink, first) {
+                Ok(next) => Ok(next),
                 Err(_) => Err(FileError::OutOfMemory),
             },
             None => Err(fault(FileKind::NotArray, 0)),
         },
         Err(ParseError::BadJson) => Err(fault(FileKind::BadJson, 0)),
         Err(ParseError::OutOfMemory) => Err(FileError::OutOfMemory),
+    }
+}
+
+/// Puts the facts of the documents of a JSON file into the sink, as far as they are kept. Nodes are numbered from `first`
+/// on, and the answer is the first number that is not used; or it is the file's first fault, as `read_trees` has it,
+/// whichever facts are kept. OutOfMemory comes too where a relation or a node has no number of 64 bits. After a fault or
+/// an error some of the facts may be put.
+pub fn encode_into<S: FactSink>(
+    alloc: Global,
+    bytes: &[u8],
+    layout: &Layout,
+    relations: &Kept,
+    sink: &mut S,
+    first: u64,
+) -> Result<u64, FileError>
+    requires { HaveRoom (S.arities sink.old) relations.now.base }
+    ensures { GivesNext S.Holds S.arities relations.now first (file_trees layout.now bytes.now)
+        (trees_fault layout.now bytes.now) sink.old sink.new result }
+{
+    match layout {
+        Layout::Array => encode_array(alloc, bytes, relations, sink, first),
+        Layout::Lines => encode_lines(alloc, bytes, relations, sink, first),
     }
 }
 
@@ -141,8 +165,9 @@ pub fn encode_file(
     ensures { GivesEncoded relations.now first (file_trees layout.now bytes.now)
         (trees_fault layout.now bytes.now) result }
 {
-    match layout {
-        Layout::Array => encode_array(alloc, bytes, relations, first),
-        Layout::Lines => encode_lines(alloc, bytes, relations, first),
+    let mut facts = List::new(alloc);
+    match encode_into(alloc, bytes, layout, relations, &mut facts, first) {
+        Ok(next) => Ok(Encoded { facts, next }),
+        Err(error) => Err(error),
     }
 }

@@ -1,5 +1,5 @@
 //! JSON files of documents: read as trees or as facts, opened as rows of texts by a layout, and written. Start
-//! from `encode_file`, `read_trees`, `open_documents` and `write_documents`.
+//! from `encode_file`, `encode_into`, `read_trees`, `open_documents` and `write_documents`.
 #![tactic(auto)]
 
 mod document;
@@ -12,7 +12,7 @@ mod rows;
 mod trees;
 mod write;
 
-pub use encode::encode_file;
+pub use encode::{encode_file, encode_into};
 pub use layout::Layout;
 pub use rows::open_documents;
 pub use trees::read_trees;

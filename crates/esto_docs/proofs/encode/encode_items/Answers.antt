@@ -1,7 +1,15 @@
+use Rattle.esto_docmodel.proofs.GainLemmas.{puts_none, room_stays}
 use Rattle.esto_docs.proofs.EncodingLemmas.{items_more}
 use Rattle.esto_docs.proofs.encode.encode_items.Goals as goal
 
+pub items-init : goal.items-init
+items-init g c = puts_none g.S.FactSink.Holds g.S.FactSink.arities c.args.relations.now c.args.first c.args.sink.now
+
+pub encode_value-requires : goal.encode_value-requires
+encode_value-requires g c =
+    room_stays g.S.FactSink.Holds g.S.FactSink.arities c.args.relations.now.base c.args.sink.now c.items.sink c.items.invariant.facts.same c.requires
+
 pub items-preserved : goal.items-preserved
-items-preserved c =
-    items_more c.args.relations.now c.args.first c.deref-item-items.result.now c.items.item-index c.item-item.result _ c.items.encoded
-    c.encode_value.new.encoded c.items-test.true c.item-item.is c.items.invariant c.in_ok-encode_value.ensures
+items-preserved g c =
+    items_more g.S.FactSink.Holds g.S.FactSink.arities c.args.relations.now c.args.first c.items.next _ c.deref-item-items.result.now c.items.item-index
+    c.item-item.result _ c.args.sink.now c.items.sink c.encode_value.new.sink c.items-test.true c.item-item.is c.items.invariant c.in_ok-next.ensures
