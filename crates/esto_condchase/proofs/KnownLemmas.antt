@@ -295,25 +295,17 @@ module _ (groups : List Group) (from these : List Term) (atom : Fact Term) (one 
 
 -- ---- the begin
 
-pub first_is : (groups : List Group) (head targets goals goal_items : List Term) (start : List (List Bool)) (by : Kept) (copied : List Term)
-    (none ones : List Reached) → none ≡ [] → goals ≡ map (taken head targets) head → goal_items ≡ goals → copied ≡ targets
-    → ((set : List Bool) → Covers start set)
-    → ((set : List Bool) → Covers by.sets set ↔ (Covers start set × AllZip (AreTouching groups set) targets goal_items))
+pub first_is : (groups : List Group) (head targets : List Term) (by : Kept) (copied : List Term) (none ones : List Reached) → none ≡ [] → copied ≡ targets
+    → ((set : List Bool) → Covers by.sets set ↔ AllZip (AreTouching groups set) targets (map (taken head targets) head))
     → ones ≡ none ++ (record { to = copied; by = by }) ∷ [] → IsFirst groups head targets ones
-first_is groups head targets goals goal_items start by copied none ones none_is goals_are goals_same copied_is everywhere touches grown to set =
+first_is groups head targets by copied none ones none_is copied_is touches grown to set =
     rw (grown, none_is) (
       (λ (one, inside, is, covers).
-          let same : one ≡ record { to = copied; by = by } = sym (Contains-one (record { to = copied; by = by }) one inside) in
-          let own : Covers by.sets set = subst (λ (it : Reached). Covers it.by.sets set) same covers in (
+          let same : one ≡ record { to = copied; by = by } = sym (Contains-one (record { to = copied; by = by }) one inside) in (
             sym is ∙ ap (λ (it : Reached). it.to) same ∙ copied_is,
-            subst (AllZip (AreTouching groups set) targets) (goals_same ∙ goals_are) ((touches set).0 own).1,
+            (touches set).0 (subst (λ (it : Reached). Covers it.by.sets set) same covers),
           )),
-      (λ (is, row). (
-        record { to = copied; by = by },
-        Contains-head (record { to = copied; by = by }) [],
-        copied_is ∙ sym is,
-        (touches set).1 (everywhere set, subst (AllZip (AreTouching groups set) targets) (sym (goals_same ∙ goals_are)) row),
-      )),
+      (λ (is, row). (record { to = copied; by = by }, Contains-head (record { to = copied; by = by }) [], copied_is ∙ sym is, (touches set).1 row)),
     )
 
 -- ---- the groups of the entries

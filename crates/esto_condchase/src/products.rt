@@ -1,13 +1,15 @@
 //! The products of a query's matches: atom by atom, for the worlds of all sets at once.
-ghost use Rattle.std.specs.Prelude.{◌≡◌, ◌↔◌, List, Bool, length, IfOk, OnOk};
+ghost use Rattle.std.specs.Prelude.{◌≡◌, ◌↔◌, List, Bool, length, map, IfOk, OnOk};
+ghost use Rattle.std.specs.List.{AllZip};
 ghost use Rattle.esto_semantics.specs.Facts.{terms_of};
 ghost use Rattle.esto_semantics.specs.Sets.{Covers};
 ghost use Rattle.esto_world_laws.specs.Laws.{HasMatch};
+ghost use Rattle.esto_world_laws.specs.Matches.{taken};
 ghost use Rattle.esto_world_laws.specs.Steps.{AreJoined};
 ghost use Rattle.esto_world_laws.specs.Worlds.{InWorld, AreOfCount};
 ghost use Rattle.esto_known.specs.Groups.{AreGroups};
 ghost use Rattle.esto_world_laws.specs.declared.entry.Entry.{Entry};
-ghost use Rattle.esto_condchase.specs.Products.{AreGroupsOf, AreReachedOf, IsNext, IsFirst};
+ghost use Rattle.esto_condchase.specs.Products.{AreGroupsOf, AreReachedOf, AreTouching, IsNext, IsFirst};
 
 use crate::covered::telling;
 use crate::reached::{Reached, next, sets_of_all};
@@ -31,6 +33,27 @@ fn copied(alloc: Global, terms: &[Term]) -> Result<Terms, OutOfMemory>
     Ok(own)
 }
 
+/// The minimal sets in whose worlds the targets touch what the head meets first.
+fn touched(
+    alloc: Global,
+    groups: &Groups,
+    head: &[Term],
+    targets: &[Term],
+    count: usize,
+) -> Result<Products, OutOfMemory>
+    requires heads { length targets.now ≡ length head.now }
+    requires groups { AreGroupsOf count groups.now }
+    ensures count { IfOk result (λ it. it.count ≡ count) }
+    ensures covers { IfOk result (λ it. (set : List Bool) → Covers it.sets set
+        ↔ AllZip (AreTouching groups.now set) targets.now
+        (map (taken head.now targets.now) head.now)) }
+{
+    let none = RowBits::new(alloc, count)?;
+    let start = Products::only(alloc, &none)?;
+    let goals = taken_terms(alloc, head, targets, head)?;
+    touch_all(alloc, groups, targets, goals.items(), count, &start)
+}
+
 /// The targets, which the head is to meet, by the minimal sets in whose worlds it does.
 fn first(
     alloc: Global,
@@ -44,10 +67,7 @@ fn first(
     ensures counted { IfOk result (AreReachedOf count) }
     ensures first { IfOk result (IsFirst groups.now head.now targets.now) }
 {
-    let goals = taken_terms(alloc, head, targets, head)?;
-    let none = RowBits::new(alloc, count)?;
-    let start = Products::only(alloc, &none)?;
-    let by = touch_all(alloc, groups, targets, goals.items(), count, &start)?;
+    let by = touched(alloc, groups, head, targets, count)?;
     let mut ones = List::new(alloc);
     ones.push(Reached {
         to: copied(alloc, targets)?,
