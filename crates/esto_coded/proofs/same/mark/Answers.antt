@@ -8,7 +8,8 @@ use Rattle.esto_coded.proofs.SameLemmas.{is_so, is_not, marked_more}
 use Rattle.esto_coded.proofs.same.mark.Goals as goal
 
 pub returns-in_default-clause-found : goal.returns-in_default-clause-found
-returns-in_default-clause-found c = is_not (MatchOption-at_none (¬ (Contains c.args.rows.now.rows c.args.row.now)) (StandsLast c.args.rows.now.rows c.args.row.now)
+returns-in_default-clause-found c = is_not
+    (MatchOption-at_none (¬ (Contains c.args.rows.now.rows c.args.row.now)) (StandsLast c.args.rows.now.rows c.args.row.now)
     c.in_default.is (c.find.ensures.last c.requires.own))
 
 pub returns-in_default-clause-marked : goal.returns-in_default-clause-marked
