@@ -11,19 +11,11 @@ use std::alloc::Global;
 /// A relation of fewer rows gets no index.
 const FEW_ROWS: usize = 64;
 
-/// Whether the rows have an index by the column, which is asked for a code that few rows hold, if any.
-fn has_index(alloc: Global, rows: &Rows, column: usize) -> Result<bool, OutOfMemory> {
-    match rows.places(alloc, &[column], &[u64::MAX])? {
-        Some(_) => Ok(true),
-        None => Ok(false),
-    }
-}
-
 /// Makes an index of the rows by the column, where they have none and there is memory for it.
 fn index_column(alloc: Global, column: usize, rows: &mut Rows) -> Result<(), OutOfMemory>
     ensures { rows.new ≡ rows.old }
 {
-    if has_index(alloc, rows, column)? {
+    if rows.index_by(&[column]).is_some() {
         return Ok(());
     }
     // without it rows are found more slowly, and that is all

@@ -10,23 +10,11 @@ ghost use Rattle.esto_term.specs.declared.term.Term.{Term};
 ghost use Rattle.esto_coded.specs.Whole.{IsLinked, AreFilters, IsWholeGet, AreWholeGets, AreWholeSteps};
 
 use esto_columns::Codes;
+use esto_plan::place_of;
 use esto_semantics::Atom;
 use esto_steps::{Get, Gets, Link, Links, Source, Sources, Steps};
 use esto_term::{List, OutOfMemory, Replicate, Term, Terms};
 use std::alloc::Global;
-
-/// The first place of the term among the terms.
-fn place_of(terms: &[Term], term: &Term) -> Option<usize>
-    ensures { MatchOption result (¬ (Contains terms.now term.now))
-        (λ place. slice_get terms.now place ≡ Some term.now) }
-{
-    'terms: for (place, other) in terms.iter().enumerate() {
-        if other.equal(term) {
-            return Some(place);
-        }
-    }
-    None
-}
 
 /// A source of the term among the bound ones, or None where it is new. A constant gets a code.
 fn source_of(term: &Term, bound: &[Term], codes: &mut Codes) -> Result<Option<Source>, OutOfMemory>

@@ -18,7 +18,7 @@ use esto_views::{Access, AccessList, FragmentDefs, Order, Plan, PlanAtom};
 use std::alloc::Global;
 
 /// The first place of the term among the terms.
-fn place_of(terms: &[Term], term: &Term) -> Option<usize>
+pub fn place_of(terms: &[Term], term: &Term) -> Option<usize>
     ensures { MatchOption result (¬ (Contains terms.now term.now))
         (λ place. slice_get terms.now place ≡ Some term.now) }
 {
