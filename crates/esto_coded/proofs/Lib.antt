@@ -1,4 +1,5 @@
 pub mod StandLemmas
+pub mod SinkLemmas
 pub mod RelationLemmas
 pub mod SameLemmas
 pub mod ShownLemmas

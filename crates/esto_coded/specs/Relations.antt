@@ -1,7 +1,10 @@
 -- For private clauses: texts with codes and relations of rows of codes, and what contracts see of them.
-use Rattle.std.specs.Prelude.{◌≡◌, ℕ, List, [], ◌∷◌, map, Contains}
+use Rattle.std.specs.Prelude.{◌≡◌, ℕ, List, [], ◌∷◌, ◌++◌, map, Contains}
 use Rattle.esto_columns.specs.declared.stored.StoredRows.{StoredRows}
-use Rattle.esto_coded.specs.Coded.{Coded}
+use Rattle.esto_docmodel.specs.Gaining.{fact_over}
+use Rattle.esto_semantics.specs.declared.fact.Fact.{Fact}
+use Rattle.esto_term.specs.declared.term.Term.{Term}
+use Rattle.esto_coded.specs.Coded.{AreCodesOf, Coded, StandFor, arities_of}
 
 -- What contracts see of the texts and the relations.
 abbrev pub coded_of : List (List ℕ) → List StoredRows → Coded
@@ -14,3 +17,10 @@ AreWhole relations = (relation : StoredRows) → Contains relations relation →
 -- A relation of the arity, with no rows and that one way.
 abbrev pub no_rows : ℕ → StoredRows
 no_rows arity = record { rows = record { arity = arity; rows = [] }; ways = [] ∷ [] }
+
+-- The row of codes came to the relation of the number: whatever facts the rows stood for, they stand now for those and for the row's; and no relation has
+-- other columns.
+pub record PutsRow (number : ℕ) (codes : List ℕ) (old new : List StoredRows) : Type 0 where
+  pub facts : (texts : List (List ℕ)) (terms : List Term) → AreCodesOf texts terms codes → (before : List (Fact Term))
+      → StandFor (coded_of texts old) before → StandFor (coded_of texts new) (before ++ fact_over number terms ∷ [])
+  pub arities : arities_of (coded_of [] new) ≡ arities_of (coded_of [] old)

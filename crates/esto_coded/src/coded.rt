@@ -2,20 +2,17 @@
 ghost use Rattle.std.specs.Prelude.{◌≡◌, ℕ, ◌++◌, List, [], length, map, slice_get, Some, Contains, IfOk, OnOk};
 ghost use Rattle.esto_columns.specs.Interned.{AreCodedRows, Grows};
 ghost use Rattle.esto_relmodel.specs.RowFacts.{row_fact};
-ghost use Rattle.esto_semantics.specs.Maps.{AreFlat};
 ghost use Rattle.esto_semantics.specs.declared.fact.Fact.{Fact};
 ghost use Rattle.esto_stores.specs.Coded.{CodesRows};
 ghost use Rattle.esto_stores.specs.Keys.{key_fault, key_rows};
 ghost use Rattle.esto_stores.specs.Table.{table_fault, table_rows};
 ghost use Rattle.esto_term.specs.declared.term.Term.{Term};
-ghost use Rattle.esto_coded.specs.Coded.{StandFor, HasPlace, arities_of};
+ghost use Rattle.esto_coded.specs.Coded.{StandFor, arities_of};
 ghost use Rattle.esto_coded.specs.Relations.{AreWhole, coded_of};
 
-use crate::facts::put_facts;
 use crate::relations::{no_relations, put_rows};
 use esto_columns::{Codes, Rows, StoredRows, code_taken_rows};
 use esto_ports::FileError;
-use esto_semantics::Facts;
 use esto_stores::{code_keys, code_table};
 use esto_term::{OutOfMemory, TextRow, TextRows};
 use std::alloc::Global;
@@ -93,19 +90,6 @@ impl CodedFacts {
             → StandFor self.new (facts ++ map (row_fact relation) list)) }
     {
         put_codes(alloc, relation, rows, &mut self.relations)
-    }
-
-    /// Puts the facts. Want of memory is answered too where a node's number has no code. After an error some of them
-    /// may be put.
-    pub fn add_facts(&mut self, alloc: Global, facts: &Facts) -> Result<(), OutOfMemory>
-        requires flat { AreFlat facts.now }
-        requires places { (fact : Fact Term) → Contains facts.now fact → HasPlace self.old fact }
-        ensures arities { OnOk result (arities_of self.new ≡ arities_of self.old) }
-        ensures grown { Grows self.old.texts self.new.texts }
-        ensures facts { OnOk result ((all : List (Fact Term)) → StandFor self.old all
-            → StandFor self.new (all ++ facts.now)) }
-    {
-        put_facts(alloc, facts.items(), &mut self.codes, &mut self.relations)
     }
 
     /// The rows of texts as rows of codes, in order. New texts get codes.

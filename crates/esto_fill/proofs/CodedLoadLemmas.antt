@@ -1,41 +1,34 @@
 -- Facts of files that are put into rows of codes.
-use Rattle.std.proofs.Common.{◌≡◌, ◌⊎◌, ◌↔◌, ◌+◌, inl, inr, ℕ, List, [], ◌∷◌, ◌++◌, filter, length, map, Bool, true, false, Some, None, slice_get}
-use Rattle.std.proofs.Common.{Contains, refl, sym, ap, ◌∙◌, subst, append_assoc, append-nil, arith}
-use Rattle.std.specs.Prelude.{OnOk, Result, Ok, Err, if◌then◌else◌, ◌==◌, ◌||◌, codes}
-use Rattle.std.specs.List.{list_any, onto_first}
-use Rattle.std.proofs.lemmas.Bool.{cases_Bool, false≢true}
+use Rattle.std.proofs.Common.{◌≡◌, ◌↔◌, ◌+◌, inl, inr, ℕ, List, [], ◌∷◌, ◌++◌, length, map, true, false, Some, None, slice_get}
+use Rattle.std.proofs.Common.{Contains, refl, sym, ap, ◌∙◌, subst, append-nil, arith}
+use Rattle.std.specs.Prelude.{OnOk, Result, Ok, Err, codes}
+use Rattle.std.proofs.lemmas.Bool.{false≢true}
 use Rattle.std.proofs.lemmas.List.Elements.{Contains-append_cases, Contains-append_left, Contains-append_right}
-use Rattle.std.proofs.lemmas.Option.{none-some}
+use Rattle.std.proofs.lemmas.Option.{same_Some}
 use Rattle.esto_catalog.specs.Datasets.{StandFrom, model_relations, part, relations_of}
 use Rattle.esto_catalog.specs.declared.dataset.Dataset.{Dataset}
 use Rattle.esto_coded.specs.Coded.{Coded, HasPlace, StandFor, arities_of}
 use Rattle.esto_columns.specs.Interned.{AreCodedRows}
 use Rattle.esto_docmodel.specs.DocumentFacts.{DocFact, root, field, item, value, below, flat}
-use Rattle.esto_docmodel.specs.Encodings.{facts_from, is_kept, kept_of, size}
+use Rattle.esto_docmodel.specs.Encodings.{kept_of, size}
 use Rattle.esto_docmodel.specs.Shapes.{documents}
 use Rattle.esto_docmodel.specs.declared.encode.Encoded.{Encoded}
 use Rattle.esto_docmodel.specs.declared.kept.Kept.{Kept}
 use Rattle.esto_docmodel.specs.declared.tree.Tree.{Tree}
-use Rattle.esto_docmodel.proofs.DocumentLemmas.{kept_append}
-use Rattle.esto_docmodel.proofs.EncodeLemmas.{rising_append, size_append}
-use Rattle.esto_docs.specs.Encoding.{AreEncoded}
-use Rattle.esto_docs.specs.Files.{file_trees, is_bad, lines_fault, trees_fault, trees_of_line, trees_of_lines}
-use Rattle.esto_docs.proofs.LineLemmas.{line_bad, line_good}
-use Rattle.esto_lines.specs.Lines.{IsOneLine, line_feed, lines_of}
+use Rattle.esto_docmodel.specs.Putting.{PutsDocuments}
+use Rattle.esto_docs.specs.Files.{file_trees, trees_fault}
 use Rattle.esto_ports.specs.declared.file_fault.FileError.{FileError}
 use Rattle.esto_ports.specs.declared.file_fault.FileError.TheVariants as content
-use Rattle.esto_ports.specs.declared.file_fault.FileFault.{FileFault}
 use Rattle.esto_query.specs.declared.schema.Relation.{Relation}
 use Rattle.esto_read.specs.declared.words.DataModel.{DataModel}
 use Rattle.esto_read.specs.declared.words.DataModel.TheVariants.{Table, Documents, Keys}
 use Rattle.esto_relmodel.specs.Once.{AreEachOnce}
 use Rattle.esto_relmodel.specs.RowFacts.{AreRowFacts, row_fact}
-use Rattle.esto_semantics.specs.Maps.{AreFlat}
 use Rattle.esto_semantics.specs.declared.fact.Fact.{Fact}
 use Rattle.esto_stores.specs.Keys.{key_fault, key_rows}
 use Rattle.esto_stores.specs.Rows.{Row}
 use Rattle.esto_stores.specs.Table.{table_fault, table_rows}
-use Rattle.esto_term.proofs.ListLemmas.{Contains-cases, Contains-filter_from, Contains-head, Contains-map, Contains-map_from, Contains-nil, Contains-one, Contains-rest, map_at}
+use Rattle.esto_term.proofs.ListLemmas.{Contains-map, Contains-map_from, Contains-nil, map_at}
 use Rattle.esto_term.specs.declared.term.Term.{Term}
 use Rattle.esto_fill.specs.CodedParts.{HasPlaces, HasRelations, Puts, PutsEncoded, PutsFile, PutsKept, PutsRead, PutsTrees}
 use Rattle.esto_fill.specs.Coding.{IsCodedFrom, IsOver}
@@ -44,7 +37,7 @@ use Rattle.esto_fill.specs.Wanted.{IsKeptFor, is_wanted}
 use Rattle.esto_fill.specs.declared.coded_data.CodedData.{CodedData}
 use Rattle.esto_fill.specs.declared.datasets.DatasetBytes.{DatasetBytes}
 use Rattle.esto_fill.specs.declared.wanted.Wanted.{Wanted}
-use Rattle.esto_fill.proofs.FileLemmas.{append_flat, documents_flat, documents_give, keys_give, load_more, table_gives}
+use Rattle.esto_fill.proofs.FileLemmas.{append_flat, documents_give, keys_give, load_more, table_gives}
 use Rattle.esto_fill.proofs.OnceLemmas.{rows_once}
 use Rattle.esto_fill.proofs.ValueLemmas.{flat_kept}
 use Rattle.esto_fill.proofs.WantedLemmas.{leaves_none}
@@ -63,13 +56,6 @@ stand_same coded facts others same stand = record {
 -- nothing is put
 pub puts_none : (coded : CodedData) → Puts [] coded coded
 puts_none coded = record { stand = λ facts stand. subst (StandFor coded.facts) (sym (append-nil facts)) stand; arities = refl }
-
--- what is put after what was put
-pub puts_more : (own more : List (Fact Term)) (first middle last : CodedData) → Puts own first middle → Puts more middle last → Puts (own ++ more) first last
-puts_more own more first middle last before after = record {
-  stand = λ facts stand. subst (StandFor last.facts) (append_assoc facts own more) (after.stand (facts ++ own) (before.stand facts stand));
-  arities = after.arities ∙ before.arities;
-}
 
 -- rows that are coded, and put where they are coded
 pub coded_put : (relation : ℕ) (rows : List Row) (codes : List (List ℕ)) (old : CodedData) (middle last : Coded)
@@ -187,128 +173,17 @@ module _ (dataset : Dataset) (coded : CodedData) (relations : HasRelations datas
       place (value n text) = of_model Documents is 3 (part dataset.name (codes "value") 2) refl
       place (below a n) = of_model Documents is 4 (part dataset.name (codes "below") 2) refl
 
--- no relation has other columns after the facts are put
-pub places_stay : (relations : Kept) (own : List (Fact Term)) (old new : CodedData) → Puts own old new → HasPlaces relations old → HasPlaces relations new
-places_stay relations own old new puts places fact =
-    ap (λ those. slice_get those (flat relations.base fact).relation) puts.arities ∙ places fact
-
 -- ---- documents
 
--- what is kept of documents has its place
-pub kept_places : (relations : Kept) (first : ℕ) (trees : List Tree) (facts : List (Fact Term)) (coded : CodedData) → HasPlaces relations coded
-    → facts ≡ kept_of relations first (documents trees) → (fact : Fact Term) → Contains facts fact → HasPlace coded.facts fact
-kept_places relations first trees facts coded places is fact inside =
-    let from = Contains-map_from (flat relations.base) (filter (is_kept relations) (facts_from [] first (documents trees))) fact
-    (subst (λ those. Contains those fact) is inside) in
-    subst (HasPlace coded.facts) from.2 (places from.0)
-
--- and is over constants and plain terms
-pub kept_flat : (relations : Kept) (first : ℕ) (trees : List Tree) (facts : List (Fact Term)) → facts ≡ kept_of relations first (documents trees)
-    → AreFlat facts
-kept_flat relations first trees facts is term (fact, inside, at) =
-    let all = facts_from [] first (documents trees) in
-    let from = Contains-map_from (flat relations.base) (filter (is_kept relations) all) fact (subst (λ those. Contains those fact) is inside) in
-    let among = Contains-filter_from (is_kept relations) all from.0 from.1 in
-    documents_flat relations.base first (documents trees) term
-    (flat relations.base from.0, Contains-map (flat relations.base) all from.0 among.0, subst (λ (it : Fact Term). Contains it.terms term) (sym from.2) at)
-
--- the documents that are encoded are put
-pub encoded_put : (relations : Kept) (first : ℕ) (trees : List Tree) (encoded : Encoded) (old new : CodedData) → first ≡ old.next
-    → AreEncoded relations first trees encoded → PutsEncoded encoded old new → PutsKept relations trees old new
-encoded_put relations first trees encoded old new same are (puts, next) = record {
-  puts = subst (λ (those : List (Fact Term)). Puts those old new) (are.facts ∙ ap (λ n. kept_of relations n (documents trees)) same) puts;
-  next = next ∙ are.next ∙ ap (λ n. n + size (documents trees)) same;
-  rising = are.rising;
+-- the documents whose facts the rows of codes have gained are put
+pub gained_put : (relations : Kept) (trees : List Tree) (old : CodedData) (facts : Coded) (next : ℕ)
+    → PutsDocuments StandFor (λ (it : Coded). Some (arities_of it)) relations trees old.next next old.facts facts
+    → PutsKept relations trees old (record { facts = facts; next = next })
+gained_put relations trees old facts next puts = record {
+  puts = record { stand = puts.facts.held; arities = same_Some (arities_of facts) (arities_of old.facts) puts.facts.same };
+  next = puts.next;
+  rising = puts.rising;
 }
-
--- no documents
-pub kept_none : (relations : Kept) (coded : CodedData) → PutsKept relations [] coded coded
-kept_none relations coded = record { puts = puts_none coded; next = omega arith; rising = tt }
-
--- more documents after others
-pub kept_more : (relations : Kept) (trees more : List Tree) (first middle last : CodedData) → PutsKept relations trees first middle
-    → PutsKept relations more middle last → PutsKept relations (trees ++ more) first last
-kept_more relations trees more first middle last before after = record {
-  puts = subst (λ (those : List (Fact Term)). Puts those first last)
-      (ap (λ n. kept_of relations first.next (documents trees) ++ kept_of relations n (documents more)) before.next ∙ sym (kept_append relations first.next trees more))
-      (puts_more (kept_of relations first.next (documents trees)) (kept_of relations middle.next (documents more)) first middle last before.puts after.puts);
-  next = let whole = size_append trees more in let one = before.next in let two = after.next in omega (arith, one, two, whole);
-  rising = rising_append trees more before.rising after.rising;
-}
-
--- ---- a line
-
--- a line that is a line of a file has no line feed
-no_feed : (bytes : List ℕ) (line : List ℕ) → Contains (lines_of bytes) line → IsOneLine line
-unfolding lines_of
-no_feed [] line inside = absurd (Contains-nil line inside)
-no_feed (b ∷ rest) line inside = by (b == line_feed) refl inside (no_feed rest)
-  where
-    onto : (lines : List (List ℕ)) → ((it : List ℕ) → Contains lines it → IsOneLine it) → (b == line_feed) ≡ false → (it : List ℕ)
-        → Contains (onto_first b lines) it → IsOneLine it
-    onto [] each other it inside =
-        let is = Contains-one (b ∷ []) it inside in subst IsOneLine is (rw other refl)
-    onto (first ∷ lines) each other it inside = elim (Contains-cases (b ∷ first) lines it inside) [
-      | inl is ↦ subst IsOneLine is (rw other (each first (Contains-head first lines)))
-      | inr later ↦ each it (Contains-rest first lines it later)
-    ]
-
-    by : (test : Bool) → (b == line_feed) ≡ test → Contains (if test then [] ∷ lines_of rest else onto_first b (lines_of rest)) line
-        → ((it : List ℕ) → Contains (lines_of rest) it → IsOneLine it) → IsOneLine line
-    by true is among each = elim (Contains-cases [] (lines_of rest) line among) [
-      | inl empty ↦ subst IsOneLine empty refl
-      | inr later ↦ each line later
-    ]
-    by false is among each = onto (lines_of rest) each is line among
-
--- the lines of a line
-line_alone : (line : List ℕ) → IsOneLine line → (line ≡ []) ⊎ (lines_of line ≡ line ∷ [])
-unfolding lines_of
-line_alone [] one = inl refl
-line_alone (b ∷ rest) one = inr (by (b == line_feed) refl one (line_alone rest))
-  where
-    by : (test : Bool) → (b == line_feed) ≡ test → (test || list_any (λ it. it == line_feed) rest) ≡ false
-        → (IsOneLine rest → (rest ≡ []) ⊎ (lines_of rest ≡ rest ∷ []))
-        → (if test then [] ∷ lines_of rest else onto_first b (lines_of rest)) ≡ (b ∷ rest) ∷ []
-    by true is told later = absurd (false≢true (sym told))
-    by false is told later = elim (later told) [
-      | inl empty ↦ subst (λ those. onto_first b (lines_of those) ≡ (b ∷ those) ∷ []) (sym empty) refl
-      | inr same ↦ ap (onto_first b) same
-    ]
-
-module _ (line : List ℕ) (one : IsOneLine line) where
-  -- the documents of a file that is a line alone are those of the line
-  pub line_trees : trees_of_lines (lines_of line) ≡ trees_of_line line
-  unfolding lines_of
-  line_trees = elim (line_alone line one) [
-    | inl empty ↦ subst (λ those. trees_of_lines (lines_of those) ≡ trees_of_line those) (sym empty) refl
-    | inr alone ↦ ap trees_of_lines alone ∙ append-nil (trees_of_line line)
-  ]
-
-  -- where it has no fault, the line is good
-  pub line_good_alone : lines_fault 1 (lines_of line) ≡ None → is_bad line ≡ false
-  line_good_alone none = elim (line_alone line one) [
-    | inl empty ↦ subst (λ those. is_bad those ≡ false) (sym empty) refl
-    | inr alone ↦ elim (cases_Bool (is_bad line)) [
-      | inl bad ↦ absurd (none-some _ (sym none ∙ (ap (lines_fault 1) alone ∙ line_bad line [] 1 bad)))
-      | inr good ↦ good
-    ]
-  ]
-
-  -- and where it has one, bad
-  pub line_bad_alone : {found : FileFault} → lines_fault 1 (lines_of line) ≡ Some found → is_bad line ≡ true
-  unfolding lines_of lines_fault
-  line_bad_alone {found} some = elim (line_alone line one) [
-    | inl empty ↦ absurd (none-some found (ap (λ those. lines_fault 1 (lines_of those)) (sym empty) ∙ some))
-    | inr alone ↦ elim (cases_Bool (is_bad line)) [
-      | inl bad ↦ bad
-      | inr good ↦ absurd (none-some found (sym (line_good line [] 1 good) ∙ sym (ap (lines_fault 1) alone) ∙ some))
-    ]
-  ]
-
--- the first line of bytes has no line feed
-pub first_line : (bytes line after : List ℕ) → lines_of bytes ≡ line ∷ lines_of after → IsOneLine line
-first_line bytes line after is = no_feed bytes line (subst (λ those. Contains those line) (sym is) (Contains-head line (lines_of after)))
 
 -- ---- what a file gives
 

@@ -32,9 +32,8 @@ lines-preserved g c =
       goes c.args.bytes.now c.lines.rest.now line c.cut_line.result.1.now trees c.lines.number c.lines.invariant.1 c.cut_line.ensures.lines
           c.cut_line.ensures.less
           c.in-Ok.ensures.0,
-      puts_more g.S.FactSink.Holds g.S.FactSink.arities c.args.relations.now trees (trees_of_line line) c.args.first c.lines.next _ c.args.sink.now c.lines.sink _
-          c.lines.invariant.2
-          c.in-Ok.ensures.1,
+      puts_more g.S.FactSink.Holds g.S.FactSink.arities c.args.relations.now trees (trees_of_line line) c.args.first c.lines.next _ c.args.sink.now
+          c.lines.sink _ c.lines.invariant.2 c.in-Ok.ensures.1,
     )
 
 pub returns : goal.returns
