@@ -9,6 +9,10 @@ pub mod PathLemmas
 pub mod MatchLemmas
 pub mod PlainLemmas
 pub mod RowLemmas
+pub mod HoldingLemmas
+pub mod FillingLemmas
+pub mod FillingTurns
+pub mod PlaceLemmas
 pub mod GroupLemmas
 pub mod WriteLemmas
 pub mod EncodingLemmas

@@ -2,6 +2,7 @@ pub mod Trees
 pub mod Files
 pub mod Parsing
 pub mod Rows
+pub mod Filling
 pub mod Documents
 pub mod Plain
 pub mod Laws

@@ -1,11 +1,8 @@
 -- The rows that documents have by a layout.
-use Rattle.std.specs.Prelude.{◌≡◌, ◌↔◌, ◌⊎◌, ℕ, true, false, List, [], map, length, slice_index_or, Contains, Option, Some, None, Result, Ok, Err}
-use Rattle.std.specs.FinMap.{get}
-use Rattle.std.specs.List.{range_with_len}
+use Rattle.std.specs.Prelude.{◌≡◌, ◌↔◌, ◌⊎◌, ℕ, true, false, List, [], length, slice_index_or, Contains, Option, Some, None, Result, Ok, Err}
 use Rattle.esto_term.specs.declared.term.Term.{Term, out-Term}
 use Rattle.esto_term.specs.declared.term.Term.TheOpen.{Term-F}
 use Rattle.esto_term.specs.declared.term.Term.TheVariants.{Const}
-use Rattle.esto_query.specs.Valuations.{Assignment}
 use Rattle.esto_docmodel.specs.Patterns.{Entries, Matches}
 use Rattle.esto_docmodel.specs.Shapes.{shape}
 use Rattle.esto_docmodel.specs.declared.tree.Tree.{Tree}
@@ -56,12 +53,3 @@ abbrev pub OpensLine : (List Tree → Row → Type 0) → List ℕ → List Row 
 OpensLine IsRow line old new (Ok _) = (is_bad line ≡ false) × Gains (IsRow (trees_of_line line)) old new
 OpensLine IsRow line old new (Err parse.BadJson) = is_bad line ≡ true
 OpensLine IsRow line old new (Err parse.OutOfMemory) = Unit {0}
-
--- The text of a term that a valuation gives or not: a constant's own, and else none.
-abbrev pub text_of_value : Option Term → List ℕ
-text_of_value None = []
-text_of_value (Some term) = text_in [] term
-
--- The row of a valuation of the columns.
-abbrev pub row_of : ℕ → Assignment → Row
-row_of columns valuation = map (λ column. text_of_value (get valuation column)) (range_with_len 0 columns)

@@ -4,9 +4,12 @@
 
 mod document;
 mod encode;
+mod filling;
 mod from_json;
+mod holding;
 pub mod laws;
 mod layout;
+mod matching;
 mod parse;
 mod rows;
 mod trees;

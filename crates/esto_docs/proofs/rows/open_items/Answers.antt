@@ -13,8 +13,8 @@ pub items-preserved : goal.items-preserved
 items-preserved c =
     let es = entries_of c.args.pattern.now.entries in
     let more = trees_more c.deref-item-items.result.now c.items.item-index c.item-item.result _ c.items-test.true c.item-item.is in
-    subst (λ (ts : List Tree). HasRows c.args.columns es ts c.put_value.new.rows) (sym more)
-    (rows_go c.args.columns es _ _ c.items.rows c.put_value.new.rows c.items.invariant c.in_ok-put_value.ensures)
+    subst (λ (ts : List Tree). HasRows c.args.columns es ts c.put_rows.new.rows) (sym more)
+    (rows_go c.args.columns es _ _ c.items.rows c.put_rows.new.rows c.items.invariant c.in_ok-put_rows.ensures)
 
 pub returns : goal.returns
 returns c =
