@@ -7,16 +7,12 @@ mod bench;
 mod check;
 mod command;
 mod ending;
-mod ends;
+pub mod ends;
 mod laws;
 mod list;
 mod run;
 mod top;
 
-pub use ends::{
-    cases_have_summaries, commands_come_to_an_end, files_are_opened, plans_have_lists,
-    queries_have_plans_or_clashes, sets_are_run, unions_are_listed_and_run,
-};
 pub use esto_opening::{Status, status_line};
 pub use laws::{
     answers_agree_with_runs, explained_sets_are_accepted, outcomes_are_determined,
