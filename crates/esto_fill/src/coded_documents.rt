@@ -24,7 +24,14 @@ fn put_kept(
     ensures { PutsTrees relations.now (file_trees layout.now bytes.now)
         (trees_fault layout.now bytes.now) coded.old coded.new result }
 {
-    let next = encode_into(alloc, bytes, layout, relations, &mut coded.facts, coded.next)?;
+    let next = encode_into(
+        alloc,
+        bytes,
+        layout,
+        relations,
+        &mut coded.facts,
+        coded.next,
+    )?;
     coded.next = next;
     Ok(())
 }
