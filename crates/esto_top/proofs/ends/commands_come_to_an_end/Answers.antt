@@ -1,7 +1,7 @@
 use Rattle.esto_top.proofs.CommandLemmas.{answer_ends, audit_ends, contains_ends, minimise_ends, verify_ends}
 use Rattle.esto_top.proofs.ExplainEndLemmas.{explain_ends}
 use Rattle.esto_top.proofs.FillLemmas.{make_ends}
-use Rattle.esto_top.proofs.steps.commands_come_to_an_end.Goals as goal
+use Rattle.esto_top.proofs.ends.commands_come_to_an_end.Goals as goal
 
 pub returns-clause-answer : goal.returns-clause-answer
 returns-clause-answer c = λ files catalogue_name query_name.

@@ -1,5 +1,5 @@
 use Rattle.esto_top.proofs.OpeningLemmas.{catalogue_opens, query_opens, union_opens}
-use Rattle.esto_top.proofs.steps.files_are_opened.Goals as goal
+use Rattle.esto_top.proofs.ends.files_are_opened.Goals as goal
 
 pub returns-clause-catalogue : goal.returns-clause-catalogue
 returns-clause-catalogue c = λ files name. catalogue_opens c.reading_laws_hold.ensures files name

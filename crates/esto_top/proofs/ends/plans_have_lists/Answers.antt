@@ -1,5 +1,5 @@
 use Rattle.esto_top.proofs.RunEndLemmas.{chooses_ends, listing_exists}
-use Rattle.esto_top.proofs.steps.plans_have_lists.Goals as goal
+use Rattle.esto_top.proofs.ends.plans_have_lists.Goals as goal
 use Rattle.esto_top.proofs.PlannedLemmas.{list_exists}
 
 pub returns-clause-list : goal.returns-clause-list

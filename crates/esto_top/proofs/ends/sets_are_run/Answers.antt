@@ -1,7 +1,7 @@
 use Rattle.esto_views.specs.Plans.{plan_query}
 use Rattle.esto_top.proofs.ListLemmas.{used_exist}
 use Rattle.esto_top.proofs.RunEndLemmas.{rows_exist, set_opens}
-use Rattle.esto_top.proofs.steps.sets_are_run.Goals as goal
+use Rattle.esto_top.proofs.ends.sets_are_run.Goals as goal
 
 pub returns-clause-fragments : goal.returns-clause-fragments
 returns-clause-fragments c = λ plan set. used_exist (plan_query plan).body set
