@@ -4,8 +4,8 @@ ghost use Rattle.either.specs.Either.{MatchEither};
 ghost use Rattle.esto_semantics.specs.Rules.{Rule};
 ghost use Rattle.esto_constraint.specs.Constraints.{rule_of, rules_of};
 ghost use Rattle.esto_constraint.specs.Graphs.{IsWithin, IsAcyclic, IsLeastCycle, AreRanks};
-ghost use Rattle.esto_acyclic.specs.Relations.{AreNamesOf, edges_from, edges_between, edges_of_rule, edges_of};
-ghost use Rattle.esto_constraint.specs.Relations.{IsEdge};
+ghost use Rattle.esto_acyclic.specs.Relations.{AreNamesOf};
+ghost use Rattle.esto_constraint.specs.Relations.{edges_from, edges_between, edges_of_rule, edges_of, IsEdge};
 
 use crate::graph::{Edge, judge_edges};
 use either::{Either, Left, Right};

@@ -1,6 +1,6 @@
 -- What the entries say from which listed sets are read.
 use Rattle.std.specs.Prelude.{◌≡◌, ◌⊎◌, ◌↔◌, ℕ, Bool, List, length, map, slice_index, Contains}
-use Rattle.esto_catalog.specs.declared.catalogue.Catalogue.{Catalogue}
+use Rattle.esto_mapping.specs.declared.catalogue.Catalogue.{Catalogue}
 use Rattle.esto_constraint.specs.Constraints.{rules_of}
 use Rattle.esto_plan_laws.specs.UnionSets.{AnswersUnion}
 use Rattle.esto_query.specs.Making.{query_of}

@@ -18,11 +18,11 @@ ghost use Rattle.esto_backchase.specs.Candidates.{facts_chosen, IsSearch, Answer
 use crate::safety::is_safe;
 use either::{Either, Left, Right};
 use esto_bits::RowBits;
-use esto_catalog::{Catalogue, catalogues_are_sound};
 use esto_chase::{Chased, Clash, chase};
 use esto_chase_laws::queries_have_starts;
 use esto_constraint::rules_are_sound;
 use esto_instance::Instance;
+use esto_mapping::{Catalogue, catalogues_are_sound};
 use esto_query::{ExpandedFact, ExpandedFacts, Facts, Query};
 use esto_semantics::{
     an_expansion_means_the_same, an_expansion_of_a_plan_expands_its_candidates,

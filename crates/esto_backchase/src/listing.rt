@@ -15,7 +15,7 @@ ghost use Rattle.esto_backchase.specs.Listing.{MapsOntoOne};
 use crate::candidates::Search;
 use crate::completion::executable_products;
 use esto_bits::{Products, products_are_antichains};
-use esto_catalog::Catalogue;
+use esto_mapping::Catalogue;
 use esto_query::Query;
 use esto_semantics::{listed_sets_are_executable, rewritings_map_onto_sets};
 use esto_term::OutOfMemory;

@@ -4,7 +4,7 @@ use Rattle.std.proofs.Common.{inl, inr, arith, lit<, lit≤}
 use Rattle.std.specs.Prelude.{codes}
 use Rattle.std.specs.Fmt.{decimal}
 use Rattle.std.proofs.lemmas.Fmt.{decimal_digit, decimal_injective, decimal_step}
-use Rattle.esto_catalog.specs.Datasets.{is_name}
+use Rattle.esto_mapping.specs.Datasets.{is_name}
 use Rattle.esto_query.specs.Soundness.{AreNamed, IsSafe, IsSound}
 use Rattle.esto_query.specs.declared.query.Name.{Name}
 use Rattle.esto_semantics.specs.Facts.{Mentions}

@@ -7,18 +7,18 @@ use Rattle.std.proofs.lemmas.List.Elements.{All-map, All-from_get_or, Contains-g
 use Rattle.std.proofs.lemmas.List.FromFn.{length-range_with_len}
 use Rattle.esto_constraint.specs.Graphs.{AreRanks, IsAcyclic, IsWithin}
 use Rattle.esto_constraint.specs.Relations.{IsEdge}
-use Rattle.esto_catalog.specs.Datasets.{AreColumns, IsDataset, StandFrom, words_of}
-use Rattle.esto_catalog.specs.Soundness.{AreShapes, FitView, IsShapeFor, IsSoundCatalogue}
-use Rattle.esto_catalog.specs.declared.access.TheConstants.{MAX_WEIGHT}
-use Rattle.esto_catalog.specs.declared.catalogue.Store.{Store}
-use Rattle.esto_catalog.specs.declared.dataset.Dataset.{Dataset}
+use Rattle.esto_mapping.specs.Datasets.{AreColumns, IsDataset, StandFrom, words_of}
+use Rattle.esto_mapping.specs.Soundness.{AreShapes, FitView, IsShapeFor, IsSoundCatalogue}
+use Rattle.esto_mapping.specs.declared.catalogue.TheConstants.{MAX_WEIGHT}
+use Rattle.esto_mapping.specs.declared.catalogue.Store.{Store}
+use Rattle.esto_mapping.specs.declared.dataset.Dataset.{Dataset}
 use Rattle.esto_constraint.specs.Constraints.{rules_of}
 use Rattle.esto_constraint.specs.declared.rule.Constraint.{Constraint}
 use Rattle.esto_query.specs.Making.{query_of}
 use Rattle.esto_query.specs.Schemas.{IsSchema, arities_of, names_of}
 use Rattle.esto_query.specs.declared.schema.Relation.{Relation}
-use Rattle.esto_read.specs.Words.{HasRelations, IsVocabulary}
-use Rattle.esto_read.specs.declared.words.Word.{Word}
+use Rattle.esto_docmodel.specs.Words.{HasRelations, IsVocabulary}
+use Rattle.esto_docmodel.specs.declared.words.Word.{Word}
 use Rattle.esto_semantics.specs.Maps.{IsVariable}
 use Rattle.esto_semantics.specs.Queries.{ConjunctiveQuery}
 use Rattle.esto_semantics.specs.WellFormed.{IsQueryOver}

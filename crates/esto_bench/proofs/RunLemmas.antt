@@ -10,9 +10,9 @@ use Rattle.esto_term.proofs.ChoiceLemmas.{not_less_itself}
 use Rattle.std.proofs.lemmas.List.{length-map}
 use Rattle.std.proofs.lemmas.List.Elements.{All-from_get_or, Contains-get_or}
 use Rattle.std.proofs.lemmas.Option.{slice_get_within}
-use Rattle.esto_catalog.specs.declared.catalogue.Catalogue.{Catalogue}
-use Rattle.esto_catalog.specs.declared.catalogue.Shape.TheVariants.{Table}
-use Rattle.esto_catalog.specs.declared.catalogue.Store.{Store}
+use Rattle.esto_mapping.specs.declared.catalogue.Catalogue.{Catalogue}
+use Rattle.esto_mapping.specs.declared.catalogue.Shape.TheVariants.{Table}
+use Rattle.esto_mapping.specs.declared.catalogue.Store.{Store}
 use Rattle.esto_lines.specs.Faults.{Gives}
 use Rattle.esto_list.specs.declared.listing.Listed.{Listed}
 use Rattle.esto_steps.specs.Rows.{IsRowOf, held_by}

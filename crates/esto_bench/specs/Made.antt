@@ -1,6 +1,6 @@
 -- How the made case is built.
 use Rattle.std.specs.Prelude.{◌≡◌, ◌≢◌, ◌↔◌, ℕ, ◌<◌, ◌/◌, List, [], ◌∷◌, ◌++◌, map, codes, length, All, AllPairs, Contains}
-use Rattle.esto_catalog.specs.declared.catalogue.Catalogue.{Catalogue}
+use Rattle.esto_mapping.specs.declared.catalogue.Catalogue.{Catalogue}
 use Rattle.esto_query.specs.Making.{query_of}
 use Rattle.esto_run.specs.Opened.{AreOpened, AreRowsFor, Held, rows_held}
 use Rattle.esto_list.specs.Items.{sets_of}

@@ -12,9 +12,9 @@ use crate::rows::made_opened;
 use crate::summary::Summary;
 use either::{Left, Right};
 use esto_backchase::minimal_sets;
-use esto_catalog::{Catalogue, catalogues_are_sound};
 use esto_constraint::rules_are_sound;
 use esto_list::{Listed, Listing};
+use esto_mapping::{Catalogue, catalogues_are_sound};
 use esto_query::{Query, queries_are_sound};
 use esto_run::{answers_are_over_files, rewritings_answer_queries, rows_of_set};
 use esto_semantics::{

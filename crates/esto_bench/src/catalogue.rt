@@ -2,7 +2,7 @@
 ghost use Rattle.std.specs.Prelude.{◌≡◌, ◌<◌, ◌≤◌, ◌++◌, ◌∷◌, [], length, Contains, IfOk, OnOk};
 ghost use Rattle.esto_constraint.specs.Graphs.{AreRanks};
 ghost use Rattle.esto_constraint.specs.Relations.{IsEdge};
-ghost use Rattle.esto_catalog.specs.Datasets.{words_of};
+ghost use Rattle.esto_mapping.specs.Datasets.{words_of};
 ghost use Rattle.esto_query.specs.Schemas.{names_of};
 ghost use Rattle.esto_bench.specs.Case.{IsMadeCatalogue, made_dataset, made_datasets, made_schema, numbered};
 
@@ -10,11 +10,10 @@ use crate::case::MAX_SIZE;
 use crate::fragments::{made_columns, made_fragments, made_stores, numbered};
 use either::{Left, Right};
 use esto_acyclic::judge;
-use esto_catalog::{Catalogue, Dataset, Datasets};
 use esto_constraint::Ranks;
-use esto_docs::Layout;
+use esto_docmodel::{DataModel, Layout, Vocabulary, Word};
+use esto_mapping::{Catalogue, Dataset, Datasets};
 use esto_query::{MAX_RELATIONS, Schema, SchemaError};
-use esto_read::{DataModel, Vocabulary, Word};
 use esto_term::{List, OutOfMemory, Replicate, Text};
 use std::alloc::Global;
 

@@ -5,7 +5,7 @@ ghost use Rattle.esto_term.specs.declared.term.Term.TheVariants.{Plain};
 ghost use Rattle.esto_bench.specs.Case.{made_columns, made_store, made_stores, made_view, numbered, without_inputs};
 ghost use Rattle.esto_bench.specs.Made.{AddsBoth, AddsMade, AreMadeFragments, IsMadeFragment};
 
-use esto_catalog::{Shape, Store, Stores};
+use esto_mapping::{Shape, Store, Stores};
 use esto_query::{Name, Names, Query};
 use esto_semantics::{Atom, Atoms, Fact};
 use esto_term::{List, OutOfMemory, Term, Terms, Text, TextRow, Values};

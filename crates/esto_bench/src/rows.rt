@@ -8,7 +8,7 @@ ghost use Rattle.esto_bench.specs.Made.{AreOpenedBelow};
 
 use crate::case::MAX_SIZE;
 use crate::fragments::made_columns;
-use esto_catalog::Catalogue;
+use esto_mapping::Catalogue;
 use esto_ports::FileError;
 use esto_run::{FragmentRows, no_rows, open_fragment};
 use esto_stores::write_table;

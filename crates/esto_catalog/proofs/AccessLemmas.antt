@@ -8,9 +8,9 @@ use Rattle.std.proofs.lemmas.List.Elements.{Contains-push_cases}
 use Rattle.std.proofs.lemmas.List.FromFn.{length-map-range_with_len, map-range_with_len_more}
 use Rattle.esto_course.specs.Course.{judges, gives, refuses}
 use Rattle.esto_term.proofs.ListLemmas.{Contains-cases, Contains-map_from, Contains-nil, map_one}
-use Rattle.esto_read.specs.declared.words.DataModel.{DataModel}
+use Rattle.esto_docmodel.specs.declared.words.DataModel.{DataModel}
 use Rattle.esto_catalog.specs.Access.{is_usual_input, letter_of, usual_pattern, written_pattern, IsPattern, ArePatterns, IsWeight, allows_access, allows_weight}
-use Rattle.esto_catalog.specs.declared.access.TheConstants.{MAX_PATTERNS, MAX_WEIGHT}
+use Rattle.esto_mapping.specs.declared.catalogue.TheConstants.{MAX_PATTERNS, MAX_WEIGHT}
 use Rattle.esto_catalog.specs.declared.fault.Place.{Place}
 use Rattle.esto_settings.specs.declared.setting.Setting.{Setting}
 use Rattle.esto_settings.specs.declared.setting.Setting.TheVariants.{Text, Integer, Texts, Other}

@@ -9,19 +9,19 @@ use Rattle.std.proofs.lemmas.List.Elements.{Contains-push_cases, Contains-get_or
 use Rattle.std.proofs.lemmas.List.Quantifiers.{all_pairs_push}
 use Rattle.esto_course.proofs.Steps.{Leads, first_stops, then_goes, gives_goes, turn_next, turn_stops}
 use Rattle.esto_course.specs.Course.{Course, Stops, and_then, gives, demands, each}
-use Rattle.esto_docs.specs.declared.layout.Layout.{Layout}
-use Rattle.esto_docs.specs.declared.layout.Layout.TheVariants.{Lines}
+use Rattle.esto_docmodel.specs.declared.file.Layout.{Layout}
+use Rattle.esto_docmodel.specs.declared.file.Layout.TheVariants.{Lines}
 use Rattle.esto_query.specs.declared.schema.Relation.{Relation}
-use Rattle.esto_read.specs.declared.words.DataModel.{DataModel}
-use Rattle.esto_read.specs.declared.words.DataModel.TheVariants.{Table, Documents, Keys}
+use Rattle.esto_docmodel.specs.declared.words.DataModel.{DataModel}
+use Rattle.esto_docmodel.specs.declared.words.DataModel.TheVariants.{Table, Documents, Keys}
 use Rattle.esto_term.proofs.ListLemmas.{at_left, at_right, Contains-map_from, Contains-nil}
 use Rattle.esto_catalog.proofs.NameLemmas.{any_free, name_of}
-use Rattle.esto_catalog.specs.Datasets.{AreBased, AreDatasets, FitModel, IsDataset, StandFrom, adds_dataset, columns_row, dataset_of, has_dataset, is_name}
-use Rattle.esto_catalog.specs.Datasets.{model_relations, reads_dataset, reads_datasets, relation_count, relations_of, schema_of}
+use Rattle.esto_catalog.specs.Datasets.{AreDatasets, adds_dataset, columns_row, dataset_of, has_dataset, reads_dataset, reads_datasets}
+use Rattle.esto_mapping.specs.Datasets.{AreBased, FitModel, IsDataset, StandFrom, is_name, model_relations, relation_count, relations_of, schema_of}
 use Rattle.esto_catalog.specs.Models.{layout_row}
 use Rattle.esto_catalog.specs.Rows.{IsWant, IsAny}
 use Rattle.esto_settings.specs.Settings.{is_same}
-use Rattle.esto_catalog.specs.declared.dataset.Dataset.{Dataset}
+use Rattle.esto_mapping.specs.declared.dataset.Dataset.{Dataset}
 use Rattle.esto_catalog.specs.declared.fault.CatalogueError.{CatalogueError}
 use Rattle.esto_catalog.specs.declared.fault.Place.{Place}
 use Rattle.esto_catalog.specs.declared.fault.Section.TheVariants as section

@@ -11,9 +11,9 @@ use Rattle.esto_semantics.specs.DocumentRules.{atom, document_rules, document_ru
 use Rattle.esto_constraint.specs.declared.rule.Constraint.{Constraint}
 use Rattle.esto_query.specs.Schemas.{arities_of}
 use Rattle.esto_query.specs.declared.schema.Relation.{Relation}
-use Rattle.esto_read.specs.Words.{HasRelations}
-use Rattle.esto_read.specs.declared.words.DataModel.{DataModel}
-use Rattle.esto_read.specs.declared.words.DataModel.TheVariants.{Table, Documents, Keys}
+use Rattle.esto_docmodel.specs.Words.{HasRelations}
+use Rattle.esto_docmodel.specs.declared.words.DataModel.{DataModel}
+use Rattle.esto_docmodel.specs.declared.words.DataModel.TheVariants.{Table, Documents, Keys}
 use Rattle.esto_semantics.proofs.TermLemmas.{Const-apart-Plain}
 use Rattle.esto_semantics.specs.Rules.{Rule, tuple, equality, denial}
 use Rattle.esto_semantics.specs.WellFormed.{AreOver, HaveUtf8, IsRuleOver}
@@ -25,11 +25,11 @@ use Rattle.esto_term.specs.declared.term.Term.TheVariants.{Const, Plain}
 use Rattle.esto_text.specs.declared.version.Version.{Version}
 use Rattle.esto_text.specs.declared.version.Version.TheVariants.{One, Two}
 use Rattle.esto_catalog.proofs.SchemaLemmas.{has_relations}
-use Rattle.esto_catalog.specs.Datasets.{schema_of}
+use Rattle.esto_mapping.specs.Datasets.{schema_of}
 use Rattle.esto_catalog.specs.Rules.{AreAllRules, encoding_names, encoding_rules, encodings_names, encodings_rules}
 use Rattle.esto_catalog.specs.Scope.{IsScope}
 use Rattle.esto_catalog.specs.Soundness.{AreSoundRules}
-use Rattle.esto_catalog.specs.declared.dataset.Dataset.{Dataset}
+use Rattle.esto_mapping.specs.declared.dataset.Dataset.{Dataset}
 use Rattle.esto_catalog.specs.declared.scope.Scope.{Scope}
 
 -- ---- atoms over variables alone

@@ -5,11 +5,8 @@ pub mod LeastLemmas
 pub mod DatasetLemmas
 pub mod SchemaLemmas
 pub mod EncodingLemmas
-pub mod LayoutLemmas
 pub mod ShapeLemmas
 pub mod AccessLemmas
 pub mod FragmentLemmas
 pub mod WalkLemmas
 pub mod OneLemmas
-pub mod ColumnLemmas
-pub mod SoundLemmas

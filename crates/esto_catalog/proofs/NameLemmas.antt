@@ -10,13 +10,13 @@ use Rattle.std.proofs.lemmas.List.{append_assoc, append_cancel_left, map-append}
 use Rattle.std.proofs.lemmas.List.Elements.{Contains-append_cases}
 use Rattle.esto_query.specs.Schemas.{names_of}
 use Rattle.esto_query.specs.declared.schema.Relation.{Relation}
-use Rattle.esto_read.specs.declared.words.DataModel.{DataModel}
-use Rattle.esto_read.specs.declared.words.DataModel.TheVariants.{Table, Documents, Keys}
+use Rattle.esto_docmodel.specs.declared.words.DataModel.{DataModel}
+use Rattle.esto_docmodel.specs.declared.words.DataModel.TheVariants.{Table, Documents, Keys}
 use Rattle.esto_term.proofs.ChoiceLemmas.{pairs_append, pairs_cons, pairs_head, pairs_map, pairs_tail}
 use Rattle.esto_term.proofs.ListLemmas.{Contains-cases, Contains-head, Contains-map_from, Contains-nil, Contains-rest}
-use Rattle.esto_catalog.specs.Datasets.{is_letter, is_name, is_name_byte, model_relations, part_name, relations_of, schema_of}
+use Rattle.esto_mapping.specs.Datasets.{is_letter, is_name, is_name_byte, model_relations, part_name, relations_of, schema_of}
 use Rattle.esto_settings.specs.Settings.{is_same}
-use Rattle.esto_catalog.specs.declared.dataset.Dataset.{Dataset}
+use Rattle.esto_mapping.specs.declared.dataset.Dataset.{Dataset}
 
 pub or_false : (a b : Bool) → (a || b) ≡ false → (a ≡ false) × (b ≡ false)
 or_false false b is = (refl, is)

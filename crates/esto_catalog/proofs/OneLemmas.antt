@@ -31,14 +31,14 @@ use Rattle.esto_read.specs.Constraints.{AreSameRule, HaveOneRule, HaveNoRuleFaul
 use Rattle.esto_docmodel.specs.Layouts.{IsLayout}
 use Rattle.esto_docmodel.specs.Shapes.{entries_of}
 use Rattle.esto_docmodel.specs.declared.pattern.Pattern.{Pattern}
-use Rattle.esto_docs.specs.declared.layout.Layout.{Layout}
-use Rattle.esto_docs.specs.declared.layout.Layout.TheVariants.{Array, Lines}
+use Rattle.esto_docmodel.specs.declared.file.Layout.{Layout}
+use Rattle.esto_docmodel.specs.declared.file.Layout.TheVariants.{Array, Lines}
 use Rattle.esto_read.specs.Layouts.{AreColumns as AreNamed, HaveOneLayout, HaveNoLayoutFault, HaveOneLayoutFault}
 use Rattle.esto_read.specs.Naming.{ViewsNameTheirColumns}
-use Rattle.esto_read.specs.declared.words.DataModel.{DataModel}
-use Rattle.esto_read.specs.declared.words.DataModel.TheVariants.{Table, Documents, Keys}
+use Rattle.esto_docmodel.specs.declared.words.DataModel.{DataModel}
+use Rattle.esto_docmodel.specs.declared.words.DataModel.TheVariants.{Table, Documents, Keys}
 use Rattle.esto_read.specs.Readings.{AreSame, HaveOneReading, HaveNoFault, HaveOneFault}
-use Rattle.esto_read.specs.Words.{IsVocabulary}
+use Rattle.esto_docmodel.specs.Words.{IsVocabulary}
 use Rattle.esto_read.specs.declared.read.Form.TheVariants.{View}
 use Rattle.esto_read.specs.declared.read.NamedQuery.{NamedQuery}
 use Rattle.esto_semantics.specs.Rules.{Rule}
@@ -52,12 +52,13 @@ use Rattle.esto_text.specs.declared.version.Version.TheVariants.{One, Two}
 use Rattle.esto_catalog.proofs.AccessLemmas.{patterns_one, weight_one}
 use Rattle.esto_catalog.specs.Access.{reads_patterns, allows_access, allows_weight}
 use Rattle.esto_catalog.specs.Constraints.{reads_rule, reads_constraint, adds_constraint, reads_constraints}
-use Rattle.esto_catalog.specs.Datasets.{name_row, columns_row, layout_and_file_rows, rows_after_name, reads_dataset, adds_dataset, reads_datasets, schema_of}
-use Rattle.esto_catalog.specs.Datasets.{words_of}
+use Rattle.esto_catalog.specs.Datasets.{name_row, columns_row, layout_and_file_rows, rows_after_name, reads_dataset, adds_dataset, reads_datasets}
+use Rattle.esto_mapping.specs.Datasets.{schema_of, words_of}
 use Rattle.esto_catalog.proofs.DatasetLemmas.{read_set}
 use Rattle.esto_catalog.proofs.SchemaLemmas.{set_words}
 use Rattle.esto_catalog.proofs.ShapeLemmas.{head_fit, names_are, view_reading}
-use Rattle.esto_catalog.specs.Determined.{HaveOneCatalogue, HaveNoError, HaveOneError, AreSame as AreSameCatalogue, as_documents, shape_as, stored_as}
+use Rattle.esto_catalog.specs.Determined.{HaveOneCatalogue, HaveNoError, HaveOneError}
+use Rattle.esto_mapping.specs.Catalogues.{AreSame as AreSameCatalogue, as_documents, shape_as, stored_as}
 use Rattle.esto_catalog.specs.Models.{allows_layout, layout_row, layout_word, model_word, needs_model, unfit_row}
 use Rattle.esto_catalog.specs.Rules.{all_rules}
 use Rattle.esto_catalog.specs.Shapes.{AreDistinctNames, documents_row, head_columns, keys_row, pattern_row, reads_pattern, shape_row, store_columns, table_row}
@@ -68,11 +69,11 @@ use Rattle.esto_catalog.specs.Reading.{reads_fragments_and_rules, reads_ranked, 
 use Rattle.esto_catalog.specs.Rows.{IsWant, IsAny, fault_at, text_fault_at, IsLeastUnknown, knows_keys, needs_text, needs_texts, allows_text, top}
 use Rattle.esto_settings.specs.Settings.{document_of, setting_at}
 use Rattle.esto_catalog.specs.Whole.{number_of, top_keys, reads_toml, reads_version, reads_core, fits_section, reads_top, reads_whole}
-use Rattle.esto_catalog.specs.declared.catalogue.Catalogue.{Catalogue}
-use Rattle.esto_catalog.specs.declared.catalogue.Shape.{Shape}
-use Rattle.esto_catalog.specs.declared.catalogue.Shape.TheVariants.{Documents as FromDocuments}
-use Rattle.esto_catalog.specs.declared.catalogue.Store.{Store}
-use Rattle.esto_catalog.specs.declared.dataset.Dataset.{Dataset}
+use Rattle.esto_mapping.specs.declared.catalogue.Catalogue.{Catalogue}
+use Rattle.esto_mapping.specs.declared.catalogue.Shape.{Shape}
+use Rattle.esto_mapping.specs.declared.catalogue.Shape.TheVariants.{Documents as FromDocuments}
+use Rattle.esto_mapping.specs.declared.catalogue.Store.{Store}
+use Rattle.esto_mapping.specs.declared.dataset.Dataset.{Dataset}
 use Rattle.esto_catalog.specs.declared.fault.CatalogueError.{CatalogueError}
 use Rattle.esto_catalog.specs.declared.fault.CatalogueError.TheVariants.{Fault, NotAcyclic, OutOfMemory}
 use Rattle.esto_catalog.specs.declared.fault.CatalogueKind.{CatalogueKind}

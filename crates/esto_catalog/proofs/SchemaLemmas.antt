@@ -9,18 +9,19 @@ use Rattle.std.proofs.lemmas.List.Elements.{Contains-append_cases, Contains-get_
 use Rattle.std.proofs.lemmas.Option.{slice_get_within}
 use Rattle.esto_query.specs.Schemas.{IsArity, IsSchema, arities_of, names_of}
 use Rattle.esto_query.specs.declared.schema.Relation.{Relation}
-use Rattle.esto_read.specs.Words.{HasRelations, IsVocabulary}
-use Rattle.esto_read.specs.declared.words.DataModel.{DataModel}
-use Rattle.esto_read.specs.declared.words.DataModel.TheVariants.{Table, Documents, Keys}
-use Rattle.esto_read.specs.declared.words.Word.{Word}
+use Rattle.esto_docmodel.specs.Words.{HasRelations, IsVocabulary}
+use Rattle.esto_docmodel.specs.declared.words.DataModel.{DataModel}
+use Rattle.esto_docmodel.specs.declared.words.DataModel.TheVariants.{Table, Documents, Keys}
+use Rattle.esto_docmodel.specs.declared.words.Word.{Word}
 use Rattle.esto_term.proofs.ChoiceLemmas.{pairs_head, pairs_tail}
 use Rattle.esto_term.proofs.ListLemmas.{Contains-cases, Contains-map, Contains-map_from, Contains-nil, Contains-rest, Contains-head, map_at, map_then}
 use Rattle.esto_term.proofs.PlaceLemmas.{take-item}
 use Rattle.esto_catalog.proofs.DatasetLemmas.{AreSet, datasets_set, schema_append, schema_more, schema_most}
 use Rattle.esto_catalog.proofs.NameLemmas.{names_apart}
-use Rattle.esto_catalog.specs.Datasets.{AreDatasets, FitModel, StandFrom, model_relations, part, relations_of, schema_of, words_of}
+use Rattle.esto_catalog.specs.Datasets.{AreDatasets}
+use Rattle.esto_mapping.specs.Datasets.{FitModel, StandFrom, model_relations, part, relations_of, schema_of, words_of}
 use Rattle.esto_catalog.specs.Scope.{IsScope}
-use Rattle.esto_catalog.specs.declared.dataset.Dataset.{Dataset}
+use Rattle.esto_mapping.specs.declared.dataset.Dataset.{Dataset}
 use Rattle.esto_catalog.specs.declared.scope.Scope.{Scope}
 
 all_from : {A : Type 0} (P : A → Type 0) (items : List A) → ((item : A) → Contains items item → P item) → All P items

@@ -19,8 +19,8 @@ use Rattle.esto_read.specs.Naming.{IsCalled, AreHeadNames}
 use Rattle.esto_read.specs.Readings.{IsReading}
 use Rattle.esto_read.specs.declared.read.Form.TheVariants.{View}
 use Rattle.esto_read.specs.declared.read.NamedQuery.{NamedQuery}
-use Rattle.esto_read.specs.declared.words.DataModel.{DataModel}
-use Rattle.esto_read.specs.declared.words.DataModel.TheVariants.{Table, Documents, Keys}
+use Rattle.esto_docmodel.specs.declared.words.DataModel.{DataModel}
+use Rattle.esto_docmodel.specs.declared.words.DataModel.TheVariants.{Table, Documents, Keys}
 use Rattle.esto_term.proofs.ChoiceLemmas.{pairs_map}
 use Rattle.esto_term.proofs.ListLemmas.{Contains-head, Contains-map_from}
 use Rattle.esto_term.proofs.PlaceLemmas.{take-item}
@@ -28,13 +28,13 @@ use Rattle.esto_term.specs.declared.term.Term.{Term}
 use Rattle.esto_text.specs.Gaps.{IsLetter}
 use Rattle.esto_text.specs.Lexemes.{IsNameText}
 use Rattle.esto_views.specs.declared.fragments.FragmentDef.{FragmentDef}
-use Rattle.esto_catalog.specs.Datasets.{begins_plain, schema_of, words_of}
+use Rattle.esto_mapping.specs.Datasets.{begins_plain, schema_of, words_of}
 use Rattle.esto_catalog.specs.Fragments.{view_row}
 use Rattle.esto_settings.specs.Settings.{setting_at}
 use Rattle.esto_catalog.specs.Shapes.{column_of, head_columns, name_at, shape_row, store_columns}
-use Rattle.esto_catalog.specs.Soundness.{FitView, IsShapeFor}
-use Rattle.esto_catalog.specs.declared.catalogue.Shape.{Shape}
-use Rattle.esto_catalog.specs.declared.dataset.Dataset.{Dataset}
+use Rattle.esto_mapping.specs.Soundness.{FitView, IsShapeFor}
+use Rattle.esto_mapping.specs.declared.catalogue.Shape.{Shape}
+use Rattle.esto_mapping.specs.declared.dataset.Dataset.{Dataset}
 use Rattle.esto_catalog.specs.declared.fault.Place.{Place}
 use Rattle.esto_settings.specs.declared.setting.Field.{Field}
 use Rattle.esto_settings.specs.declared.setting.Setting.{Setting}

@@ -21,16 +21,17 @@ use Rattle.esto_semantics.specs.declared.fact.Fact.{Fact}
 use Rattle.esto_term.specs.declared.term.Term.{Term}
 use Rattle.esto_catalog.proofs.EncodingLemmas.{given_most}
 use Rattle.esto_catalog.proofs.SchemaLemmas.{datasets_schema}
-use Rattle.esto_catalog.specs.Datasets.{IsDataset, schema_of, words_of}
+use Rattle.esto_mapping.specs.Datasets.{IsDataset, schema_of, words_of}
 use Rattle.esto_catalog.specs.Scope.{IsScope}
 use Rattle.esto_catalog.specs.declared.scope.Scope.{Scope}
 use Rattle.esto_catalog.specs.Constraints.{adds_constraint, reads_constraint}
 use Rattle.esto_catalog.specs.Fragments.{adds_fragment, reads_fragment, with_fragment, no_fragments, stored_fragment}
 use Rattle.esto_catalog.specs.Reading.{IsRankedOf, IsCycleOf, reads_fragments_and_rules}
 use Rattle.esto_catalog.specs.Rows.{IsWant, IsAny}
-use Rattle.esto_catalog.specs.Soundness.{AreSoundRules, AreSoundFragments, IsShapeFor, IsSoundCatalogue, IsSoundFragment, IsSoundStored, IsSoundView}
-use Rattle.esto_catalog.specs.declared.catalogue.Store.{Store}
-use Rattle.esto_catalog.specs.declared.dataset.Dataset.{Dataset}
+use Rattle.esto_catalog.specs.Soundness.{AreSoundRules, AreSoundFragments, IsSoundFragment, IsSoundStored, IsSoundView}
+use Rattle.esto_mapping.specs.Soundness.{IsShapeFor, IsSoundCatalogue}
+use Rattle.esto_mapping.specs.declared.catalogue.Store.{Store}
+use Rattle.esto_mapping.specs.declared.dataset.Dataset.{Dataset}
 use Rattle.esto_catalog.specs.declared.fault.CatalogueError.{CatalogueError}
 use Rattle.esto_catalog.specs.declared.fault.Place.{Place}
 use Rattle.esto_catalog.specs.declared.fault.Section.TheVariants as section
@@ -43,11 +44,11 @@ use Rattle.esto_read.specs.Constraints.{IsConstraintReading, IsConstraintFault}
 use Rattle.esto_read.specs.Readings.{IsReading, IsFirstFault}
 use Rattle.esto_read.specs.declared.read.Form.TheVariants.{View}
 use Rattle.esto_read.specs.declared.read.NamedQuery.{NamedQuery}
-use Rattle.esto_read.specs.declared.words.Word.{Word}
+use Rattle.esto_docmodel.specs.declared.words.Word.{Word}
 use Rattle.esto_text.specs.declared.fault.TextFault.{TextFault}
 use Rattle.esto_text.specs.declared.version.Version.{Version}
 use Rattle.esto_catalog.proofs.AccessLemmas.{AreSoundPatterns}
-use Rattle.esto_catalog.specs.declared.access.TheConstants.{MAX_WEIGHT}
+use Rattle.esto_mapping.specs.declared.catalogue.TheConstants.{MAX_WEIGHT}
 use Rattle.esto_views.specs.declared.fragments.FragmentDef.{FragmentDef}
 use Rattle.esto_term.proofs.ListLemmas.{at_pushed, Contains-map_from, Contains-nil}
 

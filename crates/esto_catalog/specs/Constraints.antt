@@ -6,10 +6,10 @@ use Rattle.esto_query.specs.Schemas.{arities_of}
 use Rattle.esto_read.specs.Constraints.{IsConstraintReading, IsConstraintFault}
 use Rattle.esto_text.specs.declared.fault.TextFault.{TextFault}
 use Rattle.esto_text.specs.declared.version.Version.{Version}
-use Rattle.esto_catalog.specs.Datasets.{schema_of, words_of}
+use Rattle.esto_mapping.specs.Datasets.{schema_of, words_of}
 use Rattle.esto_catalog.specs.Rows.{text_fault_at, knows_keys, needs_text}
 use Rattle.esto_settings.specs.Settings.{setting_at}
-use Rattle.esto_catalog.specs.declared.dataset.Dataset.{Dataset}
+use Rattle.esto_mapping.specs.declared.dataset.Dataset.{Dataset}
 use Rattle.esto_catalog.specs.declared.fault.CatalogueError.{CatalogueError}
 use Rattle.esto_catalog.specs.declared.fault.Place.{Place}
 use Rattle.esto_catalog.specs.declared.fault.Section.TheVariants as section

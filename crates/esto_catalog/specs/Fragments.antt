@@ -7,18 +7,19 @@ use Rattle.esto_read.specs.Readings.{IsReading, IsFirstFault}
 use Rattle.esto_read.specs.declared.read.Form.TheVariants.{View}
 use Rattle.esto_query.specs.declared.query.Query.{Query}
 use Rattle.esto_read.specs.declared.read.NamedQuery.{NamedQuery}
-use Rattle.esto_read.specs.declared.words.DataModel.{DataModel}
+use Rattle.esto_docmodel.specs.declared.words.DataModel.{DataModel}
 use Rattle.esto_text.specs.declared.fault.TextFault.{TextFault}
 use Rattle.esto_views.specs.declared.fragments.FragmentDef.{FragmentDef}
 use Rattle.esto_catalog.specs.Access.{access_row, weight_row}
-use Rattle.esto_catalog.specs.Datasets.{has_dataset, schema_of, words_of}
+use Rattle.esto_catalog.specs.Datasets.{has_dataset}
+use Rattle.esto_mapping.specs.Datasets.{schema_of, words_of}
 use Rattle.esto_catalog.specs.Models.{needs_model}
 use Rattle.esto_catalog.specs.Rows.{fault_at, text_fault_at, knows_keys, needs_text}
 use Rattle.esto_settings.specs.Settings.{is_same, setting_at}
 use Rattle.esto_catalog.specs.Shapes.{shape_row}
-use Rattle.esto_catalog.specs.declared.catalogue.Shape.{Shape}
-use Rattle.esto_catalog.specs.declared.catalogue.Store.{Store}
-use Rattle.esto_catalog.specs.declared.dataset.Dataset.{Dataset}
+use Rattle.esto_mapping.specs.declared.catalogue.Shape.{Shape}
+use Rattle.esto_mapping.specs.declared.catalogue.Store.{Store}
+use Rattle.esto_mapping.specs.declared.dataset.Dataset.{Dataset}
 use Rattle.esto_catalog.specs.declared.fault.CatalogueError.{CatalogueError}
 use Rattle.esto_catalog.specs.declared.fault.CatalogueKind.TheVariants.{SameName, BadStore}
 use Rattle.esto_catalog.specs.declared.fault.Place.{Place}

@@ -2,10 +2,10 @@
 use Rattle.std.specs.Prelude.{◌≡◌, ℕ, List, length}
 use Rattle.esto_constraint.specs.declared.rule.Constraint.{Constraint}
 use Rattle.esto_text.specs.declared.version.Version.{Version}
-use Rattle.esto_catalog.specs.Datasets.{AreBased, schema_of}
+use Rattle.esto_mapping.specs.Datasets.{AreBased, schema_of}
 use Rattle.esto_catalog.specs.Reading.{IsCatalogueOf}
 use Rattle.esto_catalog.specs.Rules.{AreAllRules}
-use Rattle.esto_catalog.specs.declared.catalogue.Catalogue.{Catalogue}
+use Rattle.esto_mapping.specs.declared.catalogue.Catalogue.{Catalogue}
 
 -- The catalogue's relations are those of its datasets, one dataset after another.
 pub record HasRelations (catalogue : Catalogue) : Type 0 where

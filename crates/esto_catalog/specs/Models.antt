@@ -1,10 +1,10 @@
 -- Models and layouts, as they are written, and the keys that not every model has.
 use Rattle.std.specs.Prelude.{◌≡◌, ◌≢◌, List, Option, Some, None, false, codes, ℕ}
 use Rattle.esto_course.specs.Course.{Course, judges, gives, refuses, demands, and_then}
-use Rattle.esto_docs.specs.declared.layout.Layout.{Layout}
-use Rattle.esto_docs.specs.declared.layout.Layout.TheVariants.{Array, Lines}
-use Rattle.esto_read.specs.declared.words.DataModel.{DataModel}
-use Rattle.esto_read.specs.declared.words.DataModel.TheVariants.{Table, Documents, Keys}
+use Rattle.esto_docmodel.specs.declared.file.Layout.{Layout}
+use Rattle.esto_docmodel.specs.declared.file.Layout.TheVariants.{Array, Lines}
+use Rattle.esto_docmodel.specs.declared.words.DataModel.{DataModel}
+use Rattle.esto_docmodel.specs.declared.words.DataModel.TheVariants.{Table, Documents, Keys}
 use Rattle.esto_catalog.specs.Rows.{fault_at, needs_text}
 use Rattle.esto_settings.specs.Settings.{has_key, setting_at}
 use Rattle.esto_catalog.specs.declared.fault.CatalogueError.{CatalogueError}

@@ -9,12 +9,13 @@ use Rattle.esto_course.specs.Course.{Course, judges, gives, and_then}
 use Rattle.esto_semantics.specs.Rules.{Rule}
 use Rattle.esto_text.specs.declared.version.Version.{Version}
 use Rattle.esto_catalog.specs.Constraints.{reads_constraints}
-use Rattle.esto_catalog.specs.Datasets.{reads_datasets, schema_of, words_of}
+use Rattle.esto_catalog.specs.Datasets.{reads_datasets}
+use Rattle.esto_mapping.specs.Datasets.{schema_of, words_of}
 use Rattle.esto_catalog.specs.Fragments.{reads_fragments}
 use Rattle.esto_catalog.specs.Rules.{AreAllRules, all_rules}
 use Rattle.esto_catalog.specs.Whole.{reads_whole}
-use Rattle.esto_catalog.specs.declared.catalogue.Catalogue.{Catalogue}
-use Rattle.esto_catalog.specs.declared.dataset.Dataset.{Dataset}
+use Rattle.esto_mapping.specs.declared.catalogue.Catalogue.{Catalogue}
+use Rattle.esto_mapping.specs.declared.dataset.Dataset.{Dataset}
 use Rattle.esto_catalog.specs.declared.fault.CatalogueError.{CatalogueError}
 use Rattle.esto_catalog.specs.declared.fault.CatalogueError.TheVariants.{NotAcyclic, OutOfMemory}
 use Rattle.esto_catalog.specs.declared.fragment.Fragments.{Fragments}

@@ -5,12 +5,12 @@ use Rattle.esto_constraint.specs.EncodingRules.{written, document_names, documen
 use Rattle.esto_semantics.specs.DocumentRules.{document_rules, document_rules_2, key_rules}
 use Rattle.esto_constraint.specs.declared.rule.Constraint.{Constraint}
 use Rattle.esto_query.specs.declared.query.Name.{Name}
-use Rattle.esto_read.specs.declared.words.DataModel.{DataModel}
-use Rattle.esto_read.specs.declared.words.DataModel.TheVariants.{Table, Documents, Keys}
+use Rattle.esto_docmodel.specs.declared.words.DataModel.{DataModel}
+use Rattle.esto_docmodel.specs.declared.words.DataModel.TheVariants.{Table, Documents, Keys}
 use Rattle.esto_semantics.specs.Rules.{Rule}
 use Rattle.esto_text.specs.declared.version.Version.{Version}
 use Rattle.esto_text.specs.declared.version.Version.TheVariants.{One, Two}
-use Rattle.esto_catalog.specs.declared.dataset.Dataset.{Dataset}
+use Rattle.esto_mapping.specs.declared.dataset.Dataset.{Dataset}
 
 -- The rules of the encoding of a dataset of this model whose relations stand from the base on. Documents have one more in version 2.
 abbrev pub encoding_rules : Version → DataModel → ℕ → List Rule

@@ -8,17 +8,17 @@ use Rattle.esto_query.specs.declared.query.Name.{Name}
 use Rattle.esto_query.specs.declared.query.Name.TheVariants.{Given}
 use Rattle.esto_query.specs.declared.query.Query.{Query}
 use Rattle.esto_read.specs.Layouts.{IsLayoutReading, IsLayoutFault}
-use Rattle.esto_read.specs.declared.words.DataModel.{DataModel}
-use Rattle.esto_read.specs.declared.words.DataModel.TheVariants.{Table, Documents, Keys}
+use Rattle.esto_docmodel.specs.declared.words.DataModel.{DataModel}
+use Rattle.esto_docmodel.specs.declared.words.DataModel.TheVariants.{Table, Documents, Keys}
 use Rattle.esto_term.specs.declared.term.Term.{Term}
 use Rattle.esto_term.specs.declared.term.Term.TheVariants.{Plain}
 use Rattle.esto_text.specs.declared.fault.TextFault.{TextFault}
-use Rattle.esto_catalog.specs.Datasets.{AreColumns}
+use Rattle.esto_mapping.specs.Datasets.{AreColumns}
 use Rattle.esto_catalog.specs.Models.{layout_row, unfit_row}
 use Rattle.esto_catalog.specs.Rows.{fault_at, text_fault_at, needs_text}
 use Rattle.esto_settings.specs.Settings.{setting_at}
-use Rattle.esto_catalog.specs.declared.catalogue.Shape.{Shape}
-use Rattle.esto_catalog.specs.declared.catalogue.Shape.TheVariants.{Table as FromTable, Documents as FromDocuments, Keys as FromKeys}
+use Rattle.esto_mapping.specs.declared.catalogue.Shape.{Shape}
+use Rattle.esto_mapping.specs.declared.catalogue.Shape.TheVariants.{Table as FromTable, Documents as FromDocuments, Keys as FromKeys}
 use Rattle.esto_catalog.specs.declared.fault.CatalogueError.{CatalogueError}
 use Rattle.esto_catalog.specs.declared.fault.CatalogueKind.TheVariants.{BadColumns, BadPattern, WrongType}
 use Rattle.esto_catalog.specs.declared.fault.Place.{Place}

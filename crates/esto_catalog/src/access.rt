@@ -4,21 +4,15 @@ ghost use Rattle.esto_catalog.specs.Access.{letter_of, IsPattern, ArePatterns, I
 ghost use Rattle.esto_catalog.specs.Access.{reads_weight, weight_row};
 ghost use Rattle.esto_catalog.specs.Rows.{Walks};
 
-use crate::columns::are_distinct;
 use crate::fault::{CatalogueError, CatalogueKind, Place, fault};
+use esto_docmodel::DataModel;
+use esto_mapping::{MAX_PATTERNS, MAX_WEIGHT, are_distinct};
 use esto_query::Query;
-use esto_read::DataModel;
 use esto_settings::{Field, Setting, setting_at};
 use esto_term::{List, OutOfMemory, Text, Values};
 use esto_views::{Access, AccessList};
 use std::alloc::Global;
 use std::slice;
-
-/// The greatest number of binding patterns of a fragment.
-pub const MAX_PATTERNS: usize = 8;
-
-/// The greatest weight of a fragment.
-pub const MAX_WEIGHT: u64 = 1_000_000;
 
 /// The weight of a fragment for which none is written.
 const USUAL_WEIGHT: u64 = 1;

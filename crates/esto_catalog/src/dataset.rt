@@ -1,36 +1,20 @@
 //! Datasets, and the rows of one.
 ghost use Rattle.std.specs.Prelude.{◌≡◌, ◌≤◌, length, IfOk, IfErr};
 ghost use Rattle.esto_course.specs.Course.{Stops};
-ghost use Rattle.esto_catalog.specs.Datasets.{AreDatasets, has_dataset, name_row, needs_columns, no_columns, columns_row, relation_count, schema_of};
+ghost use Rattle.esto_catalog.specs.Datasets.{AreDatasets, has_dataset, name_row, needs_columns, no_columns, columns_row};
+ghost use Rattle.esto_mapping.specs.Datasets.{relation_count, schema_of};
 ghost use Rattle.esto_catalog.specs.Datasets.{layout_and_file_rows, rows_after_name, reads_dataset, reads_datasets};
 ghost use Rattle.esto_catalog.specs.Rows.{IsAny, IsWant, Walks};
 ghost use Rattle.esto_catalog.specs.declared.whole.TheConstants.{MAX_ENTRIES};
 
-use crate::columns::{are_columns, is_name};
 use crate::fault::{CatalogueError, CatalogueKind, Place, Section, demand};
 use crate::model::{layout, needs_model, unfit};
 use crate::row::{Keys, allows_text, knows_keys, needs_text, needs_texts};
-use esto_docs::Layout;
-use esto_read::DataModel;
+use esto_docmodel::{DataModel, Layout};
+use esto_mapping::{Dataset, Datasets, are_columns, is_name, relation_count};
 use esto_settings::{Field, KeyList, is_same};
 use esto_term::{List, Replicate, Text, TextRow};
 use std::alloc::Global;
-
-/// A dataset: its name, what it is, the number of its first relation, the names of its columns,
-/// which a table alone has, how its documents stand in their file, which is in lines where nothing
-/// else is written, and its file where it has one.
-#[derive(Drop)]
-pub struct Dataset {
-    pub name: Text,
-    pub model: DataModel,
-    pub base: usize,
-    pub columns: TextRow,
-    pub layout: Layout,
-    pub file: Option<Text>,
-}
-
-/// The datasets of a catalogue, in order.
-pub type Datasets = List<Dataset>;
 
 /// Whether a dataset has the name.
 pub fn has_dataset(name: &Text, datasets: &[Dataset]) -> bool
@@ -100,17 +84,6 @@ fn columns(
         DataModel::Table => needs_columns(alloc, place, entry),
         DataModel::Documents => no_columns(alloc, place, entry),
         DataModel::Keys => no_columns(alloc, place, entry),
-    }
-}
-
-/// The number of relations of a dataset of this model.
-pub fn relation_count(model: DataModel) -> usize
-    ensures { result ≡ relation_count model }
-{
-    match model {
-        DataModel::Table => 1,
-        DataModel::Documents => 5,
-        DataModel::Keys => 1,
     }
 }
 

@@ -11,15 +11,16 @@ ghost use Rattle.esto_catalog.specs.Shapes.{AreDistinctNames};
 ghost use Rattle.esto_catalog.specs.Soundness.{IsSoundView, IsSoundStored, AreSoundFragments};
 
 use crate::access::{access, weight};
-use crate::catalogue::{Shape, Store, Stores};
 use crate::dataset::has_dataset;
 use crate::fault::{CatalogueError, CatalogueKind, Place, Section, demand, fault};
 use crate::model::needs_model;
 use crate::row::{Keys, knows_keys, needs_text};
 use crate::scope::Scope;
 use crate::shape::shape;
+use esto_docmodel::DataModel;
+use esto_mapping::{Shape, Store, Stores};
 use esto_query::Query;
-use esto_read::{DataModel, NamedQuery, read_view, views_name_their_columns};
+use esto_read::{NamedQuery, read_view, views_name_their_columns};
 use esto_settings::{Field, KeyList, is_same};
 use esto_term::{List, Replicate, Text};
 use esto_text::ReadError;

@@ -1,10 +1,8 @@
-//! The catalogue: which datasets, fragments and constraints there are, read from the bytes of its
-//! file. Start from `read_catalogue`, `Catalogue` and `CatalogueError`.
+//! The catalogue, read from the bytes of its file. Start from `read_catalogue` and `CatalogueError`; what
+//! it gives is the `Catalogue` of `esto_mapping`.
 #![tactic(auto)]
 
 mod access;
-mod catalogue;
-mod columns;
 mod constraint;
 mod dataset;
 mod fault;
@@ -17,13 +15,11 @@ mod shape;
 mod walk;
 mod whole;
 
-pub use access::{MAX_PATTERNS, MAX_WEIGHT};
-pub use catalogue::{Catalogue, Shape, Store, Stores};
-pub use dataset::{Dataset, Datasets, relation_count};
+pub use esto_mapping::{
+    Catalogue, Dataset, Datasets, MAX_PATTERNS, MAX_WEIGHT, Shape, Store, Stores, catalogues_are_sound,
+    catalogues_rank_their_rules, relation_count,
+};
 pub use esto_text::MAX_NAME;
 pub use fault::{CatalogueError, CatalogueFault, CatalogueKind, Section};
-pub use walk::{
-    catalogues_are_determined, catalogues_are_sound, catalogues_keep_their_datasets,
-    catalogues_rank_their_rules, read_catalogue,
-};
+pub use walk::{catalogues_are_determined, catalogues_keep_their_datasets, read_catalogue};
 pub use whole::MAX_ENTRIES;

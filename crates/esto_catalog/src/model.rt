@@ -1,15 +1,14 @@
 //! Models and layouts, as they are written, and the keys that not every model has.
 ghost use Rattle.std.specs.Prelude.{◌≡◌, ◌≢◌, codes, MatchOption};
-ghost use Rattle.esto_docs.specs.declared.layout.Layout.{Layout};
-ghost use Rattle.esto_read.specs.declared.words.DataModel.{DataModel};
+ghost use Rattle.esto_docmodel.specs.declared.file.Layout.{Layout};
+ghost use Rattle.esto_docmodel.specs.declared.words.DataModel.{DataModel};
 ghost use Rattle.esto_catalog.specs.Models.{model_word, layout_word, reads_model, needs_model, reads_layout, allows_layout, unfit_row, no_layout, layout_row};
 ghost use Rattle.esto_catalog.specs.Rows.{Walks};
 ghost use Rattle.esto_settings.specs.Settings.{setting_at};
 
 use crate::fault::{CatalogueError, CatalogueKind, Place, demand, fault};
 use crate::row::needs_text;
-use esto_docs::Layout;
-use esto_read::DataModel;
+use esto_docmodel::{DataModel, Layout};
 use esto_settings::{Field, Setting, has_key, is_same, setting_at};
 use esto_term::Text;
 use std::alloc::Global;

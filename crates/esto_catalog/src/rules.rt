@@ -8,10 +8,10 @@ ghost use Rattle.esto_catalog.specs.Rules.{encoding_rules, encoding_names, AreAl
 ghost use Rattle.esto_catalog.specs.Scope.{IsScope};
 ghost use Rattle.esto_catalog.specs.Soundness.{AreSoundRules};
 
-use crate::dataset::Dataset;
 use crate::scope::Scope;
 use esto_constraint::{Rules, document_rules, document_rules_2, key_rules};
-use esto_read::DataModel;
+use esto_docmodel::DataModel;
+use esto_mapping::Dataset;
 use esto_term::{List, OutOfMemory};
 use esto_text::Version;
 use std::alloc::Global;

@@ -1,13 +1,14 @@
 //! The relations and the words of datasets.
 ghost use Rattle.std.specs.Prelude.{◌≡◌, ◌++◌, ◌∷◌, [], IfOk, OnOk};
 ghost use Rattle.esto_query.specs.Schemas.{IsSchema};
-ghost use Rattle.esto_catalog.specs.Datasets.{AreDatasets, model_relations, part, part_name, relations_of, schema_of, words_of};
-ghost use Rattle.esto_read.specs.declared.words.DataModel.{DataModel};
+ghost use Rattle.esto_catalog.specs.Datasets.{AreDatasets};
+ghost use Rattle.esto_mapping.specs.Datasets.{model_relations, part, part_name, relations_of, schema_of, words_of};
+ghost use Rattle.esto_docmodel.specs.declared.words.DataModel.{DataModel};
 ghost use Rattle.esto_catalog.specs.Scope.{IsScope};
 
-use crate::dataset::{Dataset, Datasets};
+use esto_docmodel::{DataModel, Vocabulary, Word};
+use esto_mapping::{Dataset, Datasets};
 use esto_query::{Schema, SchemaError};
-use esto_read::{DataModel, Vocabulary, Word};
 use esto_term::{List, OutOfMemory, Replicate, Text};
 use std::alloc::Global;
 

@@ -1,20 +1,19 @@
 //! How the rows of a fragment are stored: columns, layout and pattern.
 ghost use Rattle.std.specs.Prelude.{◌≡◌, ◌↔◌, IsTrue, Some, option_copied, length, map, IfOk};
 ghost use Rattle.esto_query.specs.declared.query.Name.{Name};
-ghost use Rattle.esto_catalog.specs.Datasets.{AreColumns};
+ghost use Rattle.esto_mapping.specs.Datasets.{AreColumns};
 ghost use Rattle.esto_catalog.specs.Rows.{Walks};
 ghost use Rattle.esto_catalog.specs.Shapes.{column_of, head_columns, name_at, AreDistinctNames, store_columns, store_columns_row, reads_pattern, pattern_row};
 ghost use Rattle.esto_catalog.specs.Shapes.{table_row, documents_row, keys_row, shape_row};
 ghost use Rattle.esto_settings.specs.declared.setting.Setting.TheVariants.{Texts};
 
-use crate::catalogue::Shape;
-use crate::columns::are_columns;
 use crate::fault::{CatalogueError, CatalogueKind, Place, demand, fault};
 use crate::model::{layout, unfit};
 use crate::row::needs_text;
-use esto_docmodel::{Pattern, is_layout};
+use esto_docmodel::{DataModel, Pattern, is_layout};
+use esto_mapping::{Shape, are_columns};
 use esto_query::{Name, Names, Query};
-use esto_read::{DataModel, read_layout};
+use esto_read::read_layout;
 use esto_settings::{Field, Setting, setting_at};
 use esto_term::{List, OutOfMemory, Replicate, Term, Text, TextRow};
 use esto_text::ReadError;

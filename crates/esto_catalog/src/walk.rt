@@ -1,11 +1,8 @@
 //! The walk over the rows of the whole catalogue.
 ghost use Rattle.std.specs.Prelude.{◌≡◌, ◌≤◌, List, length, IfOk, IfErr};
-ghost use Rattle.esto_constraint.specs.Graphs.{IsWithin, AreRanks};
-ghost use Rattle.esto_constraint.specs.Relations.{IsEdge};
-ghost use Rattle.esto_constraint.specs.Constraints.{rules_of};
 ghost use Rattle.esto_constraint.specs.declared.rule.Constraint.{Constraint};
 ghost use Rattle.esto_query.specs.Schemas.{arities_of};
-ghost use Rattle.esto_catalog.specs.Determined.{CataloguesAreSound, HaveOneCatalogue, HaveNoError, HaveOneError};
+ghost use Rattle.esto_catalog.specs.Determined.{HaveOneCatalogue, HaveNoError, HaveOneError};
 ghost use Rattle.esto_catalog.specs.Kept.{ReadingsHaveRelations, ReadingsHaveEncodings};
 ghost use Rattle.esto_catalog.specs.Reading.{IsRankedOf, IsCatalogueOf, IsCatalogueError, IsMadeOf, is_ranked, reads_ranked, reads_fragments_and_rules};
 ghost use Rattle.esto_catalog.specs.Reading.{reads_sections, reads_catalogue};
@@ -16,7 +13,6 @@ ghost use Rattle.esto_catalog.specs.Scope.{IsScope};
 ghost use Rattle.esto_catalog.specs.declared.whole.TheConstants.{MAX_ENTRIES};
 ghost use Rattle.esto_text.specs.declared.version.Version.{Version};
 
-use crate::catalogue::Catalogue;
 use crate::constraint::read_constraints;
 use crate::dataset::read_datasets;
 use crate::fault::CatalogueError;
@@ -27,6 +23,7 @@ use crate::whole::{Sections, read_whole};
 use either::{Left, Right};
 use esto_acyclic::{judge, judgements_are_exact};
 use esto_constraint::{Ranks, Rules};
+use esto_mapping::Catalogue;
 use esto_read::{
     constraint_readings_are_determined, layout_readings_are_determined, readings_are_determined,
     views_name_their_columns,
@@ -165,19 +162,6 @@ pub fn read_catalogue(alloc: Global, bytes: &[u8]) -> Result<Catalogue, Catalogu
 {
     walk(alloc, bytes)
 }
-
-/// A law: each catalogue keeps what its description says.
-pub fn catalogues_are_sound()
-    ensures { CataloguesAreSound }
-{}
-
-/// A law: a catalogue's rules go between the relations that it ranks, and its ranks are theirs, as
-/// a chase by them asks.
-pub fn catalogues_rank_their_rules()
-    ensures within { (it : Catalogue) → IsWithin (length it.ranks) (IsEdge (rules_of it.rules)) }
-    ensures ranks { (it : Catalogue) →
-        AreRanks (IsEdge (rules_of it.rules)) (length it.ranks) it.ranks }
-{}
 
 /// A law: a catalogue that is read has the relations of its datasets, one dataset after another;
 /// and it keeps its own constraints first, as many as it counts, and then the rules of the

@@ -1,6 +1,6 @@
 -- What `verify` asks of the shelf.
 use Rattle.std.proofs.Common.{◌≡◌, ℕ, Bool, List, Option, Result, Ok, Err, refl, subst}
-use Rattle.esto_catalog.specs.declared.catalogue.Catalogue.{Catalogue}
+use Rattle.esto_mapping.specs.declared.catalogue.Catalogue.{Catalogue}
 use Rattle.esto_course.specs.Course.{Names, gives}
 use Rattle.esto_course.proofs.Asking.{quiet_gives, quiet_judges}
 use Rattle.esto_course.proofs.Steps.{gives_goes}

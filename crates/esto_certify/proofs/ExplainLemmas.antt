@@ -1,6 +1,6 @@
 -- The course of a certificate that is written.
 use Rattle.std.proofs.Common.{◌≡◌, ℕ, List, Some, None, slice_get}
-use Rattle.esto_catalog.specs.declared.catalogue.Catalogue.{Catalogue}
+use Rattle.esto_mapping.specs.declared.catalogue.Catalogue.{Catalogue}
 use Rattle.esto_course.specs.Course.{IsQuiet, Stops, judges}
 use Rattle.esto_course.proofs.Asking.{quiet_judges, quiet_then}
 use Rattle.esto_course.proofs.Steps.{first_stops, then_goes, then_stops}

@@ -1,7 +1,7 @@
 -- What is said of a judged certificate.
 use Rattle.std.proofs.Common.{◌≡◌, ℕ, Bool, List, Err, Some, None, refl, subst, sym}
 use Rattle.std.specs.Prelude.{codes}
-use Rattle.esto_catalog.specs.declared.catalogue.Catalogue.{Catalogue}
+use Rattle.esto_mapping.specs.declared.catalogue.Catalogue.{Catalogue}
 use Rattle.esto_cert.specs.Judging.{Answers as AnswersAs}
 use Rattle.esto_cert.specs.declared.check.CertError.{CertError}
 use Rattle.esto_cert.specs.declared.check.CertError.TheVariants as error

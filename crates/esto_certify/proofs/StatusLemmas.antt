@@ -1,8 +1,8 @@
 -- The command `explain` has one status.
 use Rattle.std.proofs.Common.{◌≡◌, ℕ, List, Some, None, subst}
 use Rattle.std.specs.Prelude.{slice_get}
-use Rattle.esto_catalog.specs.Determined.{AreSame}
-use Rattle.esto_catalog.specs.declared.catalogue.Catalogue.{Catalogue}
+use Rattle.esto_mapping.specs.Catalogues.{AreSame}
+use Rattle.esto_mapping.specs.declared.catalogue.Catalogue.{Catalogue}
 use Rattle.esto_course.specs.Course.{gives, judges}
 use Rattle.esto_course.proofs.Determined.{judges_agree, then_agree}
 use Rattle.esto_list.specs.declared.listing.Listed.{Listed}

@@ -1,7 +1,7 @@
 -- What `verify` says of numbers and of a certificate's file.
 use Rattle.std.proofs.Common.{◌≡◌, ℕ, Bool, List, length, Some, None, refl, sym, ap, subst, ◌∙◌, inl, inr}
-use Rattle.esto_catalog.specs.Determined.{AreSame}
-use Rattle.esto_catalog.specs.declared.catalogue.Catalogue.{Catalogue}
+use Rattle.esto_mapping.specs.Catalogues.{AreSame}
+use Rattle.esto_mapping.specs.declared.catalogue.Catalogue.{Catalogue}
 use Rattle.esto_cert.specs.Showing.{AcceptedCertificatesDerive, AcceptedCertificatesShow, VerdictsAreMoved}
 use Rattle.esto_course.specs.Course.{and_then, judges}
 use Rattle.esto_opening.specs.Alike.{CataloguesOpenAlike, IsSameQuery, QueriesOpenAlike}

@@ -1,6 +1,6 @@
 -- The command `verify`.
 use Rattle.std.specs.Prelude.{◌≡◌, ◌↔◌, ℕ, ◌+◌, nat_lt, Bool, List, [], ◌∷◌, length, Option, Some, None, Contains, if◌then◌else◌, codes}
-use Rattle.esto_catalog.specs.declared.catalogue.Catalogue.{Catalogue}
+use Rattle.esto_mapping.specs.declared.catalogue.Catalogue.{Catalogue}
 use Rattle.esto_cert.specs.Judging.{DecidesFor}
 use Rattle.esto_course.specs.Course.{Course, judges, gives, and_then}
 use Rattle.esto_ports.specs.Files.{Files}

@@ -10,9 +10,9 @@ ghost use Rattle.esto_planning.specs.Listing.{IsPlanned};
 ghost use Rattle.esto_certify.specs.Explain.{explains_plan, explains_query, explain_course, explains_read};
 ghost use Rattle.esto_certify.specs.Verify.{HasVerdict};
 
-use esto_catalog::Catalogue;
 use esto_derive::write_certificate;
 use esto_list::Listed;
+use esto_mapping::Catalogue;
 use esto_opening::{Reply, Status, open_catalogue, open_query};
 use esto_planning::{
     choose, chosen_items_are_listed, list_of, plan_of, planned_plans_are_universal,

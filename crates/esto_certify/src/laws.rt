@@ -2,12 +2,12 @@
 ghost use Rattle.esto_certify.specs.Laws.{ContainedSetsHaveOne, ListedSetsHaveOne};
 ghost use Rattle.esto_certify.specs.Laws.{ExplainHasOneStatus, ExplainSaysCertificates, VerifyChecksCertificates, VerifyIsOne, VerifySaysVerdicts};
 
-use esto_catalog::catalogues_are_sound;
 use esto_cert::{
     accepted_certificates_derive, accepted_certificates_show, contained_sets_have_certificates,
     verdicts_are_moved, verdicts_are_one,
 };
 use esto_constraint::ranks_rise;
+use esto_mapping::catalogues_are_sound;
 use esto_opening::openings_are_one;
 use esto_planning::{
     chosen_items_are_listed, planned_plans_are_universal, planned_plans_have_their_form,

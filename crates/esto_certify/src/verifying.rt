@@ -8,8 +8,8 @@ ghost use Rattle.esto_planning.specs.Listing.{IsPlanned};
 ghost use Rattle.esto_certify.specs.Verify.{judges_certificate, names_set, verifies_query, verifies_read, verifies_set, verify_course};
 
 use esto_bits::RowBits;
-use esto_catalog::Catalogue;
 use esto_cert::{CertError, check_certificate};
+use esto_mapping::Catalogue;
 use esto_opening::{DATA_LIMIT, Reply, Status, fetch, open_catalogue, open_query};
 use esto_planning::{plan_of, planned_plans_have_their_form};
 use esto_ports::Shelf;

@@ -3,3 +3,4 @@ pub mod NextLemmas
 pub mod StepLemmas
 pub mod ChaseLemmas
 pub mod OutcomeLemmas
+pub mod ClashLemmas

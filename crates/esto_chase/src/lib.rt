@@ -3,9 +3,11 @@
 #![tactic(auto)]
 
 mod chasing;
+mod laws;
 mod making;
 mod next;
 mod steps;
 
 pub use chasing::{Chased, chase};
 pub use esto_chase_laws::Clash;
+pub use laws::clashed_queries_are_unsatisfiable;

@@ -1,17 +1,13 @@
 -- Answers over rows of codes, and answers over the facts that these stand for.
-use Rattle.std.proofs.Common.{◌≡◌, ◌==◌, ◌≢◌, ◌⊎◌, ◌↔◌, inl, inr, ℕ, suc, ◌+◌, ◌-◌, ◌<◌, ◌≤◌, Bool, true, false, cond, List, [], ◌∷◌, map, length, get_or, Some, None}
+use Rattle.std.proofs.Common.{◌≡◌, ◌==◌, ◌⊎◌, ◌↔◌, inl, inr, ℕ, ◌+◌, ◌-◌, ◌<◌, ◌≤◌, Bool, true, false, List, [], ◌∷◌, map, length, get_or, Some, None}
 use Rattle.std.proofs.Common.{Option, slice_get, Contains, refl, sym, ap, ◌∙◌, subst, arith}
-use Rattle.std.specs.Prelude.{AllPairs}
-use Rattle.std.specs.Str.{bytes_eq}
 use Rattle.std.proofs.lemmas.Bool.Decides.{Decides-eqb}
 use Rattle.std.proofs.lemmas.List.{length-map, get_or_past}
 use Rattle.std.proofs.lemmas.Option.{none-some, slice_get_cases, get_or_from_slice_get}
-use Rattle.std.proofs.lemmas.Slice.Eq.{bytes_eq-Decides}
 use Rattle.esto_term.specs.declared.term.Term.{Term, out-Term}
 use Rattle.esto_term.specs.declared.term.Term.TheOpen.{Term-F}
 use Rattle.esto_term.specs.declared.term.Term.TheVariants.{Const, Plain, outs-Const, outs-Plain}
-use Rattle.esto_term.proofs.ListLemmas.{Contains-nil, Contains-head, Contains-rest, Contains-cases, Contains-at, Contains-map, Contains-map_from, map_at, map_then}
-use Rattle.esto_term.proofs.PlaceLemmas.{one_place}
+use Rattle.esto_term.proofs.ListLemmas.{Contains-nil, Contains-head, Contains-rest, Contains-map, Contains-map_from, map_at, map_then}
 use Rattle.esto_term.proofs.ZipLemmas.{zip_length, zip_right}
 use Rattle.esto_semantics.specs.Facts.{image}
 use Rattle.esto_semantics.specs.Maps.{IsFixedBy}
@@ -22,6 +18,7 @@ use Rattle.esto_columns.specs.Columns.{HaveLength}
 use Rattle.esto_columns.specs.declared.stored.StoredRows.{StoredRows}
 use Rattle.esto_plan.specs.Planned.{Fits}
 use Rattle.esto_plan.specs.Rows.{IsNumbering, AreInterned, StandsIn}
+use Rattle.esto_plan.proofs.CodeLemmas.{code_in, code_stands, code_in_numbers}
 use Rattle.esto_plan.proofs.CodedLemmas.{answers_pushed}
 use Rattle.esto_plan.proofs.MeaningLemmas.{results_are_answers, plans_intern}
 use Rattle.esto_steps.specs.Meaning.{IsResult}
@@ -33,31 +30,6 @@ use Rattle.esto_coded.specs.Relations.{coded_of}
 use Rattle.esto_coded.specs.Whole.{AreWholeSteps, IsOver, IsVain, TellsOver}
 use Rattle.esto_coded.specs.declared.coded.TheConstants.{FIRST_NODE}
 use Rattle.esto_coded.proofs.WholeLemmas.{steps_of_query}
-
--- ---- the codes of texts
-
--- the first place of the text
-pub code_in : List (List ℕ) → List ℕ → ℕ
-code_in [] text = 0
-code_in (first ∷ rest) text = cond (bytes_eq first text) 0 (suc (code_in rest text))
-
-code_stands : (texts : List (List ℕ)) (text : List ℕ) → Contains texts text → slice_get texts (code_in texts text) ≡ Some text
-unfolding code_in
-code_stands [] text inside = absurd (Contains-nil text inside)
-code_stands (first ∷ rest) text inside = by (bytes_eq first text) refl (λ later. code_stands rest text later)
-  where
-    by : (answer : Bool) → bytes_eq first text ≡ answer → (Contains rest text → slice_get rest (code_in rest text) ≡ Some text)
-        → slice_get (first ∷ rest) (cond answer 0 (suc (code_in rest text))) ≡ Some text
-    by true told again = ap Some ((bytes_eq-Decides first text).0 told)
-    by false told again = elim (Contains-cases first rest text inside) [
-      | inl is ↦ let wrong : false ≡ true = sym told ∙ (bytes_eq-Decides first text).1 is in cc
-      | inr later ↦ again later
-    ]
-
--- where the texts are distinct, it is the only one
-code_in_numbers : (texts : List (List ℕ)) → AllPairs ◌≢◌ texts → IsNumbering texts (code_in texts)
-code_in_numbers texts distinct number text at =
-    one_place texts distinct (code_in texts text) number text (code_stands texts text (Contains-at texts number text at)) at
 
 -- ---- the code of a term, and the term of a code
 

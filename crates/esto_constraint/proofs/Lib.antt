@@ -6,3 +6,4 @@ pub mod WalkLemmas
 pub mod CycleLemmas
 pub mod FrontierLemmas
 pub mod RankLemmas
+pub mod EdgeLemmas

@@ -12,13 +12,13 @@ ghost use Rattle.esto_semantics.specs.Rules.{Rule, AreRules};
 use crate::ends::end_of;
 use crate::laws::what_is_told_is_determined;
 use either::{Left, Right};
-use esto_catalog::Catalogue;
+use esto_chase::clashed_queries_are_unsatisfiable;
 use esto_chase_laws::finished_runs_decide;
 use esto_constraint::rules_are_sound;
 use esto_instance::Instance;
+use esto_mapping::Catalogue;
 use esto_query::{Facts, Query, queries_are_sound};
 use esto_term::{OutOfMemory, Replicate, Terms};
-use esto_universal::plans_tell_satisfiable_queries;
 use std::alloc::Global;
 
 /// Whether a query is contained in another.
@@ -60,7 +60,7 @@ fn told(
 {
     rules_are_sound();
     queries_are_sound();
-    plans_tell_satisfiable_queries();
+    clashed_queries_are_unsatisfiable();
     let outcome = end_of(alloc, left, catalogue)?;
     match outcome {
         Left(end) => {

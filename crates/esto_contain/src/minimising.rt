@@ -21,12 +21,12 @@ ghost use Rattle.esto_term.specs.declared.term.Term.{Term};
 use crate::ends::end_of;
 use either::{Either, Left, Right};
 use esto_bits::{Products, products_are_antichains};
-use esto_catalog::{Catalogue, catalogues_rank_their_rules};
-use esto_chase::Clash;
+use esto_chase::{Clash, clashed_queries_are_unsatisfiable};
 use esto_chase_laws::states_are_universal;
 use esto_condchase::{chase_with_products, products_of_matches};
 use esto_constraint::rules_are_sound;
 use esto_instance::Instance;
+use esto_mapping::{Catalogue, catalogues_rank_their_rules};
 use esto_plan_laws::{maps_between_plans_compose, renamed_plans_are_alike};
 use esto_query::{Atom, ExpandedFact, ExpandedFacts, Facts, Names, Query, queries_are_sound};
 use esto_semantics::{
@@ -34,7 +34,6 @@ use esto_semantics::{
     universal_instances_satisfy_queries,
 };
 use esto_term::{List, OutOfMemory, Replicate, Terms};
-use esto_universal::plans_tell_satisfiable_queries;
 use esto_views::{plan_facts, plans_are_sound, renamed_plan, renamed_plans_are_one};
 use esto_world_laws::{matches_decide_containment, matches_rest_on_atoms};
 use std::alloc::Global;
@@ -166,7 +165,7 @@ pub fn minimise(
     queries_are_sound();
     states_are_universal();
     universal_instances_satisfy_queries();
-    plans_tell_satisfiable_queries();
+    clashed_queries_are_unsatisfiable();
     let outcome = end_of(alloc, query, catalogue)?;
     match outcome {
         Left(end) => {

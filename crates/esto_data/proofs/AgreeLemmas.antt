@@ -2,9 +2,9 @@
 use Rattle.std.proofs.Common.{◌≡◌, ◌≢◌, ℕ, List, map, Contains, Some, None, Option, Result, Ok, Err, refl, sym, ap, subst, ◌∙◌}
 use Rattle.std.specs.List.{range_with_len}
 use Rattle.std.proofs.lemmas.Option.{none-some, same_Some}
-use Rattle.esto_catalog.specs.Determined.{AreSame}
-use Rattle.esto_catalog.specs.declared.catalogue.Catalogue.{Catalogue}
-use Rattle.esto_catalog.specs.declared.dataset.Dataset.{Dataset}
+use Rattle.esto_mapping.specs.Catalogues.{AreSame}
+use Rattle.esto_mapping.specs.declared.catalogue.Catalogue.{Catalogue}
+use Rattle.esto_mapping.specs.declared.dataset.Dataset.{Dataset}
 use Rattle.esto_constraint.specs.Constraints.{rules_of}
 use Rattle.esto_constraint.specs.EncodingRules.{written}
 use Rattle.esto_course.specs.Course.{Course, judges}

@@ -1,7 +1,7 @@
 -- Rows of codes that stand for what they stood for, and what is judged over them.
 use Rattle.std.proofs.Common.{List, Result, Ok}
-use Rattle.esto_catalog.specs.declared.catalogue.Catalogue.{Catalogue}
-use Rattle.esto_catalog.specs.declared.dataset.Dataset.{Dataset}
+use Rattle.esto_mapping.specs.declared.catalogue.Catalogue.{Catalogue}
+use Rattle.esto_mapping.specs.declared.dataset.Dataset.{Dataset}
 use Rattle.esto_constraint.specs.Constraints.{rules_of}
 use Rattle.esto_course.specs.Course.{judges}
 use Rattle.esto_fill.specs.CodedParts.{Stays}

@@ -2,8 +2,8 @@
 use Rattle.std.proofs.Common.{◌≡◌, ◌⊎◌, ◌↔◌, ◌<◌, ◌≤◌, ◌+◌, ℕ, zero, suc, List, length, slice_get, Option, Some, sym, ap, subst, ◌∙◌, arith, inl, inr}
 use Rattle.std.specs.List.{range_with_len}
 use Rattle.std.proofs.lemmas.Option.{same_Some, none-some, slice_get_within}
-use Rattle.esto_catalog.specs.declared.catalogue.Catalogue.{Catalogue}
-use Rattle.esto_catalog.specs.declared.catalogue.Store.{Store}
+use Rattle.esto_mapping.specs.declared.catalogue.Catalogue.{Catalogue}
+use Rattle.esto_mapping.specs.declared.catalogue.Store.{Store}
 use Rattle.esto_course.specs.Course.{judges, gives, and_then, each}
 use Rattle.esto_ports.specs.Files.{Files}
 use Rattle.esto_run.specs.Stores.{IsFileRow, IsRowIn}

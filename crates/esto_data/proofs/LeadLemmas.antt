@@ -5,7 +5,7 @@ use Rattle.std.specs.Prelude.{AllPairs, IsSome}
 use Rattle.std.proofs.Common.{◌<◌, get_or, length, arith}
 use Rattle.std.proofs.lemmas.List.{get_or-map, length-map}
 use Rattle.std.proofs.lemmas.Option.{same_Some, none-some}
-use Rattle.esto_catalog.specs.declared.dataset.Dataset.{Dataset}
+use Rattle.esto_mapping.specs.declared.dataset.Dataset.{Dataset}
 use Rattle.esto_course.specs.Course.{judges, demands, gives, and_then, each}
 use Rattle.esto_fill.specs.Files.{AreApart, AreFactsFrom}
 use Rattle.esto_fill.specs.Laws.{FactsAreOne}

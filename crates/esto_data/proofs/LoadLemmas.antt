@@ -5,7 +5,7 @@ use Rattle.std.specs.declared.cmp.Ordering.TheVariants.{Less}
 use Rattle.std.proofs.lemmas.Bool.Decides.{nat_tests}
 use Rattle.std.proofs.lemmas.Cmp.{nat_cmp_total}
 use Rattle.std.proofs.lemmas.Option.{same_Some, none-some}
-use Rattle.esto_catalog.specs.declared.dataset.Dataset.{Dataset}
+use Rattle.esto_mapping.specs.declared.dataset.Dataset.{Dataset}
 use Rattle.esto_course.specs.Agreement.{IsDetermined}
 use Rattle.esto_course.specs.Course.{Course, each, gives, judges, and_then}
 use Rattle.esto_course.proofs.Determined.{then_agree, gives_agree, judges_agree, judges_determined, then_determined, demands_determined, each_determined}

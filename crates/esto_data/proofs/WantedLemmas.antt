@@ -1,7 +1,7 @@
 -- What is said over the facts that are left, said over all facts.
 use Rattle.std.proofs.Common.{◌≡◌, ◌↔◌, inl, inr, ℕ, List, [], ◌∷◌, length, map, Contains, Result, Ok, Err, subst}
-use Rattle.esto_catalog.specs.declared.catalogue.Catalogue.{Catalogue}
-use Rattle.esto_catalog.specs.declared.catalogue.Shape.{Shape}
+use Rattle.esto_mapping.specs.declared.catalogue.Catalogue.{Catalogue}
+use Rattle.esto_mapping.specs.declared.catalogue.Shape.{Shape}
 use Rattle.esto_constraint.specs.Constraints.{rules_of}
 use Rattle.esto_course.specs.Course.{Course, and_then, gives, judges}
 use Rattle.esto_course.specs.Course.Stops.{is_free, refused}

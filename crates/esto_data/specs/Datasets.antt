@@ -1,8 +1,8 @@
 -- The files of the datasets that a command needs, as steps: each of the datasets has a file; then each file is fetched, and its content read, before the next
 -- is fetched.
 use Rattle.std.specs.Prelude.{◌≡◌, ◌↔◌, ◌⊎◌, ℕ, ◌+◌, ◌<◌, ◌≤◌, List, [], ◌∷◌, ◌++◌, map, length, slice_get, AllPairs, Contains, Option, Some, None, IsSome, Result, Ok, Err}
-use Rattle.esto_catalog.specs.Datasets.{relation_count}
-use Rattle.esto_catalog.specs.declared.dataset.Dataset.{Dataset}
+use Rattle.esto_mapping.specs.Datasets.{relation_count}
+use Rattle.esto_mapping.specs.declared.dataset.Dataset.{Dataset}
 use Rattle.esto_course.specs.Course.{Course, Stops, judges, demands, gives, and_then, each}
 use Rattle.esto_fill.specs.Coding.{IsCodedFrom, IsCodedOf}
 use Rattle.esto_fill.specs.Files.{AreFactsFrom, AreReadable, dataset_fault}

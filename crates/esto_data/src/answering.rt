@@ -9,9 +9,9 @@ ghost use Rattle.esto_opening.specs.Asked.{AsksIn};
 ghost use Rattle.esto_opening.specs.Unions.{FormUnion};
 
 use crate::unions::load_union;
-use esto_catalog::Catalogue;
 use esto_fill::{AnswerError, CodedData, answer_union_coded, answers_rest_on_wanted_facts};
 use esto_fragments::union_rows_text;
+use esto_mapping::Catalogue;
 use esto_opening::{Queries, Reply, Status, open_catalogue, open_union};
 use esto_ports::Shelf;
 use esto_term::{Text, TextRows};

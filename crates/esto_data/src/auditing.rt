@@ -15,10 +15,10 @@ ghost use Rattle.esto_data.specs.Datasets.{HoldsFiles};
 use crate::comparing::compare;
 use crate::kept::load_all;
 use crate::opened::open_all_rows;
-use esto_catalog::Catalogue;
 use esto_fill::{
     AnswerError, CodedData, CodedRowsList, LoadList, Trial, audit_views_coded, no_data, trial_of,
 };
+use esto_mapping::Catalogue;
 use esto_opening::{Reply, Status, open_catalogue};
 use esto_ports::Shelf;
 use esto_term::{Bytes, OutOfMemory, Text};

@@ -14,12 +14,12 @@ ghost use Rattle.esto_opening.specs.Answers.{Answers};
 ghost use Rattle.esto_data.specs.Audit.{AddsTexts, AreFactsToAudit, AreRowsOfFiles, HoldContents, HoldSameRows, HoldsAudit, compares};
 
 use crate::kept::load_again;
-use esto_catalog::Catalogue;
 use esto_columns::Rows;
 use esto_fill::{
     CodedData, CodedRowsList, LoadList, Loaded, TextRowsList, Trial, agree_coded, audit_tried,
     audits_are_over_files, outcomes_are_one,
 };
+use esto_mapping::Catalogue;
 use esto_opening::Status;
 use esto_term::{List, OutOfMemory};
 use std::alloc::Global;

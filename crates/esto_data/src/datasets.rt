@@ -1,7 +1,7 @@
 //! The files of the datasets that a command needs: each has to have a file; then each is fetched, and its content read,
 //! before the next is fetched.
 ghost use Rattle.std.specs.Prelude.{◌≡◌, ◌↔◌, ◌<◌, ◌≤◌, [], ◌∷◌, ℕ, IsTrue, length, slice_get, Some, Contains, IfOk, OnOk};
-ghost use Rattle.esto_catalog.specs.declared.dataset.Dataset.{Dataset};
+ghost use Rattle.esto_mapping.specs.declared.dataset.Dataset.{Dataset};
 ghost use Rattle.esto_ports.specs.Faults.{Rises};
 ghost use Rattle.esto_opening.specs.Answers.{Answers};
 ghost use Rattle.esto_opening.specs.Asked.{AsksIn};
@@ -10,8 +10,8 @@ ghost use Rattle.esto_fill.specs.declared.wanted.Wanted.TheVariants.{Asked};
 ghost use Rattle.esto_data.specs.Datasets.{AddsNeeded, AreNeeded, HasRelation, HoldsLeft, IsSourceAt, Loads, LoadsAsking, LoadsFiles, LoadsMore, Names};
 ghost use Rattle.esto_data.specs.Datasets.{Source, demands_file, demands_files, loads, opens_dataset, reads_data};
 
-use esto_catalog::{Catalogue, Dataset, Datasets, relation_count};
 use esto_fill::{CodedData, Wanted, load_coded, no_data, wanted_by_body};
+use esto_mapping::{Catalogue, Dataset, Datasets, relation_count};
 use esto_opening::{DATA_LIMIT, Status, fetch};
 use esto_ports::{FileError, Shelf};
 use esto_semantics::{Atom, Atoms};

@@ -9,8 +9,8 @@ ghost use Rattle.esto_fill.specs.declared.loaded.Loaded.{Loaded};
 ghost use Rattle.esto_data.specs.Fill.{fill_course, fill_status, fills_file, fills_fragment, fills_named, finds_fragment, make_course};
 
 use crate::datasets::load_named;
-use esto_catalog::{Catalogue, catalogues_are_sound};
 use esto_fill::{CodedData, FillError, answers_rest_on_wanted_facts, fill_coded};
+use esto_mapping::{Catalogue, catalogues_are_sound};
 use esto_opening::{Reply, Status, open_catalogue};
 use esto_ports::Shelf;
 use esto_term::{Bytes, Replicate, Text};

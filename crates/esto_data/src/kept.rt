@@ -1,6 +1,6 @@
 //! The files of all datasets, which an audit keeps once they are loaded: where it finds a difference, it loads them again.
 ghost use Rattle.std.specs.Prelude.{◌≡◌, ◌≤◌, ◌<◌, ◌∷◌, [], ◌++◌, ℕ, List, None, Some, length, slice_get, Contains, IfOk};
-ghost use Rattle.esto_catalog.specs.declared.dataset.Dataset.{Dataset};
+ghost use Rattle.esto_mapping.specs.declared.dataset.Dataset.{Dataset};
 ghost use Rattle.esto_ports.specs.Faults.{Rises};
 ghost use Rattle.esto_opening.specs.Answers.{Answers};
 ghost use Rattle.esto_opening.specs.Asked.{AsksIn};
@@ -10,8 +10,8 @@ ghost use Rattle.esto_fill.specs.declared.datasets.DatasetBytes.{DatasetBytes};
 ghost use Rattle.esto_data.specs.Datasets.{AreNeeded, AreNumbered, HoldsFiles, IsAny, IsSourceAt, Loads, LoadsAsking, Source, loads, loads_files};
 
 use crate::datasets::{demand_files, load_next};
-use esto_catalog::{Catalogue, Datasets};
 use esto_fill::{CodedData, DatasetBytes, LoadList, Loaded, Wanted, load_dataset, nothing_loaded};
+use esto_mapping::{Catalogue, Datasets};
 use esto_opening::Status;
 use esto_ports::{FileError, Shelf};
 use esto_term::{List, OutOfMemory, Places, Values};

@@ -3,10 +3,10 @@ ghost use Rattle.esto_data.specs.DataLaws.{DataLaws};
 ghost use Rattle.esto_data.specs.Laws.{AnswersAreExact, AnswersAreOne, AuditsAreExact, AuditsAreOne, AuditsRefuse, FillsAreExact, FillsAreOne};
 ghost use Rattle.esto_data.specs.Laws.{MakesAreOne, RepliesAreAudited, UnionAnswersAreExact};
 
-use esto_catalog::catalogues_are_sound;
 use esto_constraint::rules_are_sound;
 use esto_fill::{answers_rest_on_their_datasets, outcomes_are_one};
 use esto_fragments::fragment_files_are_one;
+use esto_mapping::catalogues_are_sound;
 use esto_opening::{opened_unions_are_queries, openings_are_one};
 
 // The laws by which the commands on data are determined, together.

@@ -5,8 +5,8 @@ ghost use Rattle.esto_query.specs.Making.{query_of};
 ghost use Rattle.esto_data.specs.Datasets.{AddsNeeded, AreNeeded, HoldsLeft, Loads, LoadsAsking, OneNames, loads, named_by};
 
 use crate::datasets::{demand_files, load_files, names};
-use esto_catalog::{Catalogue, Dataset, Datasets};
 use esto_fill::{CodedData, wanted_by_queries};
+use esto_mapping::{Catalogue, Dataset, Datasets};
 use esto_opening::{Queries, Status};
 use esto_ports::Shelf;
 use esto_query::Query;

@@ -11,7 +11,7 @@ use Rattle.std.proofs.lemmas.List.Splits.{slice_split_at, slice_split_none}
 use Rattle.std.proofs.lemmas.Option.{same_Some}
 use Rattle.esto_term.proofs.ListLemmas.{Contains-head, Contains-rest}
 use Rattle.esto_term.specs.Nesting.{greatest_u64}
-use Rattle.esto_list.specs.Text.{each_from, comma_before, numbers_text}
+use Rattle.esto_views.specs.Printing.{each_from, comma_before, numbers_text}
 use Rattle.esto_cert.specs.Lines.{number_after, number_of, numbers_of, list_of, links_of, is_word, with_item, line_of_words, expanded_of, step_of, match_of}
 use Rattle.esto_cert.specs.declared.line.Line.{Line}
 use Rattle.esto_cert.specs.declared.line.Line.TheVariants.{Expanded, Step, Match}

@@ -13,7 +13,7 @@ use Rattle.esto_world_laws.specs.Worlds.{Linked}
 use Rattle.esto_world_laws.specs.declared.entry.Claim.{Claim}
 use Rattle.esto_world_laws.specs.declared.entry.Claim.TheVariants.{Fact as Stated, Same}
 use Rattle.esto_world_laws.specs.declared.entry.Entry.{Entry}
-use Rattle.esto_catalog.specs.declared.catalogue.Catalogue.{Catalogue}
+use Rattle.esto_mapping.specs.declared.catalogue.Catalogue.{Catalogue}
 use Rattle.esto_query.specs.declared.query.Query.{Query}
 use Rattle.esto_views.specs.Expanded.{AreExpanded, Expands}
 use Rattle.esto_query.specs.declared.expanded.ExpandedFact.{ExpandedFact}

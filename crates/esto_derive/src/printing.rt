@@ -5,8 +5,8 @@ ghost use Rattle.esto_term.specs.Nesting.{greatest_u64};
 ghost use Rattle.esto_cert.specs.declared.line.Line.TheVariants.{Expanded, Step, Match};
 ghost use Rattle.esto_derive.specs.Printing.{line_text, list_text, LinesAreReadBack};
 
-use esto_list::{put_number, put_numbers};
 use esto_term::{Bytes, OutOfMemory};
+use esto_views::{put_number, put_numbers};
 use std::alloc::Global;
 
 /// Puts numbers of lines at the end, which are given counted from 0, or a minus for none.

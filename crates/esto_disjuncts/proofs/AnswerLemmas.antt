@@ -1,6 +1,6 @@
 -- The rows of the sets that are chosen for the members of a union are its answers.
 use Rattle.std.proofs.Common.{◌≡◌, ℕ, true, List, filter, Contains, Option, refl, subst}
-use Rattle.esto_catalog.specs.declared.catalogue.Catalogue.{Catalogue}
+use Rattle.esto_mapping.specs.declared.catalogue.Catalogue.{Catalogue}
 use Rattle.esto_constraint.specs.Constraints.{rules_of}
 use Rattle.esto_list.specs.Items.{sets_of}
 use Rattle.esto_list.specs.declared.listing.Listed.{Listed}

@@ -3,7 +3,7 @@ use Rattle.std.proofs.Common.{◌≡◌, ◌↔◌, ℕ, List, [], ◌∷◌, ma
 use Rattle.std.specs.List.{AllZip}
 use Rattle.std.specs.Prelude.{MatchOption}
 use Rattle.std.proofs.lemmas.Option.{none-some, same_Some}
-use Rattle.esto_catalog.specs.declared.catalogue.Catalogue.{Catalogue}
+use Rattle.esto_mapping.specs.declared.catalogue.Catalogue.{Catalogue}
 use Rattle.esto_chase_laws.specs.declared.clash.Clash.{Clash}
 use Rattle.esto_constraint.specs.Constraints.{rules_of}
 use Rattle.esto_opening.specs.Alike.{AreSameQueries}

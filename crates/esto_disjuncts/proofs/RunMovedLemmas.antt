@@ -1,8 +1,8 @@
 -- What `run` answers to a union over one of two catalogues that say the same it may answer over the other.
 use Rattle.std.proofs.Common.{◌≡◌, ℕ, suc, List, [], ◌∷◌, slice_get, Option, Some, None, refl, sym, ap, ◌∙◌, subst, inl, inr}
 use Rattle.std.proofs.lemmas.Option.{none-some, same_Some}
-use Rattle.esto_catalog.specs.Determined.{AreSame}
-use Rattle.esto_catalog.specs.declared.catalogue.Catalogue.{Catalogue}
+use Rattle.esto_mapping.specs.Catalogues.{AreSame}
+use Rattle.esto_mapping.specs.declared.catalogue.Catalogue.{Catalogue}
 use Rattle.esto_chase_laws.specs.declared.clash.Clash.{Clash}
 use Rattle.esto_course.specs.Course.{Course, and_then, each, gives, judges}
 use Rattle.esto_fragments.proofs.StoreLemmas.{same_fault, same_file, same_named}

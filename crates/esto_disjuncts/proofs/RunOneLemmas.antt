@@ -3,8 +3,8 @@ use Rattle.std.proofs.Common.{◌≡◌, ℕ, List, [], ◌∷◌, length, slice
 use Rattle.std.proofs.lemmas.Option.{none-some, same_Some}
 use Rattle.std.specs.List.{AllZip}
 use Rattle.std.specs.Prelude.{MatchOption}
-use Rattle.esto_catalog.specs.Determined.{AreSame}
-use Rattle.esto_catalog.specs.declared.catalogue.Catalogue.{Catalogue}
+use Rattle.esto_mapping.specs.Catalogues.{AreSame}
+use Rattle.esto_mapping.specs.declared.catalogue.Catalogue.{Catalogue}
 use Rattle.esto_chase_laws.specs.declared.clash.Clash.{Clash}
 use Rattle.esto_course.specs.Course.{judges}
 use Rattle.esto_course.proofs.Determined.{gives_agree, judges_agree, then_agree}

@@ -1,7 +1,7 @@
 -- What the members of a union tell of its queries and of its rewritings.
 use Rattle.std.proofs.Common.{◌≡◌, ◌⊎◌, ◌↔◌, inl, inr, true, false, List, [], ◌∷◌, Contains, refl, subst}
 use Rattle.std.specs.List.{AllZip}
-use Rattle.esto_catalog.specs.declared.catalogue.Catalogue.{Catalogue}
+use Rattle.esto_mapping.specs.declared.catalogue.Catalogue.{Catalogue}
 use Rattle.esto_constraint.specs.Constraints.{rules_of}
 use Rattle.esto_list.specs.Items.{sets_of}
 use Rattle.esto_plan_laws.specs.UnionLaws.{ChoiceExists, ChoiceIsExecutable, EmptyListExcludes, ListedCoverUnions, ReceivingIsUniversal}

@@ -3,8 +3,8 @@ use Rattle.std.proofs.Common.{◌≡◌, ◌<◌, ◌≤◌, ◌+◌, ℕ, List,
 use Rattle.std.proofs.lemmas.List.{append_assoc, append-nil, drop_all}
 use Rattle.std.specs.List.{AllZip}
 use Rattle.esto_term.proofs.PlaceLemmas.{drop-item}
-use Rattle.esto_catalog.specs.declared.catalogue.Catalogue.{Catalogue}
-use Rattle.esto_list.specs.Text.{each_from}
+use Rattle.esto_mapping.specs.declared.catalogue.Catalogue.{Catalogue}
+use Rattle.esto_views.specs.Printing.{each_from}
 use Rattle.esto_disjuncts.specs.List.{IsMemberText, IsUnionText, disjunct_text}
 use Rattle.esto_disjuncts.specs.declared.members.Member.{Member}
 

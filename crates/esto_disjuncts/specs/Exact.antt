@@ -1,7 +1,7 @@
 -- What `list` answers to a union.
 use Rattle.std.specs.Prelude.{◌≡◌, ◌≢◌, ◌↔◌, ⊤, ℕ, IsTrue, List, slice_get, Some, Contains}
 use Rattle.std.specs.List.{AllZip}
-use Rattle.esto_catalog.specs.declared.catalogue.Catalogue.{Catalogue}
+use Rattle.esto_mapping.specs.declared.catalogue.Catalogue.{Catalogue}
 use Rattle.esto_chase_laws.specs.declared.clash.Clash.{Clash}
 use Rattle.esto_constraint.specs.Constraints.{rules_of}
 use Rattle.esto_core.specs.Cored.{IsOnlyCore}

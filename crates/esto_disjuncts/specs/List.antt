@@ -1,10 +1,11 @@
 -- The command `list` over a union.
 use Rattle.std.specs.Prelude.{◌≡◌, ℕ, ◌+◌, List, ◌++◌, codes}
 use Rattle.std.specs.List.{AllZip}
-use Rattle.esto_catalog.specs.declared.catalogue.Catalogue.{Catalogue}
+use Rattle.esto_mapping.specs.declared.catalogue.Catalogue.{Catalogue}
 use Rattle.esto_chase_laws.specs.declared.clash.Clash.{Clash}
 use Rattle.esto_course.specs.Course.{Course, judges, and_then}
-use Rattle.esto_list.specs.Text.{IsListText, count_line, each_from}
+use Rattle.esto_list.specs.Text.{IsListText}
+use Rattle.esto_views.specs.Printing.{count_line, each_from}
 use Rattle.esto_opening.specs.Line.{line_of}
 use Rattle.esto_opening.specs.declared.status.Status.{Status}
 use Rattle.esto_opening.specs.declared.status.Status.TheVariants.{Unsatisfiable}

@@ -1,7 +1,7 @@
 -- The members of a union: its queries with their ends, which are their printed plans with their lists in the union, or clashes.
 use Rattle.std.specs.Prelude.{◌≡◌, Bool, true, false, IsTrue, List, [], slice_get, Some, Contains}
 use Rattle.std.specs.List.{AllZip, list_any}
-use Rattle.esto_catalog.specs.declared.catalogue.Catalogue.{Catalogue}
+use Rattle.esto_mapping.specs.declared.catalogue.Catalogue.{Catalogue}
 use Rattle.esto_chase_laws.specs.declared.clash.Clash.{Clash}
 use Rattle.esto_list.specs.Items.{HaveOrders, HaveWeights, sets_of}
 use Rattle.esto_list.specs.declared.listing.Listed.{Listed}

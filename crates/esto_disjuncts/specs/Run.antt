@@ -1,7 +1,7 @@
 -- The command `run` over a union.
 use Rattle.std.specs.Prelude.{◌≡◌, ℕ, ◌<◌, ◌≤◌, List, [], length, filter, slice_get, Option, Some, None, Contains, MatchOption}
 use Rattle.std.specs.List.{AllZip}
-use Rattle.esto_catalog.specs.declared.catalogue.Catalogue.{Catalogue}
+use Rattle.esto_mapping.specs.declared.catalogue.Catalogue.{Catalogue}
 use Rattle.esto_chase_laws.specs.declared.clash.Clash.{Clash}
 use Rattle.esto_course.specs.Course.{Course, judges, gives, and_then}
 use Rattle.esto_list.specs.declared.listing.Listed.{Listed}

@@ -1,7 +1,7 @@
 -- What laws on runs of unions say.
 use Rattle.std.specs.Prelude.{◌≡◌, ◌↔◌, ℕ, List, map, Option, Some, Contains}
-use Rattle.esto_catalog.specs.Determined.{AreSame}
-use Rattle.esto_catalog.specs.declared.catalogue.Catalogue.{Catalogue}
+use Rattle.esto_mapping.specs.Catalogues.{AreSame}
+use Rattle.esto_mapping.specs.declared.catalogue.Catalogue.{Catalogue}
 use Rattle.esto_constraint.specs.Constraints.{rules_of}
 use Rattle.esto_opening.specs.Alike.{AreSameQueries}
 use Rattle.esto_opening.specs.Calm.{AgreeCalmly, Leads}

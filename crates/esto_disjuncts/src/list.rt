@@ -5,11 +5,11 @@ ghost use Rattle.esto_opening.specs.Unions.{FormUnion};
 ghost use Rattle.esto_opening.specs.Answers.{Answers};
 
 use crate::members::{Member, Members, clash_of, copy_clash, members_of};
-use esto_catalog::Catalogue;
-use esto_list::put_count;
+use esto_mapping::Catalogue;
 use esto_opening::{Status, status_line};
 use esto_query::Query;
 use esto_term::{Bytes, OutOfMemory};
+use esto_views::put_count;
 use std::alloc::Global;
 
 // The text of a member: that of its plan and of its list, or the line of its clash.

@@ -5,9 +5,9 @@ ghost use Rattle.std.specs.List.{list_any};
 ghost use Rattle.esto_disjuncts.specs.Members.{AreMembersOf, ClashAt, HavePlan, IsListIn, IsMemberOf, IsPlannedForOne, has_plan};
 
 use either::{Left, Right};
-use esto_catalog::Catalogue;
 use esto_chase::Clash;
 use esto_list::Listing;
+use esto_mapping::Catalogue;
 use esto_planning::{
     planned_plans_are_universal, planned_plans_have_their_form, printed_plan,
     printed_plans_are_over_fragments,

@@ -12,9 +12,9 @@ ghost use Rattle.esto_opening.specs.Unions.{FormUnion};
 
 use crate::members::{Members, clash_of, members_of};
 use crate::picking::pick_each;
-use esto_catalog::Catalogue;
 use esto_chase::Clash;
 use esto_fragments::open_fragments;
+use esto_mapping::Catalogue;
 use esto_opening::{Reply, Status};
 use esto_planning::planned_plans_have_their_form;
 use esto_ports::Shelf;

@@ -13,3 +13,4 @@ pub mod Layouts
 pub mod Valuations
 pub mod Matching
 pub mod Asking
+pub mod Words

@@ -19,8 +19,8 @@ use Rattle.esto_docs.specs.Rows.{Row, IsRowOf}
 use Rattle.esto_docs.specs.Documents.{document, document_line}
 use Rattle.esto_docs.specs.Plain.{HasTextsOnly, ItemsHaveTextsOnly, IsPlain, IsReadBack}
 use Rattle.esto_docs.specs.Written.{HasWritten}
-use Rattle.esto_docs.specs.declared.layout.Layout.{Layout}
-use Rattle.esto_docs.specs.declared.layout.Layout.TheVariants.{Array, Lines}
+use Rattle.esto_docmodel.specs.declared.file.Layout.{Layout}
+use Rattle.esto_docmodel.specs.declared.file.Layout.TheVariants.{Array, Lines}
 use Rattle.esto_docs.proofs.FeedLemmas.{array_json}
 use Rattle.esto_docs.proofs.JsonLemmas.{json_some}
 use Rattle.esto_docs.proofs.RowLemmas.{HasRows, written_rows}

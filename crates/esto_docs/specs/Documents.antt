@@ -8,8 +8,8 @@ use Rattle.esto_docmodel.specs.Patterns.{Entries, done, holds, group}
 use Rattle.esto_docmodel.specs.declared.pattern.Step.{Step}
 use Rattle.esto_docmodel.specs.declared.pattern.Step.TheVariants.{Name, Item, Below}
 use Rattle.esto_docs.specs.Rows.{Row, text_in}
-use Rattle.esto_docs.specs.declared.layout.Layout.{Layout}
-use Rattle.esto_docs.specs.declared.layout.Layout.TheVariants.{Array, Lines}
+use Rattle.esto_docmodel.specs.declared.file.Layout.{Layout}
+use Rattle.esto_docmodel.specs.declared.file.Layout.TheVariants.{Array, Lines}
 
 -- What the steps of a path write round a value: an object of one field, or an array of one item. No layout has `**`.
 abbrev pub path_data : List Step → Data → Data

@@ -12,8 +12,8 @@ use Rattle.esto_ports.specs.declared.file_fault.FileKind.TheVariants.{BadJson, N
 use Rattle.esto_lines.specs.Faults.{fault_at}
 use Rattle.esto_lines.specs.Lines.{lines_of}
 use Rattle.esto_docs.specs.Trees.{tree_of, trees_of}
-use Rattle.esto_docs.specs.declared.layout.Layout.{Layout}
-use Rattle.esto_docs.specs.declared.layout.Layout.TheVariants.{Array, Lines}
+use Rattle.esto_docmodel.specs.declared.file.Layout.{Layout}
+use Rattle.esto_docmodel.specs.declared.file.Layout.TheVariants.{Array, Lines}
 
 -- The JSON value that bytes are, if they are one.
 unfoldable pub json_of : List ℕ → Option Data

@@ -5,7 +5,7 @@ use Rattle.esto_lines.specs.Faults.{FaultJoins}
 use Rattle.esto_docmodel.specs.Patterns.{Entries}
 use Rattle.esto_docs.specs.Files.{file_trees, trees_fault}
 use Rattle.esto_docs.specs.Rows.{Row, IsRowOf}
-use Rattle.esto_docs.specs.declared.layout.Layout.TheVariants.{Lines}
+use Rattle.esto_docmodel.specs.declared.file.Layout.TheVariants.{Lines}
 
 -- Of a text that ends with a line feed and of another one after it, the documents are those of the one and then those of the other.
 abbrev pub TreesJoin : Type 0

@@ -4,7 +4,7 @@ use Rattle.serde_json.specs.Data.{Data}
 use Rattle.esto_docs.specs.Trees.{tree_of}
 use Rattle.esto_docs.specs.Files.{file_trees, trees_fault}
 use Rattle.esto_docs.specs.Documents.{documents_text}
-use Rattle.esto_docs.specs.declared.layout.Layout.{Layout}
+use Rattle.esto_docmodel.specs.declared.file.Layout.{Layout}
 
 -- The text is that of these documents, and it is read as their trees without a fault.
 pub record HasWritten (layout : Layout) (documents : List Data) (text : List ℕ) : Type 0 where

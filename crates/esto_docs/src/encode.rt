@@ -9,10 +9,9 @@ ghost use Rattle.esto_docs.specs.Files.{json_of, lines_fault, trees_of_lines, ar
 ghost use Rattle.esto_docs.specs.Trees.{tree_of, trees_of};
 
 use crate::from_json::tree_of;
-use crate::layout::Layout;
 use crate::parse::{ParseError, parse};
 use crate::trees::read_line;
-use esto_docmodel::{Encoded, FactSink, Kept, put_document};
+use esto_docmodel::{Encoded, FactSink, Kept, Layout, put_document};
 use esto_lines::{cut_line, fault};
 use esto_ports::{FileError, FileKind};
 use esto_term::{List, OutOfMemory};

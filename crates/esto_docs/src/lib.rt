@@ -8,7 +8,6 @@ mod filling;
 mod from_json;
 mod holding;
 pub mod laws;
-mod layout;
 mod matching;
 mod parse;
 mod rows;
@@ -16,7 +15,7 @@ mod trees;
 mod write;
 
 pub use encode::{encode_file, encode_into};
-pub use layout::Layout;
+pub use esto_docmodel::Layout;
 pub use rows::open_documents;
 pub use trees::read_trees;
 pub use write::write_documents;

@@ -9,9 +9,8 @@ ghost use Rattle.esto_docs.specs.Rows.{Row, IsRowOf, GivesRows, OpensLine};
 ghost use Rattle.esto_docs.specs.Trees.{trees_of};
 
 use crate::filling::put_rows;
-use crate::layout::Layout;
 use crate::parse::{ParseError, is_blank, parse};
-use esto_docmodel::Pattern;
+use esto_docmodel::{Layout, Pattern};
 use esto_lines::{cut_line, fault};
 use esto_ports::{FileError, FileKind};
 use esto_term::{List, OutOfMemory, TextRows};

@@ -5,9 +5,8 @@ ghost use Rattle.esto_docs.specs.Files.{json_of, lines_fault, trees_of_lines, ar
 ghost use Rattle.esto_docs.specs.Parsing.{ParsesTree, ReadsLine, PutsLine};
 
 use crate::from_json::{tree_of, trees_of};
-use crate::layout::Layout;
 use crate::parse::{ParseError, is_blank, parse};
-use esto_docmodel::{Tree, Trees};
+use esto_docmodel::{Layout, Tree, Trees};
 use esto_lines::{cut_line, fault};
 use esto_ports::{FileError, FileKind};
 use esto_term::List;

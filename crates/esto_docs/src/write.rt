@@ -9,11 +9,10 @@ ghost use Rattle.esto_docs.specs.Files.{trees_fault, file_trees};
 ghost use Rattle.esto_docs.specs.Rows.{Row, IsRowOf};
 ghost use Rattle.esto_docs.specs.Plain.{IsPlain, IsReadBack};
 ghost use Rattle.esto_docs.specs.Written.{HasWritten};
-ghost use Rattle.esto_docs.specs.declared.layout.Layout.TheVariants as layouts;
+ghost use Rattle.esto_docmodel.specs.declared.file.Layout.TheVariants as layouts;
 
 use crate::document::document_of;
-use crate::layout::Layout;
-use esto_docmodel::Pattern;
+use esto_docmodel::{Layout, Pattern};
 use esto_lines::laws::lines_begin_anew;
 use esto_term::{Bytes, OutOfMemory, Text, TextRows};
 use serde_json::Value;

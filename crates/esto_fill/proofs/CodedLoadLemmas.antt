@@ -5,8 +5,8 @@ use Rattle.std.specs.Prelude.{OnOk, Result, Ok, Err, codes}
 use Rattle.std.proofs.lemmas.Bool.{false≢true}
 use Rattle.std.proofs.lemmas.List.Elements.{Contains-append_cases, Contains-append_left, Contains-append_right}
 use Rattle.std.proofs.lemmas.Option.{same_Some}
-use Rattle.esto_catalog.specs.Datasets.{StandFrom, model_relations, part, relations_of}
-use Rattle.esto_catalog.specs.declared.dataset.Dataset.{Dataset}
+use Rattle.esto_mapping.specs.Datasets.{StandFrom, model_relations, part, relations_of}
+use Rattle.esto_mapping.specs.declared.dataset.Dataset.{Dataset}
 use Rattle.esto_coded.specs.Coded.{Coded, HasPlace, StandFor, arities_of}
 use Rattle.esto_columns.specs.Interned.{AreCodedRows}
 use Rattle.esto_docmodel.specs.DocumentFacts.{DocFact, root, field, item, value, below, flat}
@@ -20,8 +20,8 @@ use Rattle.esto_docs.specs.Files.{file_trees, trees_fault}
 use Rattle.esto_ports.specs.declared.file_fault.FileError.{FileError}
 use Rattle.esto_ports.specs.declared.file_fault.FileError.TheVariants as content
 use Rattle.esto_query.specs.declared.schema.Relation.{Relation}
-use Rattle.esto_read.specs.declared.words.DataModel.{DataModel}
-use Rattle.esto_read.specs.declared.words.DataModel.TheVariants.{Table, Documents, Keys}
+use Rattle.esto_docmodel.specs.declared.words.DataModel.{DataModel}
+use Rattle.esto_docmodel.specs.declared.words.DataModel.TheVariants.{Table, Documents, Keys}
 use Rattle.esto_relmodel.specs.Once.{AreEachOnce}
 use Rattle.esto_relmodel.specs.RowFacts.{AreRowFacts, row_fact}
 use Rattle.esto_semantics.specs.declared.fact.Fact.{Fact}
@@ -38,7 +38,7 @@ use Rattle.esto_fill.specs.declared.coded_data.CodedData.{CodedData}
 use Rattle.esto_fill.specs.declared.datasets.DatasetBytes.{DatasetBytes}
 use Rattle.esto_fill.specs.declared.wanted.Wanted.{Wanted}
 use Rattle.esto_fill.proofs.FileLemmas.{append_flat, documents_give, keys_give, load_more, table_gives}
-use Rattle.esto_fill.proofs.OnceLemmas.{rows_once}
+use Rattle.esto_relmodel.proofs.OnceLemmas.{rows_once}
 use Rattle.esto_fill.proofs.ValueLemmas.{flat_kept}
 use Rattle.esto_fill.proofs.WantedLemmas.{leaves_none}
 

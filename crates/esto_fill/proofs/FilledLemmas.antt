@@ -5,15 +5,15 @@ use Rattle.std.specs.Prelude.{All, IfSome, Ok, Err, drop, nat_eq}
 use Rattle.std.specs.List.{starts_with}
 use Rattle.std.proofs.lemmas.List.{length-map}
 use Rattle.std.proofs.lemmas.List.Elements.{Contains-get_or}
-use Rattle.esto_catalog.specs.declared.catalogue.Shape.{Shape}
-use Rattle.esto_catalog.specs.declared.catalogue.Shape.TheVariants.{Table, Documents, Keys}
+use Rattle.esto_mapping.specs.declared.catalogue.Shape.{Shape}
+use Rattle.esto_mapping.specs.declared.catalogue.Shape.TheVariants.{Table, Documents, Keys}
 use Rattle.esto_ports.specs.declared.mark.TheConstants.{MARK}
 use Rattle.esto_docmodel.specs.Layouts.{IsLayout}
 use Rattle.esto_docmodel.specs.Shapes.{entries_of}
 use Rattle.esto_docmodel.specs.declared.pattern.Pattern.{Pattern}
 use Rattle.esto_docs.specs.Files.{file_trees, trees_fault}
 use Rattle.esto_docs.specs.Rows.{IsRowOf}
-use Rattle.esto_docs.specs.declared.layout.Layout.{Layout}
+use Rattle.esto_docmodel.specs.declared.file.Layout.{Layout}
 use Rattle.esto_run.proofs.StoreLemmas.{documents_give}
 use Rattle.esto_semantics.specs.Facts.{Database}
 use Rattle.esto_semantics.specs.Queries.{ConjunctiveQuery, IsAnswer}

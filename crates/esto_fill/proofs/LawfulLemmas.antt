@@ -3,15 +3,15 @@ use Rattle.std.proofs.Common.{◌≡◌, ◌≢◌, inl, inr, ℕ, ◌+◌, ◌-
 use Rattle.std.proofs.lemmas.Bool.{cases_order}
 use Rattle.std.proofs.lemmas.List.Elements.{Contains-append_cases, Contains-append_left, Contains-append_right}
 use Rattle.std.proofs.lemmas.Option.{same_Some}
-use Rattle.esto_catalog.specs.Datasets.{relation_count}
-use Rattle.esto_catalog.specs.declared.dataset.Dataset.{Dataset}
+use Rattle.esto_mapping.specs.Datasets.{relation_count}
+use Rattle.esto_mapping.specs.declared.dataset.Dataset.{Dataset}
 use Rattle.esto_semantics.specs.DocumentRules.{atom, document_rules_2}
 use Rattle.esto_semantics.specs.Rules.{AreMet, IsMet}
 use Rattle.esto_docmodel.proofs.FactLemmas.{facts_meet_rules, these_meet_rules}
 use Rattle.esto_docmodel.specs.Forests.{none as no_forest}
 use Rattle.esto_docmodel.specs.Shapes.{documents}
 use Rattle.esto_docs.specs.Files.{file_trees}
-use Rattle.esto_read.specs.declared.words.DataModel.{DataModel}
+use Rattle.esto_docmodel.specs.declared.words.DataModel.{DataModel}
 use Rattle.esto_semantics.specs.Facts.{image}
 use Rattle.esto_semantics.specs.Rules.{Rule, tuple, equality, denial}
 use Rattle.esto_semantics.specs.declared.fact.Fact.{Fact}

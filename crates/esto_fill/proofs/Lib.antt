@@ -15,7 +15,6 @@ pub mod MovedLemmas
 pub mod LawfulLemmas
 pub mod TriedLemmas
 pub mod TrialLemmas
-pub mod OnceLemmas
 pub mod CodedRowLemmas
 pub mod CodedViewLemmas
 pub mod CodedAuditLemmas

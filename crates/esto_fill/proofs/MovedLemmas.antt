@@ -5,14 +5,14 @@ use Rattle.std.proofs.lemmas.Bool.Decides.{nat_tests}
 use Rattle.std.proofs.lemmas.List.{map-append}
 use Rattle.std.proofs.lemmas.List.Elements.{Contains-append_cases, Contains-append_left, Contains-append_right}
 use Rattle.std.proofs.lemmas.Option.{same_Some}
-use Rattle.esto_catalog.specs.Datasets.{relation_count}
-use Rattle.esto_catalog.specs.declared.dataset.Dataset.{Dataset}
+use Rattle.esto_mapping.specs.Datasets.{relation_count}
+use Rattle.esto_mapping.specs.declared.dataset.Dataset.{Dataset}
 use Rattle.esto_docmodel.specs.DocumentFacts.{DocFact, root, field, item, value, below, carried, kind, flat}
 use Rattle.esto_docmodel.specs.Encodings.{size, entering, belows, holding, facts_from, facts_of}
 use Rattle.esto_docmodel.specs.Forests.{Label, name, place, Forest, none, kid}
 use Rattle.esto_docmodel.specs.Shapes.{documents}
 use Rattle.esto_docs.specs.Files.{file_trees}
-use Rattle.esto_read.specs.declared.words.DataModel.{DataModel}
+use Rattle.esto_docmodel.specs.declared.words.DataModel.{DataModel}
 use Rattle.esto_relmodel.specs.RowFacts.{row_fact, AreRowFacts}
 use Rattle.esto_semantics.specs.Facts.{image}
 use Rattle.esto_semantics.specs.Queries.{ConjunctiveQuery, IsAnswer}

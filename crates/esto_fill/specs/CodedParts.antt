@@ -1,7 +1,7 @@
 -- For private clauses: what is put into rows of codes, and rows of codes that answer queries.
 use Rattle.std.specs.Prelude.{◌≡◌, ◌↔◌, ◌⊎◌, ℕ, ◌+◌, ◌≤◌, List, ◌++◌, map, length, slice_get, Contains, Option, Some, None, Result, Ok, Err}
-use Rattle.esto_catalog.specs.Datasets.{relations_of}
-use Rattle.esto_catalog.specs.declared.dataset.Dataset.{Dataset}
+use Rattle.esto_mapping.specs.Datasets.{relations_of}
+use Rattle.esto_mapping.specs.declared.dataset.Dataset.{Dataset}
 use Rattle.esto_coded.specs.Coded.{AreCodesOf, HasPlace, StandFor, Coded, arities_of, rows_in}
 use Rattle.esto_coded.specs.Shown.{HasNodeAt, LeastNode}
 use Rattle.esto_coded.specs.declared.coded.TheConstants.{FIRST_NODE}
@@ -17,7 +17,7 @@ use Rattle.esto_ports.specs.declared.file_fault.FileFault.{FileFault}
 use Rattle.esto_ports.specs.declared.file_fault.FileError.{FileError}
 use Rattle.esto_ports.specs.declared.file_fault.FileError.TheVariants as content
 use Rattle.esto_query.specs.declared.schema.Relation.{Relation}
-use Rattle.esto_read.specs.declared.words.DataModel.{DataModel}
+use Rattle.esto_docmodel.specs.declared.words.DataModel.{DataModel}
 use Rattle.esto_relmodel.specs.RowFacts.{row_fact}
 use Rattle.esto_run.specs.Answers.{AreRising}
 use Rattle.esto_semantics.specs.Queries.{ConjunctiveQuery}

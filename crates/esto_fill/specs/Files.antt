@@ -1,7 +1,7 @@
 -- The facts of datasets' files, or the first fault of one.
 use Rattle.std.specs.Prelude.{◌≡◌, ◌≢◌, ℕ, ◌+◌, ◌<◌, List, [], ◌∷◌, ◌++◌, slice_get, AllPairs, Contains, Option, Some, None, Result, Ok, Err}
-use Rattle.esto_catalog.specs.Datasets.{relation_count}
-use Rattle.esto_catalog.specs.declared.dataset.Dataset.{Dataset}
+use Rattle.esto_mapping.specs.Datasets.{relation_count}
+use Rattle.esto_mapping.specs.declared.dataset.Dataset.{Dataset}
 use Rattle.esto_docmodel.specs.Encodings.{facts_of, size}
 use Rattle.esto_docmodel.specs.Rising.{AreRising}
 use Rattle.esto_docmodel.specs.declared.encode.Encoded.{Encoded}
@@ -10,8 +10,8 @@ use Rattle.esto_docs.specs.Files.{file_trees, trees_fault}
 use Rattle.esto_ports.specs.declared.file_fault.FileError.{FileError}
 use Rattle.esto_ports.specs.declared.file_fault.FileError.TheVariants as content
 use Rattle.esto_ports.specs.declared.file_fault.FileFault.{FileFault}
-use Rattle.esto_read.specs.declared.words.DataModel.{DataModel}
-use Rattle.esto_read.specs.declared.words.DataModel.TheVariants.{Table, Documents, Keys}
+use Rattle.esto_docmodel.specs.declared.words.DataModel.{DataModel}
+use Rattle.esto_docmodel.specs.declared.words.DataModel.TheVariants.{Table, Documents, Keys}
 use Rattle.esto_relmodel.specs.RowFacts.{AreRowFacts}
 use Rattle.esto_semantics.specs.Maps.{AreFlat}
 use Rattle.esto_semantics.specs.declared.fact.Fact.{Fact}

@@ -1,9 +1,9 @@
 -- Rules that the facts of documents meet by law.
 use Rattle.std.specs.Prelude.{◌≡◌, ℕ, ◌+◌, ◌<◌, ◌≤◌, List, Some, slice_get, Contains}
-use Rattle.esto_catalog.specs.Datasets.{relation_count}
-use Rattle.esto_catalog.specs.declared.dataset.Dataset.{Dataset}
+use Rattle.esto_mapping.specs.Datasets.{relation_count}
+use Rattle.esto_mapping.specs.declared.dataset.Dataset.{Dataset}
 use Rattle.esto_semantics.specs.DocumentRules.{document_rules_2}
-use Rattle.esto_read.specs.declared.words.DataModel.TheVariants.{Documents}
+use Rattle.esto_docmodel.specs.declared.words.DataModel.TheVariants.{Documents}
 use Rattle.esto_semantics.specs.Rules.{Rule}
 use Rattle.esto_fill.specs.Files.{HasRelation}
 

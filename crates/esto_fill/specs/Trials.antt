@@ -1,6 +1,6 @@
 -- What an audit tries, and the facts on which that rests.
 use Rattle.std.specs.Prelude.{◌≡◌, List, [], ◌∷◌, Contains}
-use Rattle.esto_catalog.specs.declared.catalogue.Catalogue.{Catalogue}
+use Rattle.esto_mapping.specs.declared.catalogue.Catalogue.{Catalogue}
 use Rattle.esto_constraint.specs.Constraints.{rules_of}
 use Rattle.esto_semantics.specs.Rules.{AreMet}
 use Rattle.esto_semantics.specs.Maps.{AreFlat}

@@ -4,8 +4,8 @@ ghost use Rattle.esto_query.specs.Schemas.{arities_of};
 ghost use Rattle.esto_fill.specs.Coding.{IsCodedFrom, IsOver};
 ghost use Rattle.esto_fill.specs.declared.wanted.Wanted.{Wanted};
 
-use esto_catalog::Catalogue;
 use esto_coded::CodedFacts;
+use esto_mapping::Catalogue;
 use esto_query::Schema;
 use esto_term::{OutOfMemory, Places, Values};
 use std::alloc::Global;

@@ -1,14 +1,14 @@
 //! Files of documents whose facts are put into rows of codes, one by one.
 ghost use Rattle.std.specs.Prelude.{◌≡◌};
 ghost use Rattle.esto_docs.specs.Files.{file_trees, trees_fault};
-ghost use Rattle.esto_read.specs.declared.words.DataModel.{DataModel};
+ghost use Rattle.esto_docmodel.specs.declared.words.DataModel.{DataModel};
 ghost use Rattle.esto_fill.specs.CodedParts.{HasPlaces, HasRelations, PutsFile, PutsTrees};
 
 use crate::coded_data::CodedData;
 use crate::wanted::{Wanted, kept_for};
-use esto_catalog::Dataset;
-use esto_docmodel::Kept;
-use esto_docs::{Layout, encode_into};
+use esto_docmodel::{Kept, Layout};
+use esto_docs::encode_into;
+use esto_mapping::Dataset;
 use esto_ports::FileError;
 use std::alloc::Global;
 

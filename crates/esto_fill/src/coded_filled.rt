@@ -12,7 +12,7 @@ ghost use Rattle.esto_ports.specs.Marks.{without_mark};
 use crate::coded_answering::answer_coded;
 use crate::coded_data::CodedData;
 use crate::filled::{FillError, marked, text_of};
-use esto_catalog::{Catalogue, catalogues_are_sound};
+use esto_mapping::{Catalogue, catalogues_are_sound};
 use esto_term::Bytes;
 use std::alloc::Global;
 

@@ -1,6 +1,6 @@
 //! Files of datasets that are put into rows of codes.
 ghost use Rattle.std.specs.Prelude.{◌≡◌, ◌<◌, [], ◌∷◌, ◌++◌, List, length, slice_get, IfSome, OnOk};
-ghost use Rattle.esto_read.specs.declared.words.DataModel.{DataModel};
+ghost use Rattle.esto_docmodel.specs.declared.words.DataModel.{DataModel};
 ghost use Rattle.esto_stores.specs.Keys.{key_fault, key_rows};
 ghost use Rattle.esto_stores.specs.Table.{table_fault, table_rows};
 ghost use Rattle.esto_fill.specs.CodedParts.{HasRelations, PutsFile, PutsRead};
@@ -12,9 +12,9 @@ use crate::coded_data::CodedData;
 use crate::coded_documents::put_documents;
 use crate::datasets::KEY_CELLS;
 use crate::wanted::Wanted;
-use esto_catalog::{Catalogue, Dataset, catalogues_are_sound};
+use esto_docmodel::DataModel;
+use esto_mapping::{Catalogue, Dataset, catalogues_are_sound};
 use esto_ports::FileError;
-use esto_read::DataModel;
 use esto_stores::{open_keys, open_table};
 use esto_term::Bytes;
 use std::alloc::Global;

@@ -1,6 +1,6 @@
 //! The rows of fragments' files, put as rows of codes.
 ghost use Rattle.std.specs.Prelude.{◌≡◌, ◌++◌, ◌∷◌, [], List, length, Contains, OnOk};
-ghost use Rattle.esto_catalog.specs.Soundness.{IsShapeFor};
+ghost use Rattle.esto_mapping.specs.Soundness.{IsShapeFor};
 ghost use Rattle.esto_columns.specs.Interned.{Grows};
 ghost use Rattle.esto_run.specs.Stores.{IsRowIn, first_fault_in};
 ghost use Rattle.esto_stores.specs.Keys.{key_fault, key_rows};
@@ -11,7 +11,7 @@ ghost use Rattle.esto_fill.specs.declared.loaded.Loaded.{Loaded};
 
 use crate::coded_audit::CodedRowsList;
 use crate::coded_data::CodedData;
-use esto_catalog::{Shape, Store};
+use esto_mapping::{Shape, Store};
 use esto_ports::FileError;
 use esto_run::open_store;
 use esto_term::{OutOfMemory, TextRow, TextRows};

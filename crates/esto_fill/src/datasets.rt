@@ -1,17 +1,16 @@
 //! The facts of datasets' files.
 ghost use Rattle.std.specs.Prelude.{◌≡◌, [], ◌∷◌, ◌++◌, ◌<◌, List, All, length, slice_get, IfOk, IfSome};
-ghost use Rattle.esto_read.specs.declared.words.DataModel.{DataModel};
+ghost use Rattle.esto_docmodel.specs.declared.words.DataModel.{DataModel};
 ghost use Rattle.esto_fill.specs.Files.{AddsFile, GivesFacts, dataset_fault, FindsFault, IsLoadedFrom, LoadsFacts};
 ghost use Rattle.esto_fill.specs.declared.datasets.DatasetBytes.{DatasetBytes};
 ghost use Rattle.esto_fill.specs.declared.datasets.LoadError.TheVariants as load;
 
 use crate::loaded::{Loaded, nothing_loaded};
 use crate::wanted::{Wanted, if_wanted, kept_for};
-use esto_catalog::{Catalogue, Dataset};
-use esto_docmodel::Encoded;
+use esto_docmodel::{DataModel, Encoded};
 use esto_docs::encode_file;
+use esto_mapping::{Catalogue, Dataset};
 use esto_ports::{FileError, FileFault};
-use esto_read::DataModel;
 use esto_relmodel::facts_of_rows;
 use esto_semantics::Facts;
 use esto_stores::{open_keys, open_table};

@@ -1,7 +1,7 @@
 //! A fragment's file, filled with the rows of its view.
 ghost use Rattle.std.specs.Prelude.{◌≡◌, ◌<◌, All, length, slice_get, IfOk, IfSome};
-ghost use Rattle.esto_catalog.specs.Soundness.{IsShapeFor};
-ghost use Rattle.esto_catalog.specs.declared.catalogue.Shape.TheVariants as shapes;
+ghost use Rattle.esto_mapping.specs.Soundness.{IsShapeFor};
+ghost use Rattle.esto_mapping.specs.declared.catalogue.Shape.TheVariants as shapes;
 ghost use Rattle.esto_query.specs.Making.{query_of};
 ghost use Rattle.esto_semantics.specs.Queries.{IsAnswer};
 ghost use Rattle.esto_fill.specs.Databases.{database_of};
@@ -13,9 +13,9 @@ ghost use Rattle.esto_fill.specs.declared.filled.FillError.TheVariants as filled
 use crate::answering::answer;
 use crate::loaded::Loaded;
 use crate::rows::AnswerError;
-use esto_catalog::{Catalogue, Shape, catalogues_are_sound};
 use esto_docs::write_documents;
 use esto_keymodel::key_row_fault;
+use esto_mapping::{Catalogue, Shape, catalogues_are_sound};
 use esto_ports::MARK;
 use esto_query::{Query, queries_are_sound};
 use esto_stores::{write_keys, write_table};

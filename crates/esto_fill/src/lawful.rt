@@ -1,12 +1,12 @@
 //! The rules that the facts of documents meet by law.
 ghost use Rattle.std.specs.Prelude.{◌≡◌, IsTrue, Some, slice_get, IfOk, OnOk};
 ghost use Rattle.esto_constraint.specs.Constraints.{rules_of};
-ghost use Rattle.esto_read.specs.declared.words.DataModel.TheVariants as models;
+ghost use Rattle.esto_docmodel.specs.declared.words.DataModel.TheVariants as models;
 ghost use Rattle.esto_fill.specs.Lawful.{AreLaws, HaveNoneInCommon, IsAlone, KeepLaws};
 
-use esto_catalog::{Dataset, relation_count};
 use esto_constraint::{Rules, document_rules_2};
-use esto_read::DataModel;
+use esto_docmodel::DataModel;
+use esto_mapping::{Dataset, relation_count};
 use esto_term::{List, OutOfMemory};
 use std::alloc::Global;
 

@@ -7,8 +7,8 @@ ghost use Rattle.esto_fill.specs.Trials.{AddsTried, IsTrialOf, IsWantedBut, part
 use crate::lawful::laws_of;
 use crate::tried::is_law;
 use crate::wanted::Wanted;
-use esto_catalog::Catalogue;
 use esto_constraint::{Constraint, Rules};
+use esto_mapping::Catalogue;
 use esto_semantics::Atoms;
 use esto_term::{List, OutOfMemory, Replicate};
 use esto_views::FragmentDef;

@@ -10,7 +10,7 @@ use crate::laws::{facts_stand_as_databases, loaded_facts_are_flat};
 use crate::loaded::Loaded;
 use crate::nodes::{are_free, node_columns};
 use crate::rows::{AnswerError, least_open, node_at};
-use esto_catalog::Catalogue;
+use esto_mapping::Catalogue;
 use esto_query::{Columns, IndexedFacts, Query, queries_are_sound};
 use esto_semantics::databases_stand_for_facts;
 use esto_term::OutOfMemory;

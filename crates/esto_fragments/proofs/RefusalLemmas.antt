@@ -1,6 +1,6 @@
 -- No course that opens files of fragments stops with Done.
 use Rattle.std.proofs.Common.{◌≡◌, ℕ, List, Some, sym, ◌∙◌}
-use Rattle.esto_catalog.specs.declared.catalogue.Catalogue.{Catalogue}
+use Rattle.esto_mapping.specs.declared.catalogue.Catalogue.{Catalogue}
 use Rattle.esto_ports.specs.Files.{Files}
 use Rattle.esto_fragments.specs.Fragments.{opens_fragment, opens_fragments, opens_next, no_contents, with_content}
 use Rattle.esto_opening.specs.declared.opening.TheConstants.{DATA_LIMIT}

@@ -1,8 +1,8 @@
 -- Over catalogues that say the same, the files of fragments have the same contents, which have the same rows or the same first fault.
 use Rattle.std.specs.Prelude.{◌≡◌, ◌↔◌, ℕ, List, map, Some}
-use Rattle.esto_catalog.specs.Determined.{AreSame, stored_as}
-use Rattle.esto_catalog.specs.declared.catalogue.Catalogue.{Catalogue}
-use Rattle.esto_catalog.specs.declared.catalogue.Store.{Store}
+use Rattle.esto_mapping.specs.Catalogues.{AreSame, stored_as}
+use Rattle.esto_mapping.specs.declared.catalogue.Catalogue.{Catalogue}
+use Rattle.esto_mapping.specs.declared.catalogue.Store.{Store}
 use Rattle.esto_ports.specs.Files.{Files}
 use Rattle.esto_run.specs.Stores.{IsFileRow, first_fault_in}
 use Rattle.esto_semantics.specs.declared.fact.Fact.{Fact}

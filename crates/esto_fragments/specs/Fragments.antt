@@ -1,7 +1,7 @@
 -- The files of the fragments that a set uses, as steps: each is fetched, and its content read, before the next is fetched.
 use Rattle.std.specs.Prelude.{◌≡◌, ℕ, ◌==◌, if◌then◌else◌, List, [], ◌∷◌, ◌++◌, length, slice_get, Option, Some, None, Result, Ok, Err}
-use Rattle.esto_catalog.specs.declared.catalogue.Catalogue.{Catalogue}
-use Rattle.esto_catalog.specs.declared.catalogue.Store.{Store}
+use Rattle.esto_mapping.specs.declared.catalogue.Catalogue.{Catalogue}
+use Rattle.esto_mapping.specs.declared.catalogue.Store.{Store}
 use Rattle.esto_course.specs.Course.{Course, Names, Stops, judges, gives, and_then, each}
 use Rattle.esto_ports.specs.Files.{Files}
 use Rattle.esto_ports.specs.declared.file_fault.FileFault.{FileFault}

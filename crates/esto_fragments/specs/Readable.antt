@@ -1,7 +1,7 @@
 -- The files of fragments that are readable are those that are opened.
 use Rattle.std.specs.Prelude.{◌≡◌, ℕ, List, Contains, Some}
-use Rattle.esto_catalog.specs.Determined.{AreSame}
-use Rattle.esto_catalog.specs.declared.catalogue.Catalogue.{Catalogue}
+use Rattle.esto_mapping.specs.Catalogues.{AreSame}
+use Rattle.esto_mapping.specs.declared.catalogue.Catalogue.{Catalogue}
 use Rattle.esto_ports.specs.Files.{Files}
 use Rattle.esto_ports.specs.declared.file_fault.FileFault.{FileFault}
 use Rattle.esto_opening.specs.Calm.{Leads}

@@ -4,7 +4,7 @@ ghost use Rattle.esto_ports.specs.Faults.{Rises};
 ghost use Rattle.esto_run.specs.Opened.{AreRowsFor, rows_held};
 ghost use Rattle.esto_fragments.specs.Fragments.{Stored, IsStoredAt, OpensAll, OpensNext, Reads};
 
-use esto_catalog::{Catalogue, catalogues_are_sound};
+use esto_mapping::{Catalogue, catalogues_are_sound};
 use esto_opening::{DATA_LIMIT, Status, fetch};
 use esto_ports::{FileError, Shelf};
 use esto_run::{FragmentRows, no_rows, open_fragment};

@@ -25,7 +25,8 @@ use Rattle.esto_catalog.proofs.DatasetLemmas.{read_all}
 use Rattle.esto_catalog.proofs.SchemaLemmas.{scope_is}
 use Rattle.esto_catalog.proofs.WalkLemmas.{rules_within, ranks_as, cycle_as, sound_catalogue, found_ranked}
 use Rattle.esto_catalog.proofs.WholeLemmas.{datasets_few}
-use Rattle.esto_catalog.specs.Datasets.{AreDatasets, schema_of, words_of}
+use Rattle.esto_catalog.specs.Datasets.{AreDatasets}
+use Rattle.esto_mapping.specs.Datasets.{schema_of, words_of}
 use Rattle.esto_catalog.specs.Reading.{IsRankedOf, IsCycleOf, is_ranked, reads_fragments_and_rules, IsMadeOf, makes_catalogue, reads_sections}
 use Rattle.esto_catalog.specs.Reading.{reads_catalogue, IsCatalogueOf, IsCatalogueError}
 use Rattle.esto_catalog.specs.Rows.{fault_at, top}
@@ -33,8 +34,8 @@ use Rattle.esto_catalog.specs.Rules.{all_rules}
 use Rattle.esto_catalog.specs.Scope.{IsScope}
 use Rattle.esto_catalog.specs.Soundness.{AreSoundFragments, AreSoundRules}
 use Rattle.esto_catalog.specs.Whole.{top_keys, number_of, reads_toml, reads_version, reads_core, fits_section, reads_top, tables_of, sections_of, reads_whole}
-use Rattle.esto_catalog.specs.declared.catalogue.Catalogue.{Catalogue}
-use Rattle.esto_catalog.specs.declared.dataset.Dataset.{Dataset}
+use Rattle.esto_mapping.specs.declared.catalogue.Catalogue.{Catalogue}
+use Rattle.esto_mapping.specs.declared.dataset.Dataset.{Dataset}
 use Rattle.esto_catalog.specs.declared.fault.CatalogueError.{CatalogueError}
 use Rattle.esto_catalog.specs.declared.fault.CatalogueError.TheVariants.{Fault, NotAcyclic, OutOfMemory}
 use Rattle.esto_catalog.specs.declared.fault.CatalogueKind.TheVariants.{Toml, Version as NoVersion, WrongType, TooMany}
@@ -51,7 +52,7 @@ use Rattle.esto_input_laws.proofs.EncodingLemmas.{with_encodings}
 use Rattle.esto_input_laws.proofs.GraphLemmas.{ranks_or_cycle, cycle_names}
 use Rattle.esto_input_laws.proofs.PartLemmas.{fragments_end, rules_end}
 use Rattle.esto_input_laws.proofs.RowLemmas.{keys_known, datasets_end}
-use Rattle.esto_reading_laws.proofs.DecisionLemmas.{at_most}
+use Rattle.esto_term.proofs.DecisionLemmas.{at_most}
 
 -- ---- the whole file
 

@@ -1,11 +1,9 @@
 -- The files of datasets have facts, or one of them is the first that has a fault.
-use Rattle.std.proofs.Common.{◌≡◌, ◌⊎◌, ℕ, zero, suc, ◌+◌, ◌<◌, true, false, inl, inr, List, [], ◌∷◌, ◌++◌, length, map, Option, Some, None, refl, sym}
-use Rattle.std.proofs.Common.{subst, ◌∙◌, append_assoc, arith}
+use Rattle.std.proofs.Common.{◌≡◌, ◌⊎◌, ℕ, zero, suc, ◌+◌, ◌<◌, inl, inr, List, [], ◌∷◌, ◌++◌, length, map, Option, Some, None, refl, sym, subst, ◌∙◌, arith}
 use Rattle.std.specs.Prelude.{All, Contains, slice_get, Ok, Err}
 use Rattle.std.specs.List.{AllByRecursion}
-use Rattle.std.proofs.lemmas.List.{append-nil}
 use Rattle.std.proofs.lemmas.List.Elements.{recursion_from_All}
-use Rattle.esto_catalog.specs.declared.dataset.Dataset.{Dataset}
+use Rattle.esto_mapping.specs.declared.dataset.Dataset.{Dataset}
 use Rattle.esto_docmodel.specs.Encodings.{facts_of}
 use Rattle.esto_docmodel.specs.Shapes.{documents}
 use Rattle.esto_docs.specs.Files.{file_trees}
@@ -15,41 +13,20 @@ use Rattle.esto_fill.specs.declared.datasets.DatasetBytes.{DatasetBytes}
 use Rattle.esto_fill.specs.declared.datasets.LoadError.TheVariants.{Fault}
 use Rattle.esto_fill.specs.declared.loaded.Loaded.{Loaded}
 use Rattle.esto_ports.specs.declared.file_fault.FileFault.{FileFault}
-use Rattle.esto_read.specs.declared.words.DataModel.{DataModel}
-use Rattle.esto_read.specs.declared.words.DataModel.TheVariants.{Table, Documents, Keys}
-use Rattle.esto_relmodel.proofs.OnceLemmas as once
-use Rattle.esto_relmodel.specs.Once.{AreEachOnce}
+use Rattle.esto_docmodel.specs.declared.words.DataModel.{DataModel}
+use Rattle.esto_docmodel.specs.declared.words.DataModel.TheVariants.{Table, Documents, Keys}
+use Rattle.esto_relmodel.proofs.OnceLemmas.{rows_once}
 use Rattle.esto_relmodel.specs.RowFacts.{row_fact, AreRowFacts}
 use Rattle.esto_semantics.specs.Maps.{AreFlat}
 use Rattle.esto_semantics.specs.declared.fact.Fact.{Fact}
 use Rattle.esto_stores.specs.Keys.{key_rows}
 use Rattle.esto_stores.specs.Table.{table_rows}
-use Rattle.esto_term.proofs.ChoiceLemmas.{Decided}
 use Rattle.esto_term.proofs.ListLemmas.{thing_at}
 use Rattle.esto_term.specs.declared.term.Term.{Term}
-use Rattle.esto_reading_laws.proofs.DecisionLemmas.{same_bytes, same_list, contains}
-
--- ---- each thing once
-
-module _ {A : Type 0} (same : (thing other : A) → Decided (thing ≡ other)) where
-  once_from : (seen rest kept : List A) → AreEachOnce seen kept → (all : List A) × AreEachOnce (seen ++ rest) all
-  once_from seen [] kept are = (kept, subst (λ (things : List A). AreEachOnce things kept) (sym (append-nil seen)) are)
-  once_from seen (thing ∷ rest) kept are =
-      let (next, more) = add (contains same kept thing) in
-      let (all, is) = once_from (seen ++ thing ∷ []) rest next more in
-      (all, subst (λ (things : List A). AreEachOnce things all) (append_assoc seen (thing ∷ []) rest) is)
-    where
-      add : Decided (Contains kept thing) → (next : List A) × AreEachOnce (seen ++ thing ∷ []) next
-      add (inl there) = (kept, once.one_more false kept kept thing (there, refl) seen are)
-      add (inr new) = (kept ++ thing ∷ [], once.one_more true kept (kept ++ thing ∷ []) thing (new, refl) seen are)
-
-  -- the things of a list, each once, in order of first occurrence
-  pub each_once : (things : List A) → (kept : List A) × AreEachOnce things kept
-  each_once things = once_from [] things [] once.start
 
 row_facts : (relation : ℕ) (rows : List (List (List ℕ))) → (facts : List (Fact Term)) × AreRowFacts relation rows facts
 row_facts relation rows =
-    let (kept, are) = each_once (same_list same_bytes) rows in (map (row_fact relation) kept, (kept, are, refl))
+    let (kept, are) = rows_once rows in (map (row_fact relation) kept, (kept, are, refl))
 
 -- ---- one file
 

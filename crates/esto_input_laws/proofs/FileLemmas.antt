@@ -18,9 +18,9 @@ use Rattle.esto_docmodel.specs.Shapes.{shape}
 use Rattle.esto_docmodel.specs.declared.pattern.Step.{Step}
 use Rattle.esto_docmodel.specs.declared.pattern.Step.TheVariants as step
 use Rattle.esto_docmodel.specs.declared.tree.Tree.{Tree}
-use Rattle.esto_catalog.specs.Soundness.{IsShapeFor}
-use Rattle.esto_catalog.specs.declared.catalogue.Shape.{Shape}
-use Rattle.esto_catalog.specs.declared.catalogue.Shape.TheVariants.{Table, Documents, Keys}
+use Rattle.esto_mapping.specs.Soundness.{IsShapeFor}
+use Rattle.esto_mapping.specs.declared.catalogue.Shape.{Shape}
+use Rattle.esto_mapping.specs.declared.catalogue.Shape.TheVariants.{Table, Documents, Keys}
 use Rattle.esto_docmodel.specs.Shapes.{entries_of}
 use Rattle.esto_docs.specs.Files.{file_trees, trees_fault}
 use Rattle.esto_query.specs.declared.query.Query.{Query}
@@ -34,7 +34,7 @@ use Rattle.esto_lines.specs.Faults.{Gives}
 use Rattle.esto_ports.specs.declared.file_fault.FileError.TheVariants.{Fault}
 use Rattle.esto_ports.specs.declared.file_fault.FileFault.{FileFault}
 use Rattle.esto_reading_laws.specs.Totality.{HasOneOf}
-use Rattle.esto_reading_laws.proofs.DecisionLemmas.{same_bytes}
+use Rattle.esto_term.proofs.DecisionLemmas.{same_bytes}
 
 -- ---- a value that is there whatever the fault
 

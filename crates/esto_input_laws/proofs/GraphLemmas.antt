@@ -6,12 +6,13 @@ use Rattle.std.specs.List.{AllByRecursion}
 use Rattle.std.proofs.lemmas.Bool.{cases_lt, cases_eq}
 use Rattle.std.proofs.lemmas.List.Elements.{recursion_from_All}
 use Rattle.esto_constraint.proofs.CycleLemmas.{IsAtMost-less, IsAtMost-same}
-use Rattle.esto_acyclic.proofs.EdgeLemmas.{joins_edges, cycle_below}
+use Rattle.esto_acyclic.proofs.EdgeLemmas.{cycle_below}
+use Rattle.esto_constraint.proofs.EdgeLemmas.{joins_edges}
 use Rattle.esto_constraint.proofs.WalkLemmas.{walk_is_short, short_walk}
 use Rattle.esto_acyclic.proofs.DistanceLemmas.{IsLeastWalk}
 use Rattle.esto_constraint.specs.Graphs.{IsWithin, IsWalk, IsCycleAt, HasNoCycle, IsAcyclic, IsLeastCycleAt, IsLeastCycle, Arrives, IsRank, AreRanks}
-use Rattle.esto_acyclic.specs.Relations.{AreNamesOf, edges_of}
-use Rattle.esto_constraint.specs.Relations.{IsEdge}
+use Rattle.esto_acyclic.specs.Relations.{AreNamesOf}
+use Rattle.esto_constraint.specs.Relations.{edges_of, IsEdge}
 use Rattle.esto_acyclic.specs.Rounds.{Leads}
 use Rattle.esto_query.proofs.PlaceLemmas.{IsAtMost-nil}
 use Rattle.esto_query.specs.Schemas.{names_of}
@@ -20,7 +21,7 @@ use Rattle.esto_semantics.specs.Matches.{IsAtMost}
 use Rattle.esto_semantics.specs.Rules.{Rule}
 use Rattle.esto_term.proofs.ChoiceLemmas.{Decided, decided_as, decided_both, decided_below, decided_in, least_below}
 use Rattle.esto_term.proofs.ListLemmas.{thing_at}
-use Rattle.esto_reading_laws.proofs.DecisionLemmas.{greatest}
+use Rattle.esto_term.proofs.DecisionLemmas.{greatest}
 
 -- ---- edges
 

@@ -9,7 +9,7 @@ use Rattle.esto_semantics.proofs.TermLemmas.{decided_term}
 use Rattle.esto_term.proofs.ChoiceLemmas.{Decided, decided_as, decided_both, decided_either, decided_not, decided_below}
 use Rattle.esto_term.specs.declared.term.Term.{Term}
 use Rattle.esto_term.specs.declared.term.Term.TheVariants.{Plain}
-use Rattle.esto_reading_laws.proofs.DecisionLemmas.{at_most, same_bytes, contains, decided_three, decided_four, each_below}
+use Rattle.esto_term.proofs.DecisionLemmas.{at_most, same_bytes, contains, decided_three, decided_four, each_below}
 
 same_step : (s other : Step) → Decided (s ≡ other)
 same_step (Name k) (Name j) = decided_as (λ e. ap Name e, λ e. cc) (same_bytes k j)

@@ -16,12 +16,12 @@ use Rattle.esto_read.proofs.RuleLemmas.{tuple_parts, equality_parts, denial_part
 use Rattle.esto_read.specs.Constraints.{IsConstraintReading, IsConstraintFault, IsRuleOf}
 use Rattle.esto_read.specs.Layouts.{IsLayoutReading, IsLayoutFault}
 use Rattle.esto_read.specs.Readings.{IsReading, IsFirstFault}
-use Rattle.esto_read.specs.Words.{IsVocabulary}
+use Rattle.esto_docmodel.specs.Words.{IsVocabulary}
 use Rattle.esto_read.specs.declared.read.Form.TheVariants.{View}
 use Rattle.esto_read.specs.declared.read.NamedQuery.{NamedQuery}
-use Rattle.esto_read.specs.declared.words.DataModel.{DataModel}
-use Rattle.esto_read.specs.declared.words.DataModel.TheVariants.{Table, Documents, Keys as KeyFile}
-use Rattle.esto_read.specs.declared.words.Word.{Word}
+use Rattle.esto_docmodel.specs.declared.words.DataModel.{DataModel}
+use Rattle.esto_docmodel.specs.declared.words.DataModel.TheVariants.{Table, Documents, Keys as KeyFile}
+use Rattle.esto_docmodel.specs.declared.words.Word.{Word}
 use Rattle.esto_semantics.specs.WellFormed.{IsRuleOver}
 use Rattle.esto_settings.specs.Settings.{setting_at}
 use Rattle.esto_settings.specs.declared.setting.Field.{Field}
@@ -44,16 +44,17 @@ use Rattle.esto_catalog.proofs.WalkLemmas.{stored_sound, fragments_grown, no_fra
 use Rattle.esto_catalog.specs.Access.{letter_of, written_pattern, ArePatterns, reads_patterns, usual_pattern, allows_access, IsWeight, reads_weight}
 use Rattle.esto_catalog.specs.Access.{allows_weight}
 use Rattle.esto_catalog.specs.Constraints.{reads_rule, reads_constraint, adds_constraint, reads_constraints}
-use Rattle.esto_catalog.specs.Datasets.{has_dataset, AreDatasets, schema_of, words_of}
+use Rattle.esto_catalog.specs.Datasets.{has_dataset, AreDatasets}
+use Rattle.esto_mapping.specs.Datasets.{schema_of, words_of}
 use Rattle.esto_catalog.specs.Fragments.{has_fragment, reads_view, view_row, rows_after_view, stored_fragment}
 use Rattle.esto_catalog.specs.Fragments.{reads_fragment, with_fragment, no_fragments, adds_fragment, reads_fragments}
 use Rattle.esto_catalog.specs.Rows.{fault_at, text_fault_at}
 use Rattle.esto_catalog.specs.Shapes.{head_columns, store_columns, reads_pattern, pattern_row, shape_row}
 use Rattle.esto_catalog.specs.Soundness.{IsSoundView, IsSoundStored, AreSoundFragments, AreSoundRules}
-use Rattle.esto_catalog.specs.declared.access.TheConstants.{MAX_PATTERNS, MAX_WEIGHT}
-use Rattle.esto_catalog.specs.declared.catalogue.Shape.TheVariants.{Table as FromTable, Documents as FromDocuments, Keys as FromKeys}
-use Rattle.esto_catalog.specs.declared.catalogue.Store.{Store}
-use Rattle.esto_catalog.specs.declared.dataset.Dataset.{Dataset}
+use Rattle.esto_mapping.specs.declared.catalogue.TheConstants.{MAX_PATTERNS, MAX_WEIGHT}
+use Rattle.esto_mapping.specs.declared.catalogue.Shape.TheVariants.{Table as FromTable, Documents as FromDocuments, Keys as FromKeys}
+use Rattle.esto_mapping.specs.declared.catalogue.Store.{Store}
+use Rattle.esto_mapping.specs.declared.dataset.Dataset.{Dataset}
 use Rattle.esto_catalog.specs.declared.fault.CatalogueKind.TheVariants.{BadColumns, BadPattern, WrongType, BadAccess, BadWeight, SameName, BadStore}
 use Rattle.esto_catalog.specs.declared.fault.Place.{Place}
 use Rattle.esto_catalog.specs.declared.fault.Section.TheVariants as section
@@ -64,7 +65,7 @@ use Rattle.esto_reading_laws.proofs.RuleLemmas.{constraint_reading}
 use Rattle.esto_input_laws.proofs.CourseLemmas.{Ends, Any, ends_gives, ends_refuses, ends_demands, ends_accepts, ends_rejects, ends_then, ends_each}
 use Rattle.esto_input_laws.proofs.LayoutLemmas.{is_layout}
 use Rattle.esto_input_laws.proofs.RowLemmas.{keys_known, text_needed, demanded, distinct, are_columns, model_needed, unfit, layout_row_ends}
-use Rattle.esto_reading_laws.proofs.DecisionLemmas.{at_most, same_bool}
+use Rattle.esto_term.proofs.DecisionLemmas.{at_most, same_bool}
 
 -- ---- shapes
 

@@ -7,23 +7,24 @@ use Rattle.std.specs.Cmp.Lexicographic.{slice_cmp}
 use Rattle.std.specs.List.{starts_with}
 use Rattle.std.proofs.lemmas.List.{append-nil}
 use Rattle.esto_course.specs.Course.{and_then, gives, demands}
-use Rattle.esto_docs.specs.declared.layout.Layout.{Layout}
-use Rattle.esto_docs.specs.declared.layout.Layout.TheVariants.{Array, Lines}
+use Rattle.esto_docmodel.specs.declared.file.Layout.{Layout}
+use Rattle.esto_docmodel.specs.declared.file.Layout.TheVariants.{Array, Lines}
 use Rattle.esto_query.specs.declared.schema.TheConstants.{MAX_COLUMNS}
-use Rattle.esto_read.specs.declared.words.DataModel.{DataModel}
-use Rattle.esto_read.specs.declared.words.DataModel.TheVariants.{Table, Documents, Keys as KeyFile}
+use Rattle.esto_docmodel.specs.declared.words.DataModel.{DataModel}
+use Rattle.esto_docmodel.specs.declared.words.DataModel.TheVariants.{Table, Documents, Keys as KeyFile}
 use Rattle.esto_settings.specs.Settings.{has_key, setting_at}
 use Rattle.esto_settings.specs.declared.setting.Field.{Field}
 use Rattle.esto_settings.specs.declared.setting.Setting.{Setting}
 use Rattle.esto_settings.specs.declared.setting.Setting.TheVariants.{Text, Integer, Texts, Other}
 use Rattle.esto_term.proofs.ChoiceLemmas.{Decided, decided_as, decided_both, decided_not, pairs_cons, pairs_head, pairs_tail}
 use Rattle.esto_catalog.proofs.LeastLemmas.{lesser_new, lesser_old, IsLeastOf, none_unknown, known_next, unknown_next}
-use Rattle.esto_catalog.specs.Datasets.{is_name, has_dataset, begins_plain, AreColumns, name_row, needs_columns, columns_row}
-use Rattle.esto_catalog.specs.Datasets.{schema_of, layout_and_file_rows, rows_after_name, dataset_of, reads_dataset, adds_dataset, reads_datasets}
+use Rattle.esto_catalog.specs.Datasets.{has_dataset, name_row, needs_columns, columns_row}
+use Rattle.esto_mapping.specs.Datasets.{is_name, begins_plain, AreColumns, schema_of}
+use Rattle.esto_catalog.specs.Datasets.{layout_and_file_rows, rows_after_name, dataset_of, reads_dataset, adds_dataset, reads_datasets}
 use Rattle.esto_catalog.specs.Models.{model_word, layout_word, reads_model, needs_model, reads_layout, allows_layout, unfit_row, layout_row}
 use Rattle.esto_catalog.specs.Rows.{fault_at, is_known, IsUnknown, IsLeastUnknown, knows_keys, needs_text, allows_text, needs_texts, IsLesserOf}
 use Rattle.esto_ports.specs.declared.mark.TheConstants.{MARK}
-use Rattle.esto_catalog.specs.declared.dataset.Dataset.{Dataset}
+use Rattle.esto_mapping.specs.declared.dataset.Dataset.{Dataset}
 use Rattle.esto_catalog.specs.declared.fault.CatalogueError.{CatalogueError}
 use Rattle.esto_catalog.specs.declared.fault.CatalogueError.TheVariants.{OutOfMemory}
 use Rattle.esto_catalog.specs.declared.fault.CatalogueKind.{CatalogueKind}
@@ -33,7 +34,7 @@ use Rattle.esto_catalog.specs.declared.fault.Section.TheVariants as section
 use Rattle.esto_catalog.specs.declared.row.Keys.{Keys}
 use Rattle.esto_catalog.specs.declared.row.Keys.TheVariants as keys
 use Rattle.esto_input_laws.proofs.CourseLemmas.{Ends, Any, ends_gives, ends_refuses, ends_demands, ends_accepts, ends_rejects, ends_then, ends_each}
-use Rattle.esto_reading_laws.proofs.DecisionLemmas.{at_most, same_bytes, same_bool, contains}
+use Rattle.esto_term.proofs.DecisionLemmas.{at_most, same_bytes, same_bool, contains}
 
 -- ---- keys
 

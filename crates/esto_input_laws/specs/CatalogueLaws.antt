@@ -4,9 +4,9 @@ use Rattle.esto_constraint.specs.Graphs.{IsWithin, IsLeastCycle, AreRanks}
 use Rattle.esto_constraint.specs.Relations.{IsEdge}
 use Rattle.esto_constraint.specs.declared.ranks.Cycle.{Cycle}
 use Rattle.esto_semantics.specs.Rules.{Rule}
-use Rattle.esto_catalog.specs.Determined.{AreSame}
+use Rattle.esto_mapping.specs.Catalogues.{AreSame}
 use Rattle.esto_catalog.specs.Reading.{IsCatalogueOf, IsCatalogueError}
-use Rattle.esto_catalog.specs.declared.catalogue.Catalogue.{Catalogue}
+use Rattle.esto_mapping.specs.declared.catalogue.Catalogue.{Catalogue}
 use Rattle.esto_catalog.specs.declared.fault.CatalogueError.{CatalogueError}
 use Rattle.esto_catalog.specs.declared.fault.CatalogueError.TheVariants.{Fault, NotAcyclic, OutOfMemory}
 use Rattle.esto_catalog.specs.declared.fault.CatalogueFault.{CatalogueFault}

@@ -1,6 +1,6 @@
 -- That the files of datasets have facts, or a first fault.
 use Rattle.std.specs.Prelude.{ℕ, ◌<◌, ◌⊎◌, List, All, length, Ok, Err}
-use Rattle.esto_catalog.specs.declared.dataset.Dataset.{Dataset}
+use Rattle.esto_mapping.specs.declared.dataset.Dataset.{Dataset}
 use Rattle.esto_fill.specs.Files.{LoadsFacts}
 use Rattle.esto_fill.specs.declared.datasets.DatasetBytes.{DatasetBytes}
 use Rattle.esto_fill.specs.declared.datasets.LoadError.TheVariants.{Fault}

@@ -1,12 +1,12 @@
 -- That each file has rows or documents, or a first fault; and so has the file of each fragment.
 use Rattle.std.specs.Prelude.{ℕ, length, Ok, Err}
-use Rattle.esto_catalog.specs.Soundness.{IsShapeFor}
-use Rattle.esto_catalog.specs.declared.catalogue.Shape.{Shape}
+use Rattle.esto_mapping.specs.Soundness.{IsShapeFor}
+use Rattle.esto_mapping.specs.declared.catalogue.Shape.{Shape}
 use Rattle.esto_docmodel.specs.Layouts.{IsLayout}
 use Rattle.esto_docmodel.specs.Patterns.{Entries}
 use Rattle.esto_docs.specs.Files.{file_trees, trees_fault}
 use Rattle.esto_docs.specs.Rows.{IsRowOf, GivesRows}
-use Rattle.esto_docs.specs.declared.layout.Layout.{Layout}
+use Rattle.esto_docmodel.specs.declared.file.Layout.{Layout}
 use Rattle.esto_lines.specs.Faults.{Gives}
 use Rattle.esto_ports.specs.declared.file_fault.FileError.TheVariants.{Fault}
 use Rattle.esto_query.specs.declared.query.Query.{Query}

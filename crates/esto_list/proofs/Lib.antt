@@ -1,3 +1,1 @@
 pub mod ItemLemmas
-pub mod NameLemmas
-pub mod TextLemmas

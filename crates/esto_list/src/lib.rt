@@ -3,10 +3,8 @@
 #![tactic(auto)]
 
 mod listing;
-mod printing;
 mod text;
 mod weight;
 
+pub use esto_views::{meet_terms, put_constant, put_count, put_number, put_numbers, put_terms};
 pub use listing::{Listed, Listing};
-pub use printing::{put_constant, put_number, put_numbers, put_terms};
-pub use text::{meet_terms, put_count};

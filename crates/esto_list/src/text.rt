@@ -1,75 +1,18 @@
 //! The text that is printed of a list.
 ghost use Rattle.std.specs.Prelude.{◌≡◌, ◌++◌, slice_get, IfOk, OnOk};
-ghost use Rattle.esto_term.specs.declared.term.Term.{out-Term};
-ghost use Rattle.esto_list.specs.Names.{has_number, is_given, met_level, met_terms, met_variable, nameless_of};
-ghost use Rattle.esto_list.specs.Text.{atom_line, count_line, each_from, fragment_name, item_line, list_text, numbers_text, pick_line, plan_lines};
-ghost use Rattle.esto_list.specs.Text.{plan_lines_with};
+ghost use Rattle.esto_views.specs.Names.{nameless_of};
+ghost use Rattle.esto_list.specs.Text.{atom_line, fragment_name, item_line, list_text, pick_line, plan_lines, plan_lines_with};
+ghost use Rattle.esto_views.specs.Printing.{each_from, numbers_text};
 ghost use Rattle.esto_semantics.specs.Sets.{numbers};
 
 use crate::listing::Listed;
-use crate::printing::{put_number, put_numbers, put_terms};
 use esto_bits::RowBits;
-use esto_query::{Name, Names};
-use esto_term::{Bytes, OutOfMemory, Term, Values};
-use esto_views::{FragmentDefs, Plan, PlanAtom};
+use esto_query::Names;
+use esto_term::{Bytes, OutOfMemory, Values};
+use esto_views::{
+    FragmentDefs, Plan, PlanAtom, meet_terms, put_count, put_number, put_numbers, put_terms,
+};
 use std::alloc::Global;
-
-/// Whether the variable has a given name.
-fn has_name(names: &Names, variable: u64) -> bool
-    ensures { result ≡ is_given (slice_get names.now variable) }
-{
-    let place = variable as usize;
-    if place >= names.len() {
-        return false;
-    }
-    match names.item(place) {
-        Name::Given(_) => true,
-        Name::Hidden => false,
-    }
-}
-
-/// Whether the number is one of these.
-fn is_met(met: &[u64], number: u64) -> bool
-    ensures { result ≡ has_number met.now number }
-{
-    'numbers: for other in met {
-        if *other == number {
-            return true;
-        }
-    }
-    false
-}
-
-/// Notes a variable, where it has no name and wasn't met.
-fn meet_variable(names: &Names, met: &mut Values<u64>, variable: u64) -> Result<(), OutOfMemory>
-    ensures { OnOk result (met.new ≡ met_variable names.now met.old variable) }
-{
-    if has_name(names, variable) || is_met(met.items(), variable) {
-        return Ok(());
-    }
-    met.push(variable)
-}
-
-/// Notes the variable of a term, where it has no name and wasn't met.
-fn meet_term(names: &Names, met: &mut Values<u64>, term: &Term) -> Result<(), OutOfMemory>
-    ensures { OnOk result (met.new ≡ met_level names.now met.old (out-Term term.now)) }
-{
-    match term {
-        Term::Const(_) => Ok(()),
-        Term::Plain(variable) => meet_variable(names, met, *variable),
-        Term::Made(_, _, _) => Ok(()),
-    }
-}
-
-/// Notes the variables of terms that have no name and weren't met.
-pub fn meet_terms(names: &Names, met: &mut Values<u64>, terms: &[Term]) -> Result<(), OutOfMemory>
-    ensures { OnOk result (met.new ≡ met_terms names.now met.old terms.now) }
-{
-    'terms: for term in terms {
-        meet_term(names, met, term)?;
-    }
-    Ok(())
-}
 
 /// The variables of the plan that have no name, in the order in which they are printed first.
 fn nameless_variables(alloc: Global, plan: &Plan) -> Result<Values<u64>, OutOfMemory>
@@ -81,20 +24,6 @@ fn nameless_variables(alloc: Global, plan: &Plan) -> Result<Values<u64>, OutOfMe
     }
     meet_terms(&plan.names, &mut met, plan.head.items())?;
     Ok(met)
-}
-
-/// Puts a line of a word and a number at the end.
-pub fn put_count(
-    alloc: Global,
-    text: &mut Bytes,
-    word: &[u8],
-    count: u128,
-) -> Result<(), OutOfMemory>
-    ensures { OnOk result (text.new ≡ text.old ++ count_line word.now count) }
-{
-    text.append(word)?;
-    put_number(alloc, text, count)?;
-    text.append(b"\n")
 }
 
 /// Puts the name of a fragment at the end, where there is one.

@@ -1,8 +1,9 @@
 -- What is opened over catalogues that say the same agrees.
 use Rattle.std.proofs.Common.{◌≡◌, ◌≢◌, ℕ, List, Some, sym, ap, subst, ◌∙◌}
-use Rattle.esto_catalog.specs.Determined.{AreSame, CataloguesAreSound, HaveOneCatalogue, HaveNoError, HaveOneError}
+use Rattle.esto_catalog.specs.Determined.{HaveOneCatalogue, HaveNoError, HaveOneError}
+use Rattle.esto_mapping.specs.Catalogues.{AreSame, CataloguesAreSound}
 use Rattle.esto_catalog.specs.Reading.{IsCatalogueOf, IsCatalogueError}
-use Rattle.esto_catalog.specs.declared.catalogue.Catalogue.{Catalogue}
+use Rattle.esto_mapping.specs.declared.catalogue.Catalogue.{Catalogue}
 use Rattle.esto_catalog.specs.declared.fault.CatalogueError.{CatalogueError}
 use Rattle.esto_catalog.specs.declared.fault.CatalogueError.TheVariants as error
 use Rattle.esto_course.proofs.Determined.{then_agree, judges_agree}
@@ -10,10 +11,10 @@ use Rattle.esto_ports.specs.Files.{Files}
 use Rattle.esto_query.specs.Schemas.{arities_of}
 use Rattle.esto_query.specs.declared.query.Query.{Query}
 use Rattle.esto_read.specs.Readings.{IsReading, IsFirstFault, HaveOneReading, HaveNoFault, HaveOneFault}
-use Rattle.esto_read.specs.Words.{IsVocabulary}
+use Rattle.esto_docmodel.specs.Words.{IsVocabulary}
 use Rattle.esto_read.specs.declared.read.Form.TheVariants as form
 use Rattle.esto_read.specs.declared.read.NamedQuery.{NamedQuery}
-use Rattle.esto_read.specs.declared.words.Word.{Word}
+use Rattle.esto_docmodel.specs.declared.words.Word.{Word}
 use Rattle.esto_text.specs.declared.fault.TextFault.{TextFault}
 use Rattle.esto_query.specs.Making.{query_of}
 use Rattle.esto_opening.specs.Alike.{IsSameQuery}

@@ -1,7 +1,7 @@
 -- Unions of queries that are opened.
 use Rattle.std.proofs.Common.{◌≡◌, ◌↔◌, ◌<◌, ℕ, List, [], ◌∷◌, length, Option, Some, refl, sym, ap, subst, ◌∙◌, arith}
-use Rattle.esto_catalog.specs.Determined.{AreSame, CataloguesAreSound}
-use Rattle.esto_catalog.specs.declared.catalogue.Catalogue.{Catalogue}
+use Rattle.esto_mapping.specs.Catalogues.{AreSame, CataloguesAreSound}
+use Rattle.esto_mapping.specs.declared.catalogue.Catalogue.{Catalogue}
 use Rattle.esto_course.specs.Course.{and_then, judges}
 use Rattle.esto_course.proofs.Determined.{then_agree, judges_agree}
 use Rattle.esto_course.proofs.Steps.{then_goes}
@@ -12,7 +12,7 @@ use Rattle.esto_read.specs.Readings.{AreSame as IsSameNamed}
 use Rattle.esto_read.specs.Unions.{AreAllSame, AreSaid, HaveNoUnionFault, HaveOneUnion, HaveOneUnionFault, IsFirstUnionFault, IsUnionReading, UnionOfOneIsQuery}
 use Rattle.esto_read.specs.Unions.{head_length}
 use Rattle.esto_read.specs.declared.read.NamedQuery.{NamedQuery}
-use Rattle.esto_read.specs.declared.words.Word.{Word}
+use Rattle.esto_docmodel.specs.declared.words.Word.{Word}
 use Rattle.esto_read.proofs.UnionLemmas.{one_length}
 use Rattle.esto_term.proofs.ListLemmas.{Contains-map_from}
 use Rattle.esto_text.specs.Faults.{IsUnionText}

@@ -11,7 +11,7 @@ use Rattle.esto_chase_laws.specs.declared.clash.Clash.{Clash}
 use Rattle.esto_chase_laws.specs.declared.clash.Clash.TheVariants.{Equal, Denied}
 use Rattle.esto_ports.specs.declared.difference.Difference.{Difference}
 use Rattle.esto_ports.specs.declared.difference.Difference.TheVariants.{Rule, Missing, Extra}
-use Rattle.esto_list.specs.Text.{constant_text}
+use Rattle.esto_views.specs.Printing.{constant_text}
 use Rattle.esto_ports.specs.declared.file_fault.FileKind.{FileKind}
 use Rattle.esto_ports.specs.declared.file_fault.FileKind.TheVariants as file
 use Rattle.esto_text.specs.declared.fault.TextFault.{TextFault}

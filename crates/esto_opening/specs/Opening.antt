@@ -1,7 +1,7 @@
 -- The catalogue and the query of a command, as steps: each file is fetched, and then read.
 use Rattle.std.specs.Prelude.{◌≡◌, ℕ, List, Option, map}
 use Rattle.esto_catalog.specs.Reading.{IsCatalogueOf, IsCatalogueError}
-use Rattle.esto_catalog.specs.declared.catalogue.Catalogue.{Catalogue}
+use Rattle.esto_mapping.specs.declared.catalogue.Catalogue.{Catalogue}
 use Rattle.esto_catalog.specs.declared.fault.CatalogueError.{CatalogueError}
 use Rattle.esto_catalog.specs.declared.fault.CatalogueError.TheVariants as error
 use Rattle.esto_ports.specs.Files.{Files}

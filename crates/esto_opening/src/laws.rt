@@ -2,7 +2,8 @@
 ghost use Rattle.esto_opening.specs.Alike.{CataloguesOpenAlike, QueriesOpenAlike, UnionsOpenAlike};
 ghost use Rattle.esto_opening.specs.Unions.{OpenedFormUnions, QueriesOpenAlone, SaidUnionsOpen, UnionsOfOneAreQueries};
 
-use esto_catalog::{catalogues_are_determined, catalogues_are_sound};
+use esto_catalog::catalogues_are_determined;
+use esto_mapping::catalogues_are_sound;
 use esto_read::{
     readings_are_determined, union_readings_are_determined, unions_of_one_are_queries,
 };

@@ -5,7 +5,7 @@ ghost use Rattle.std.specs.List.{flat_map};
 ghost use Rattle.csv.specs.Writing.{default_writer, row_text};
 ghost use Rattle.esto_opening.specs.Line.{catalogue_word, cell_of, clash_text, difference_text, file_word, kind_word, line_of, section_word, way_text};
 ghost use Rattle.esto_opening.specs.Line.{within_text};
-ghost use Rattle.esto_list.specs.Text.{constant_text};
+ghost use Rattle.esto_views.specs.Printing.{constant_text};
 ghost use Rattle.esto_opening.specs.declared.status.Status.TheVariants as status;
 
 use crate::cell::{cell_text, record_text};
@@ -13,10 +13,10 @@ use crate::status::Status;
 use esto_catalog::{CatalogueFault, CatalogueKind, Section};
 use esto_chase::Clash;
 use esto_constraint::Cycle;
-use esto_list::{put_constant, put_number};
 use esto_ports::{Difference, FileFault, FileKind};
 use esto_term::{Bytes, OutOfMemory, Text, TextRow};
 use esto_text::{TextFault, TextKind};
+use esto_views::{put_constant, put_number};
 use std::alloc::Global;
 
 // Puts a name, or another text, as one cell at the end.

@@ -7,7 +7,8 @@ ghost use Rattle.esto_opening.specs.Opening.{status_of, reads_catalogue, opens_c
 
 use crate::fetching::fetch;
 use crate::status::Status;
-use esto_catalog::{Catalogue, CatalogueError, catalogues_are_sound, read_catalogue};
+use esto_catalog::{CatalogueError, read_catalogue};
+use esto_mapping::{Catalogue, catalogues_are_sound};
 use esto_ports::Shelf;
 use esto_query::Query;
 use esto_read::{NamedQuery, read_query};

@@ -9,7 +9,7 @@ ghost use Rattle.esto_opening.specs.Unions.{FormUnion};
 use crate::fetching::fetch;
 use crate::opening::QUERY_LIMIT;
 use crate::status::Status;
-use esto_catalog::{Catalogue, catalogues_are_sound};
+use esto_mapping::{Catalogue, catalogues_are_sound};
 use esto_ports::Shelf;
 use esto_query::Query;
 use esto_read::{NamedQuery, read_union};

@@ -2,8 +2,8 @@
 
 use crate::printing::{put_numbers, put_rows};
 use crate::reading::term;
-use esto_catalog::{Catalogue, catalogues_are_sound};
 use esto_constraint::{Constraint, Rules, active, meets};
+use esto_mapping::{Catalogue, catalogues_are_sound};
 use esto_query::{
     Facts, Found, Query, Valuation, answers, first_match, next_match, queries_are_sound,
 };

@@ -5,8 +5,8 @@ ghost use Rattle.esto_docmodel.specs.Valuations.{HaveFlatTerms};
 
 use crate::printing::{put_number, put_numbers, put_row};
 use esto_columns::{Codes, Column, Picks, select};
-use esto_docmodel::{Entry, Pattern, Step, Tree, match_pattern};
-use esto_docs::{Layout, read_trees};
+use esto_docmodel::{Entry, Layout, Pattern, Step, Tree, match_pattern};
+use esto_docs::read_trees;
 use esto_keymodel::key_row_fault;
 use esto_query::Valuation;
 use esto_relmodel::table_facts;

@@ -5,7 +5,7 @@ use crate::reading::{numbers, place, set_of};
 use either::{Left, Right};
 use esto_access::{access_products, is_order, order_of, reached};
 use esto_bits::{Products, RowBits};
-use esto_catalog::Catalogue;
+use esto_mapping::Catalogue;
 use esto_query::Query;
 use esto_script::{Refused, put};
 use esto_term::Places;

@@ -6,8 +6,9 @@ use crate::matching::{put_active, put_answers, put_broken, put_matches, query, r
 use crate::orders::{ask_under, plan_of, put_plan};
 use crate::reading::{facts, place};
 use crate::worlds::{put_derivation, put_entries, put_listed, put_products_of};
-use esto_catalog::{Catalogue, read_catalogue};
+use esto_catalog::read_catalogue;
 use esto_constraint::Rules;
+use esto_mapping::Catalogue;
 use esto_prov::Entries;
 use esto_query::{Facts, Query, Valuation};
 use esto_script::{Refused, let_go, put};

@@ -13,7 +13,7 @@ use crate::printing::{
 use either::{Left, Right};
 use esto_backchase::{minimal_sets, minimal_sets_plain};
 use esto_bits::{Products, RowBits};
-use esto_catalog::Catalogue;
+use esto_mapping::Catalogue;
 use esto_planning::printed_plan;
 use esto_prov::{Claim, Entries, Reason, Why};
 use esto_query::Query;

@@ -1,10 +1,7 @@
 -- Answers over codes and answers over texts.
-use Rattle.std.proofs.Common.{◌≡◌, ◌≢◌, ◌↔◌, inl, inr, ℕ, zero, suc, Bool, true, false, cond, List, [], ◌∷◌, map, get_or, Some, slice_get, Contains, refl, sym}
-use Rattle.std.proofs.Common.{ap, ◌∙◌, subst, arith}
+use Rattle.std.proofs.Common.{◌≡◌, ◌≢◌, ◌↔◌, inl, inr, ℕ, Bool, List, [], ◌∷◌, map, get_or, Some, slice_get, Contains, refl, sym, ap, ◌∙◌, subst}
 use Rattle.std.specs.Prelude.{AllPairs}
-use Rattle.std.specs.Str.{bytes_eq}
-use Rattle.std.proofs.lemmas.Slice.Eq.{bytes_eq-Decides}
-use Rattle.std.proofs.lemmas.Option.{none-some, same_Some, slice_get_within, get_or_from_slice_get}
+use Rattle.std.proofs.lemmas.Option.{get_or_from_slice_get}
 use Rattle.esto_term.specs.declared.term.Term.{Term}
 use Rattle.esto_term.specs.declared.term.Term.TheVariants.{Const}
 use Rattle.esto_semantics.specs.Facts.{Database, image}
@@ -23,6 +20,7 @@ use Rattle.esto_plan.specs.Planned.{AreStepsOf, Fits}
 use Rattle.esto_steps.specs.Rows.{IsRowOf}
 use Rattle.esto_plan.specs.Rows.{AreViewRows, AreCoded, StandsIn, IsNumbering, AreInterned, IsSafeQuery}
 use Rattle.esto_columns.specs.Interned.{AreCodesOf}
+use Rattle.esto_plan.proofs.CodeLemmas.{code_in, code_in_numbers}
 use Rattle.esto_plan.proofs.MeaningLemmas.{results_are_answers, plans_intern}
 
 -- ---- a map of values makes answers of answers
@@ -134,27 +132,6 @@ module _ (texts : List (List ℕ)) where
                 have_codes found.0 (map answer.0 atom.terms) found.2 text
                 (subst (Contains (map answer.0 atom.terms)) is (Contains-map answer.0 atom.terms term in_atom))
           ]
-
-told_apart : (answer : Bool) → (answer ≡ true → ⊥) → answer ≡ false
-told_apart true apart = absurd (apart refl)
-told_apart false apart = refl
-
--- the place of the text
-code_in : List (List ℕ) → List ℕ → ℕ
-code_in [] text = 0
-code_in (first ∷ rest) text = cond (bytes_eq first text) 0 (suc (code_in rest text))
-
-code_in_numbers : (texts : List (List ℕ)) → AllPairs ◌≢◌ texts → IsNumbering texts (code_in texts)
-unfolding code_in
-code_in_numbers [] once number text at = absurd (none-some text at)
-code_in_numbers (first ∷ rest) once zero text at =
-    let is : first ≡ text = same_Some first text at in ap (λ answer. cond answer 0 (suc (code_in rest text))) ((bytes_eq-Decides first text).1 is)
-code_in_numbers (first ∷ rest) once (suc number) text at =
-    let later = code_in_numbers rest (λ i j default below inside. once (suc i) (suc j) default (omega (arith, below)) (omega (arith, inside))) number text at in
-    let apart : first ≡ text → ⊥ = λ is. once 0 (suc number) text (omega arith) (omega (arith, slice_get_within rest number text at))
-    (is ∙ sym (get_or_from_slice_get rest number text text at)) in
-    ap (λ answer. cond answer 0 (suc (code_in rest text))) (told_apart (bytes_eq first text) (λ yes. apart ((bytes_eq-Decides first text).0 yes)))
-    ∙ ap suc later
 
 pub results_are_answers_in_texts : (texts : List (List ℕ)) (patterns : List (List (List Bool))) (query : ConjunctiveQuery) (steps : Steps)
     (coded : ℕ → List (List ℕ)) (rows : ℕ → List (List (List ℕ)))

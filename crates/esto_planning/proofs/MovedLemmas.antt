@@ -1,7 +1,7 @@
 -- Plans, clashes and lists over one of two catalogues that say the same are ones over the other.
 use Rattle.std.proofs.Common.{ℕ, List, All, sym, subst}
-use Rattle.esto_catalog.specs.Determined.{AreSame}
-use Rattle.esto_catalog.specs.declared.catalogue.Catalogue.{Catalogue}
+use Rattle.esto_mapping.specs.Catalogues.{AreSame}
+use Rattle.esto_mapping.specs.declared.catalogue.Catalogue.{Catalogue}
 use Rattle.esto_chase.specs.Chased.{RunClashes}
 use Rattle.esto_chase_laws.specs.Runs.{start_of}
 use Rattle.esto_chase_laws.specs.declared.clash.Clash.{Clash}

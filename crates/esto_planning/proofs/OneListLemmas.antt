@@ -6,8 +6,9 @@ use Rattle.std.proofs.lemmas.List.Elements.{All-head, All-tail}
 use Rattle.esto_term.specs.declared.term.Term.{Term}
 use Rattle.esto_term.proofs.ListLemmas.{first_same, rest_same}
 use Rattle.esto_list.specs.Items.{sets_of, totals_of, IsPickOf}
-use Rattle.esto_list.specs.Names.{met_atoms, met_terms}
-use Rattle.esto_list.specs.Text.{each_from, fragment_name, atom_line, terms_text, count_line, item_line, pick_line, list_text}
+use Rattle.esto_views.specs.Names.{met_atoms, met_terms}
+use Rattle.esto_list.specs.Text.{fragment_name, atom_line, item_line, pick_line, list_text}
+use Rattle.esto_views.specs.Printing.{each_from, terms_text, count_line}
 use Rattle.esto_list.specs.declared.listing.Listed.{Listed}
 use Rattle.esto_query.specs.declared.query.Name.{Name}
 use Rattle.esto_semantics.specs.Access.{Patterns, IsStatedOrder}

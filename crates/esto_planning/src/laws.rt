@@ -11,8 +11,8 @@ use crate::printed::{
     printed_cores_are_one_for_a_query, printed_plans_are_one, printed_plans_are_over_fragments,
     printed_plans_are_universal, printed_plans_tell_satisfiable_queries,
 };
-use esto_catalog::catalogues_are_sound;
 use esto_constraint::rules_are_sound;
+use esto_mapping::catalogues_are_sound;
 use esto_query::queries_are_sound;
 use esto_semantics::{
     listed_sets_are_minimal, picks_exist, queries_are_their_own_instances, stated_orders_exist,

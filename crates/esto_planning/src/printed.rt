@@ -18,12 +18,12 @@ ghost use Rattle.esto_planning.specs.PrintedLaws.{PrintedPlanIsUniversal, Printe
 ghost use Rattle.esto_planning.specs.PrintedLaws.{PrintedPlanIsOver, PrintedPlanHasDistinctAtoms};
 
 use either::{Either, Left, Right};
-use esto_catalog::{Catalogue, catalogues_are_sound};
 use esto_chase::Clash;
 use esto_constraint::rules_are_sound;
 use esto_core::{
     core_of, cored_plans_are_cores, cored_plans_are_determined, cored_plans_are_universal,
 };
+use esto_mapping::{Catalogue, catalogues_are_sound};
 use esto_plan_laws::{cores_are_one, cores_have_no_retract};
 use esto_query::{Query, queries_are_sound};
 use esto_semantics::queries_are_their_own_instances;

@@ -17,7 +17,7 @@ use Rattle.esto_text.specs.declared.fault.ReadError.TheVariants.{Fault, OutOfMem
 use Rattle.esto_text.specs.declared.fault.TextFault.{TextFault}
 use Rattle.esto_text.specs.declared.tree.ItemSyntax.{ItemSyntax}
 use Rattle.esto_read.specs.Items.{item_size, IsFitting, AreFitting, IsFirstItemFault, IsItemOf, AreItems, IsItemError, IsBodyError}
-use Rattle.esto_read.specs.declared.words.Word.{Word}
+use Rattle.esto_docmodel.specs.declared.words.Word.{Word}
 use Rattle.esto_read.proofs.ItemLemmas.{item_count}
 
 -- an item of a list that is mapped

@@ -25,8 +25,8 @@ use Rattle.esto_text.specs.declared.tree.StepSyntax.{StepSyntax}
 use Rattle.esto_text.specs.declared.tree.StepSyntax.TheVariants.{Field, Item, Below}
 use Rattle.esto_read.specs.Items.{entries_size}
 use Rattle.esto_read.specs.Patterns.{IsFieldOf, IsStepOf, AreEntries, IsPatternOf}
-use Rattle.esto_read.specs.Words.{HasRelations}
-use Rattle.esto_read.specs.declared.words.DataModel.TheVariants.{Documents}
+use Rattle.esto_docmodel.specs.Words.{HasRelations}
+use Rattle.esto_docmodel.specs.declared.words.DataModel.TheVariants.{Documents}
 use Rattle.esto_read.proofs.BelowLemmas as terms
 use Rattle.esto_read.proofs.BelowLemmas.{below_more, plain_below, const_below, term_grows}
 use Rattle.esto_read.proofs.Utf8Lemmas.{said_utf8, text_inside_utf8, name_token, quoted_token}

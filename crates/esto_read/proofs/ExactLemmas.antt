@@ -20,7 +20,7 @@ use Rattle.esto_read.specs.Readings.{IsRead, IsAllowed, IsRefused, IsHeadFit, Is
 use Rattle.esto_read.specs.declared.read.Form.{Form}
 use Rattle.esto_read.specs.declared.read.Form.TheVariants.{Query, View}
 use Rattle.esto_read.specs.declared.read.NamedQuery.{NamedQuery}
-use Rattle.esto_read.specs.declared.words.Word.{Word}
+use Rattle.esto_docmodel.specs.declared.words.Word.{Word}
 use Rattle.esto_read.proofs.OneLemmas.{terms_one, items_one, apart_none}
 use Rattle.esto_read.proofs.WordLemmas.{relation_one}
 

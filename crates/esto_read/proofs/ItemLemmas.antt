@@ -7,7 +7,7 @@ use Rattle.esto_semantics.specs.declared.fact.Fact.{Fact}
 use Rattle.esto_term.specs.declared.term.Term.{Term}
 use Rattle.esto_text.specs.Trees.{ItemTree, Atom, Part, Pattern}
 use Rattle.esto_read.specs.Items.{item_size, AreFitting, IsItemOf, AreItems}
-use Rattle.esto_read.specs.declared.words.Word.{Word}
+use Rattle.esto_docmodel.specs.declared.words.Word.{Word}
 use Rattle.esto_read.proofs.EntryLemmas.{pattern_count}
 
 pub size_positive : (item : ItemTree) → 0 < item_size item

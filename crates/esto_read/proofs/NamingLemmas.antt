@@ -24,7 +24,7 @@ use Rattle.esto_read.specs.Items.{IsItemOf, AreItems}
 use Rattle.esto_read.specs.Naming.{IsCalled, ViewsNameTheirColumns}
 use Rattle.esto_read.specs.Patterns.{AreEntries, IsPatternOf}
 use Rattle.esto_read.specs.Terms.{IsTermOf, AreTerms}
-use Rattle.esto_read.specs.declared.words.Word.{Word}
+use Rattle.esto_docmodel.specs.declared.words.Word.{Word}
 use Rattle.esto_read.proofs.BelowLemmas.{Keeps, keeps_more}
 use Rattle.esto_read.proofs.ReadLemmas.{IsNumbered, variable_numbered, head_numbered}
 

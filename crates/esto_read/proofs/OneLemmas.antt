@@ -26,7 +26,7 @@ use Rattle.esto_text.specs.declared.tree.StepSyntax.TheVariants.{Field, Item, Be
 use Rattle.esto_read.specs.Items.{IsAtomOf, AreAtomsOf, IsItemOf, AreItems}
 use Rattle.esto_read.specs.Patterns.{IsFieldOf, IsStepOf, AreEntries, IsPatternOf}
 use Rattle.esto_read.specs.Terms.{IsVariableOf, IsTermOf, AreTerms}
-use Rattle.esto_read.specs.declared.words.Word.{Word}
+use Rattle.esto_docmodel.specs.declared.words.Word.{Word}
 use Rattle.esto_read.proofs.WordLemmas.{relation_one}
 use Rattle.esto_read.proofs.QuoteLemmas.{written_cases}
 

@@ -33,9 +33,9 @@ use Rattle.esto_read.specs.Readings.{IsAllowed, HasVariables, HasParts, IsRead, 
 use Rattle.esto_read.specs.Terms.{IsVariableOf, IsTermOf, AreTerms}
 use Rattle.esto_read.specs.declared.read.Form.{Form}
 use Rattle.esto_read.specs.declared.read.Form.TheVariants.{Query, View}
-use Rattle.esto_read.specs.Words.{HasRelations}
-use Rattle.esto_read.specs.declared.words.DataModel.TheVariants.{Documents}
-use Rattle.esto_read.specs.declared.words.Word.{Word}
+use Rattle.esto_docmodel.specs.Words.{HasRelations}
+use Rattle.esto_docmodel.specs.declared.words.DataModel.TheVariants.{Documents}
+use Rattle.esto_docmodel.specs.declared.words.Word.{Word}
 use Rattle.esto_read.proofs.ItemLemmas.{size_positive, item_count}
 use Rattle.esto_read.proofs.WordLemmas.{base_has}
 use Rattle.esto_read.proofs.EntryLemmas.{pattern_good}

@@ -16,7 +16,7 @@ use Rattle.esto_read.specs.Constraints.{IsTupleRead, IsEqualityRead, IsUnsafeSid
 use Rattle.esto_read.specs.Constraints.{IsConstraintFault, AreSameRule}
 use Rattle.esto_read.specs.Items.{AreFitting, AreItems}
 use Rattle.esto_read.specs.Terms.{AreTerms}
-use Rattle.esto_read.specs.declared.words.Word.{Word}
+use Rattle.esto_docmodel.specs.declared.words.Word.{Word}
 use Rattle.esto_read.proofs.OneLemmas.{terms_one, items_one, apart_none}
 use Rattle.esto_read.proofs.ExactLemmas.{fault_same, fitting_or_fault, items_fault_one}
 

@@ -30,8 +30,8 @@ use Rattle.esto_read.specs.Constraints.{IsTupleRead, IsEqualityRead, IsDenialRea
 use Rattle.esto_read.specs.Items.{AreFitting, AreItems, IsBodyError}
 use Rattle.esto_read.specs.Parts.{AreTupleParts, AreEqualityParts, AreDenialParts}
 use Rattle.esto_read.specs.Terms.{IsTermOf, AreTerms}
-use Rattle.esto_read.specs.Words.{HasRelations}
-use Rattle.esto_read.specs.declared.words.Word.{Word}
+use Rattle.esto_docmodel.specs.Words.{HasRelations}
+use Rattle.esto_docmodel.specs.declared.words.Word.{Word}
 use Rattle.esto_read.proofs.ItemLemmas.{items_size}
 use Rattle.esto_read.proofs.BelowLemmas.{below_more, AllGrow, terms_grow}
 use Rattle.esto_read.proofs.ReadLemmas.{Good, ItemIn, AllGood, items_good, items_some}

@@ -23,7 +23,7 @@ use Rattle.esto_read.specs.Unions.{head_length, IsSaidWith, AreSaid, IsFaultWith
 use Rattle.esto_read.specs.Unions.{IsUnionError, HaveOneLength, AreAllSame}
 use Rattle.esto_read.specs.declared.read.Form.TheVariants.{Query}
 use Rattle.esto_read.specs.declared.read.NamedQuery.{NamedQuery}
-use Rattle.esto_read.specs.declared.words.Word.{Word}
+use Rattle.esto_docmodel.specs.declared.words.Word.{Word}
 use Rattle.esto_read.proofs.BelowLemmas.{terms_length}
 use Rattle.esto_read.proofs.ExactLemmas.{read_one, tree_fault_one, read_or_fault}
 use Rattle.esto_read.proofs.ReadLemmas.{query_parts}

@@ -12,10 +12,10 @@ use Rattle.esto_query.specs.declared.schema.TheConstants.{MAX_RELATIONS}
 use Rattle.esto_text.specs.Tokens.{text_of}
 use Rattle.esto_text.specs.Trees.{ItemTree, Atom, Part, Pattern}
 use Rattle.esto_read.specs.Items.{IsRelationOf}
-use Rattle.esto_read.specs.Words.{IsBaseOf, IsPart, HasRelations}
-use Rattle.esto_read.specs.declared.words.DataModel.{DataModel}
-use Rattle.esto_read.specs.declared.words.DataModel.TheVariants.{Table, Documents, Keys}
-use Rattle.esto_read.specs.declared.words.Word.{Word}
+use Rattle.esto_docmodel.specs.Words.{IsBaseOf, IsPart, HasRelations}
+use Rattle.esto_docmodel.specs.declared.words.DataModel.{DataModel}
+use Rattle.esto_docmodel.specs.declared.words.DataModel.TheVariants.{Table, Documents, Keys}
+use Rattle.esto_docmodel.specs.declared.words.Word.{Word}
 
 -- ---- parts
 

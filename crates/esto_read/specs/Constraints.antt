@@ -16,8 +16,8 @@ use Rattle.esto_text.specs.declared.token.Token.{Token}
 use Rattle.esto_text.specs.declared.version.Version.{Version}
 use Rattle.esto_read.specs.Items.{AreFitting, IsFirstItemFault, AreItems}
 use Rattle.esto_read.specs.Terms.{AreTerms}
-use Rattle.esto_read.specs.Words.{IsVocabulary}
-use Rattle.esto_read.specs.declared.words.Word.{Word}
+use Rattle.esto_docmodel.specs.Words.{IsVocabulary}
+use Rattle.esto_docmodel.specs.declared.words.Word.{Word}
 
 -- The body, the head and the names of variables that items mean. Variables are numbered by first occurrence, in the body first and then in the head;
 -- nothing is wrong with any item, where the atoms of body and head are counted apart.

@@ -14,9 +14,9 @@ use Rattle.esto_text.specs.declared.fault.TextKind.TheVariants.{Unknown, Arity, 
 use Rattle.esto_text.specs.declared.token.Token.{Token}
 use Rattle.esto_read.specs.Patterns.{IsPatternOf}
 use Rattle.esto_read.specs.Terms.{AreTerms}
-use Rattle.esto_read.specs.Words.{IsBaseOf, IsPartOf}
-use Rattle.esto_read.specs.declared.words.DataModel.TheVariants.{Table, Documents}
-use Rattle.esto_read.specs.declared.words.Word.{Word}
+use Rattle.esto_docmodel.specs.Words.{IsBaseOf, IsPartOf}
+use Rattle.esto_docmodel.specs.declared.words.DataModel.TheVariants.{Table, Documents}
+use Rattle.esto_docmodel.specs.declared.words.Word.{Word}
 
 -- The token at which an item begins: the name of its dataset.
 abbrev pub name_of : ItemTree → Token

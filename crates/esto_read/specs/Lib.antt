@@ -1,4 +1,3 @@
-pub mod Words
 pub mod Terms
 pub mod Patterns
 pub mod Items

@@ -9,7 +9,7 @@ use Rattle.esto_text.specs.Lexemes.{IsNameText}
 use Rattle.esto_read.specs.Readings.{IsReading}
 use Rattle.esto_read.specs.declared.read.Form.TheVariants.{View}
 use Rattle.esto_read.specs.declared.read.NamedQuery.{NamedQuery}
-use Rattle.esto_read.specs.declared.words.Word.{Word}
+use Rattle.esto_docmodel.specs.declared.words.Word.{Word}
 
 -- The term is a variable of this name.
 abbrev pub IsCalled : List Name → Term → List ℕ → Type 0

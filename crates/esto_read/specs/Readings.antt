@@ -15,11 +15,11 @@ use Rattle.esto_text.specs.declared.token.Token.{Token}
 use Rattle.esto_read.specs.Heads.{AreDifferent, IsFirstRepeat, AreMentioned, IsFirstMissing}
 use Rattle.esto_read.specs.Items.{AreFitting, IsFirstItemFault, AreItems}
 use Rattle.esto_read.specs.Terms.{AreTerms}
-use Rattle.esto_read.specs.Words.{IsVocabulary}
+use Rattle.esto_docmodel.specs.Words.{IsVocabulary}
 use Rattle.esto_read.specs.declared.read.Form.{Form}
 use Rattle.esto_read.specs.declared.read.Form.TheVariants.{Query, View}
 use Rattle.esto_read.specs.declared.read.NamedQuery.{NamedQuery}
-use Rattle.esto_read.specs.declared.words.Word.{Word}
+use Rattle.esto_docmodel.specs.declared.words.Word.{Word}
 
 -- The head, the body and the names of variables that a tree means. Variables are numbered by first occurrence, in the head first and then in the body; nothing
 -- is wrong with any item.

@@ -7,10 +7,10 @@ use Rattle.esto_text.specs.declared.fault.ReadError.TheVariants.{Fault, OutOfMem
 use Rattle.esto_text.specs.declared.fault.TextFault.{TextFault}
 use Rattle.esto_text.specs.declared.fault.TextKind.TheVariants.{HeadLength}
 use Rattle.esto_read.specs.Readings.{IsSaid, IsTreeFault, IsReading, AreSame}
-use Rattle.esto_read.specs.Words.{IsVocabulary}
+use Rattle.esto_docmodel.specs.Words.{IsVocabulary}
 use Rattle.esto_read.specs.declared.read.Form.TheVariants.{Query}
 use Rattle.esto_read.specs.declared.read.NamedQuery.{NamedQuery}
-use Rattle.esto_read.specs.declared.words.Word.{Word}
+use Rattle.esto_docmodel.specs.declared.words.Word.{Word}
 
 -- How many names the head of the first tree has.
 abbrev pub head_length : List QueryTree → ℕ

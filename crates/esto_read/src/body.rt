@@ -6,14 +6,15 @@ ghost use Rattle.esto_query.specs.declared.make.TheConstants.{MAX_ATOMS};
 ghost use Rattle.esto_text.specs.Faults.{IsNameIn, IsFieldIn, IsTermIn};
 ghost use Rattle.esto_text.specs.Trees.{EachOfItem};
 ghost use Rattle.esto_text.specs.View.{item_of};
-ghost use Rattle.esto_read.specs.Words.{HasRelations};
+ghost use Rattle.esto_docmodel.specs.Words.{HasRelations};
 ghost use Rattle.esto_read.specs.Items.{name_of, IsRelationOf, HasArity, item_size, IsMisfit, IsFitting, AreFitting, IsAtomOf, AreAtomsOf, IsItemOf, AreItems};
 ghost use Rattle.esto_read.specs.Items.{IsItemError, IsBodyError};
 
 use crate::constant::bytes_of;
 use crate::pattern::{pattern, room_after_entries};
 use crate::term::terms;
-use crate::words::{DataModel, Word, base_of, part_of};
+use crate::words::{base_of, part_of};
+use esto_docmodel::{DataModel, Word};
 use esto_query::{MAX_ATOMS, Names, Schema};
 use esto_semantics::{Atoms, Fact};
 use esto_term::{List, OutOfMemory};

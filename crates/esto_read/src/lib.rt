@@ -14,6 +14,7 @@ mod term;
 mod unions;
 mod words;
 
+pub use esto_docmodel::{DataModel, Vocabulary, Word};
 pub use esto_text::{ReadError, TextFault, TextKind, Token, TokenKind, Tokens, read_tokens};
 pub use layout::{layout_readings_are_determined, read_layout};
 pub use read::{
@@ -23,4 +24,3 @@ pub use rule::{constraint_readings_are_determined, read_constraint, read_constra
 pub use unions::{
     NamedQueries, read_union, union_readings_are_determined, unions_of_one_are_queries,
 };
-pub use words::{DataModel, Vocabulary, Word};

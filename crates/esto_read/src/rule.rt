@@ -10,15 +10,15 @@ ghost use Rattle.esto_text.specs.Faults.{IsTermIn, IsConstraintText, ConstraintS
 ghost use Rattle.esto_text.specs.View.{constraint_of};
 ghost use Rattle.esto_text.specs.declared.version.Version.{Version};
 ghost use Rattle.esto_read.specs.Terms.{AreTerms};
-ghost use Rattle.esto_read.specs.Words.{HasRelations, IsVocabulary};
+ghost use Rattle.esto_docmodel.specs.Words.{HasRelations, IsVocabulary};
 ghost use Rattle.esto_read.specs.Constraints.{IsUnsafeSide, IsRuleOf, IsRuleError, IsConstraintReading, IsConstraintError, HaveOneRule, HaveNoRuleFault};
 ghost use Rattle.esto_read.specs.Constraints.{HaveOneRuleFault};
 
 use crate::body::{body, fault_at};
 use crate::make::{denial, equal_rule, tuple_rule};
 use crate::term::term;
-use crate::words::{Vocabulary, Word};
 use esto_constraint::Constraint;
+use esto_docmodel::{Vocabulary, Word};
 use esto_query::{Names, Schema, mentions};
 use esto_semantics::Atom;
 use esto_term::{List, Term};

@@ -8,11 +8,11 @@ ghost use Rattle.esto_text.specs.View.{tree_of};
 ghost use Rattle.esto_read.specs.Readings.{HasParts};
 ghost use Rattle.esto_read.specs.Unions.{IsSaidWith, IsErrorWith, HaveOneLength, IsUnionReading, IsUnionError, HaveOneUnion, HaveNoUnionFault};
 ghost use Rattle.esto_read.specs.Unions.{HaveOneUnionFault, UnionOfOneIsQuery};
-ghost use Rattle.esto_read.specs.Words.{IsVocabulary};
+ghost use Rattle.esto_docmodel.specs.Words.{IsVocabulary};
 ghost use Rattle.esto_read.specs.declared.read.NamedQuery.{NamedQuery};
 
 use crate::read::{Form, NamedQuery, said};
-use crate::words::Vocabulary;
+use esto_docmodel::Vocabulary;
 use esto_query::Schema;
 use esto_term::List;
 use esto_text::{

@@ -1,33 +1,10 @@
 //! The names of datasets and of their parts.
 ghost use Rattle.std.specs.Prelude.{◌≡◌, ◌<◌, ◌↔◌, ℕ, IsTrue, MatchOption, All};
 ghost use Rattle.esto_query.specs.declared.schema.TheConstants.{MAX_RELATIONS};
-ghost use Rattle.esto_read.specs.declared.words.DataModel.{DataModel};
-ghost use Rattle.esto_read.specs.Words.{IsBaseOf, IsPart, IsPartOf};
+ghost use Rattle.esto_docmodel.specs.declared.words.DataModel.{DataModel};
+ghost use Rattle.esto_docmodel.specs.Words.{IsBaseOf, IsPart, IsPartOf};
 
-use esto_term::{List, Text};
-
-/// What a dataset is.
-#[derive(Clone, Copy, PartialEq, Eq)]
-pub enum DataModel {
-    /// A table: one relation.
-    Table,
-    /// A collection of documents: five relations, in the order root, field, item, value, below.
-    Documents,
-    /// A key-value set: one relation of key, field and value.
-    Keys,
-}
-
-/// A dataset's name, what it is, and the number of its first relation.
-#[derive(Drop)]
-pub struct Word {
-    pub name: Text,
-    pub model: DataModel,
-    pub base: usize,
-}
-
-/// The names that a text may use. Where a `Schema` has each relation by its own name, with its number
-/// of columns, a vocabulary has each dataset by its name, with its model and its first relation.
-pub type Vocabulary = List<Word>;
+use esto_docmodel::{DataModel, Word};
 
 /// Whether it is the word of the dataset of that name and model.
 fn is_dataset(word: &Word, name: &[u8], model: DataModel) -> bool

@@ -19,7 +19,7 @@ use Rattle.esto_read.specs.Heads.{HasText, AreDifferent, IsFirstRepeat, AreMenti
 use Rattle.esto_read.specs.Readings.{IsAllowed, IsRefused, IsHeadFit, IsHeadFault}
 use Rattle.esto_read.specs.declared.read.Form.{Form}
 use Rattle.esto_read.specs.declared.read.Form.TheVariants.{Query, View}
-use Rattle.esto_reading_laws.proofs.DecisionLemmas.{same_bytes}
+use Rattle.esto_term.proofs.DecisionLemmas.{same_bytes}
 
 -- of a property that is decided at each thing of a list: the first place at which it holds, or it holds nowhere
 pub first_at : {A : Type 0} (P : ℕ → A → Type 0) → ((place : ℕ) (thing : A) → Decided (P place thing)) → (things : List A)

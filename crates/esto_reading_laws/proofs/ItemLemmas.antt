@@ -16,12 +16,12 @@ use Rattle.esto_text.specs.declared.fault.TextFault.{TextFault}
 use Rattle.esto_text.specs.declared.fault.TextKind.{TextKind}
 use Rattle.esto_text.specs.declared.fault.TextKind.TheVariants.{Unknown, Arity, TooLarge}
 use Rattle.esto_read.specs.Items.{name_of, IsRelationOf, HasArity, item_size, IsFitting, IsMisfit, AreFitting, IsFirstItemFault, AreAtomsOf, AreItems}
-use Rattle.esto_read.specs.Words.{IsBaseOf, IsPart, IsPartOf}
-use Rattle.esto_read.specs.declared.words.DataModel.{DataModel}
-use Rattle.esto_read.specs.declared.words.DataModel.TheVariants.{Table, Documents, Keys}
-use Rattle.esto_read.specs.declared.words.Word.{Word}
+use Rattle.esto_docmodel.specs.Words.{IsBaseOf, IsPart, IsPartOf}
+use Rattle.esto_docmodel.specs.declared.words.DataModel.{DataModel}
+use Rattle.esto_docmodel.specs.declared.words.DataModel.TheVariants.{Table, Documents, Keys}
+use Rattle.esto_docmodel.specs.declared.words.Word.{Word}
 use Rattle.esto_reading_laws.proofs.PartLemmas.{atom_of, pattern_of}
-use Rattle.esto_reading_laws.proofs.DecisionLemmas.{same_bytes}
+use Rattle.esto_term.proofs.DecisionLemmas.{same_bytes}
 
 -- ---- words
 

@@ -1,4 +1,3 @@
-pub mod DecisionLemmas
 pub mod TokenLemmas
 pub mod TreeLemmas
 pub mod PartLemmas

@@ -25,7 +25,7 @@ use Rattle.esto_text.specs.declared.tree.StepSyntax.TheVariants.{Field, Item, Be
 use Rattle.esto_read.specs.Items.{IsAtomOf}
 use Rattle.esto_read.specs.Patterns.{IsFieldOf, IsStepOf, AreEntries, IsPatternOf}
 use Rattle.esto_read.specs.Terms.{IsVariableOf, IsTermOf, AreTerms}
-use Rattle.esto_reading_laws.proofs.DecisionLemmas.{same_bytes}
+use Rattle.esto_term.proofs.DecisionLemmas.{same_bytes}
 
 -- ---- names
 

@@ -17,10 +17,10 @@ use Rattle.esto_read.proofs.ReadLemmas.{query_parts, sound}
 use Rattle.esto_read.proofs.UnionLemmas.{end_parts}
 use Rattle.esto_read.specs.Readings.{IsRead, HasParts, IsSaid, IsTreeFault, IsReading, IsFirstFault}
 use Rattle.esto_read.specs.Unions.{head_length, IsSaidWith, AreSaid, IsFaultWith, IsFirstFaultWith, IsUnionReading, IsFirstUnionFault}
-use Rattle.esto_read.specs.Words.{HasRelations, IsVocabulary}
+use Rattle.esto_docmodel.specs.Words.{HasRelations, IsVocabulary}
 use Rattle.esto_read.specs.declared.read.Form.{Form}
 use Rattle.esto_read.specs.declared.read.Form.TheVariants as form
-use Rattle.esto_read.specs.declared.words.Word.{Word}
+use Rattle.esto_docmodel.specs.declared.words.Word.{Word}
 use Rattle.esto_reading_laws.specs.Totality.{HasOneOf}
 use Rattle.esto_reading_laws.proofs.HeadLemmas.{head_fits}
 use Rattle.esto_reading_laws.proofs.ItemLemmas.{items_fit, items_of}

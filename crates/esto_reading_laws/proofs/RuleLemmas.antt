@@ -22,8 +22,8 @@ use Rattle.esto_read.proofs.RuleLemmas.{name_is_term, sides_are, head_stands, tu
 use Rattle.esto_read.specs.Constraints.{IsTupleRead, IsEqualityRead, IsDenialRead, IsRuleOf, IsRuleHeadFault, IsRuleFault, IsConstraintReading}
 use Rattle.esto_read.specs.Constraints.{IsConstraintFault}
 use Rattle.esto_read.specs.Items.{AreFitting, AreItems}
-use Rattle.esto_read.specs.Words.{HasRelations, IsVocabulary}
-use Rattle.esto_read.specs.declared.words.Word.{Word}
+use Rattle.esto_docmodel.specs.Words.{HasRelations, IsVocabulary}
+use Rattle.esto_docmodel.specs.declared.words.Word.{Word}
 use Rattle.esto_reading_laws.specs.Totality.{HasOneOf}
 use Rattle.esto_reading_laws.proofs.ItemLemmas.{items_fit, items_of}
 use Rattle.esto_reading_laws.proofs.PartLemmas.{term_of}

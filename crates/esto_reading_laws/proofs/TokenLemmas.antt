@@ -22,7 +22,7 @@ use Rattle.esto_text.specs.declared.token.Token.{Token}
 use Rattle.esto_text.specs.declared.token.TokenKind.{TokenKind}
 use Rattle.esto_text.specs.declared.token.TokenKind.TheVariants.{Name, Wildcard, Quoted, Number, LeftParen, RightParen, LeftBrace, RightBrace, LeftBracket}
 use Rattle.esto_text.specs.declared.token.TokenKind.TheVariants.{RightBracket, Comma, Dot, Colon, Turnstile, Arrow, Equals, Stars, Semicolon, Stray}
-use Rattle.esto_reading_laws.proofs.DecisionLemmas.{at_most, same_bytes, all_of, greatest}
+use Rattle.esto_term.proofs.DecisionLemmas.{at_most, same_bytes, all_of, greatest}
 
 -- ---- bytes
 

@@ -22,7 +22,7 @@ use Rattle.esto_text.specs.declared.version.Version.TheVariants.{One, Two}
 use Rattle.esto_reading_laws.specs.Totality.{HasOneOf}
 use Rattle.esto_reading_laws.specs.GrammarLaws.{HaveTreeOrStop}
 use Rattle.esto_reading_laws.proofs.TokenLemmas.{have_tokens}
-use Rattle.esto_reading_laws.proofs.DecisionLemmas.{same_bytes}
+use Rattle.esto_term.proofs.DecisionLemmas.{same_bytes}
 
 -- ---- queries and layouts
 

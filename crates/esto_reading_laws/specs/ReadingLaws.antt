@@ -7,9 +7,9 @@ use Rattle.esto_read.specs.Constraints.{IsConstraintReading, IsConstraintFault, 
 use Rattle.esto_read.specs.Layouts.{AreColumns, IsLayoutReading, IsLayoutFault}
 use Rattle.esto_read.specs.Readings.{IsReading, IsFirstFault, AreSame}
 use Rattle.esto_read.specs.Unions.{IsUnionReading, IsFirstUnionFault, AreAllSame}
-use Rattle.esto_read.specs.Words.{IsVocabulary}
+use Rattle.esto_docmodel.specs.Words.{IsVocabulary}
 use Rattle.esto_read.specs.declared.read.Form.{Form}
-use Rattle.esto_read.specs.declared.words.Word.{Word}
+use Rattle.esto_docmodel.specs.declared.words.Word.{Word}
 use Rattle.esto_reading_laws.specs.Totality.{IsTotal, IsFunction}
 
 -- Over each vocabulary, whatever the bytes are, they have a reading as a query or a view, or a first fault.

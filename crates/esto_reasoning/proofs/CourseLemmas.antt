@@ -1,5 +1,5 @@
 -- What is told of queries asks for nothing.
-use Rattle.esto_catalog.specs.declared.catalogue.Catalogue.{Catalogue}
+use Rattle.esto_mapping.specs.declared.catalogue.Catalogue.{Catalogue}
 use Rattle.esto_course.specs.Course.{IsQuiet, and_then}
 use Rattle.esto_course.proofs.Asking.{quiet_demands, quiet_judges, quiet_then}
 use Rattle.esto_query.specs.declared.query.Query.{Query}

@@ -22,7 +22,8 @@ use Rattle.esto_semantics.specs.Queries.{ConjunctiveQuery, IsQuery}
 use Rattle.esto_semantics.specs.Rules.{Rule, AreRules}
 use Rattle.esto_semantics.specs.declared.fact.Fact.{Fact}
 use Rattle.esto_term.specs.declared.term.Term.{Term}
-use Rattle.esto_universal.specs.PlannedLaws.{ClashedIsUnsatisfiable, ClashOfRunIsOne}
+use Rattle.esto_universal.specs.PlannedLaws.{ClashOfRunIsOne}
+use Rattle.esto_chase.specs.ChasedLaws.{ClashedIsUnsatisfiable}
 use Rattle.esto_opening.proofs.StatusLemmas.{done_not_clash, same_clash}
 use Rattle.esto_reasoning.specs.Contains.{IsNoText, SaysTold}
 use Rattle.esto_reasoning.specs.Exact.{ContainsExactly, IsWithin, MinimisesExactly}

@@ -1,7 +1,7 @@
 -- Where courses over files that say catalogues and queries lead, and that they are one.
 use Rattle.std.proofs.Common.{◌≡◌, ℕ, List, Some, ap, subst}
-use Rattle.esto_catalog.specs.Determined.{AreSame}
-use Rattle.esto_catalog.specs.declared.catalogue.Catalogue.{Catalogue}
+use Rattle.esto_mapping.specs.Catalogues.{AreSame}
+use Rattle.esto_mapping.specs.declared.catalogue.Catalogue.{Catalogue}
 use Rattle.esto_constraint.specs.Constraints.{rules_of}
 use Rattle.esto_course.specs.Course.{Course, gives, and_then}
 use Rattle.esto_course.proofs.Determined.{then_agree, gives_agree}

@@ -1,6 +1,6 @@
 -- The command `contains`.
 use Rattle.std.specs.Prelude.{◌≡◌, ℕ, List, Option, length, codes}
-use Rattle.esto_catalog.specs.declared.catalogue.Catalogue.{Catalogue}
+use Rattle.esto_mapping.specs.declared.catalogue.Catalogue.{Catalogue}
 use Rattle.esto_constraint.specs.Constraints.{rules_of}
 use Rattle.esto_contain.specs.Contained.{TellsContained}
 use Rattle.esto_contain.specs.declared.containing.Contain.{Contain}

@@ -1,8 +1,8 @@
 -- The texts that `contains` and `minimise` print.
 use Rattle.std.specs.Prelude.{ℕ, ◌+◌, Bool, Option, Some, None, List, [], ◌∷◌, ◌++◌, length, slice_get, codes}
 use Rattle.std.specs.Fmt.{decimal}
-use Rattle.esto_list.specs.Names.{met_terms}
-use Rattle.esto_list.specs.Text.{count_line, each_from, numbers_text, terms_text}
+use Rattle.esto_views.specs.Names.{met_terms}
+use Rattle.esto_views.specs.Printing.{count_line, each_from, numbers_text, terms_text}
 use Rattle.esto_query.specs.declared.query.Name.{Name}
 use Rattle.esto_semantics.specs.Sets.{numbers}
 use Rattle.esto_semantics.specs.declared.fact.Fact.{Fact}

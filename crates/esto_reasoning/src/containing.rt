@@ -9,8 +9,8 @@ ghost use Rattle.esto_reasoning.specs.Contains.{IsNoText, SaysTold, compares, co
 ghost use Rattle.esto_reasoning.specs.Contains.{tells_contained};
 
 use crate::printing::no_text;
-use esto_catalog::Catalogue;
 use esto_contain::{Contain, contained};
+use esto_mapping::Catalogue;
 use esto_opening::{Reply, Status, open_catalogue, open_query};
 use esto_ports::Shelf;
 use esto_query::{Facts, Query, queries_are_sound};

@@ -10,8 +10,8 @@ ghost use Rattle.esto_reasoning.specs.Minimise.{IsMinimalText, IsMinimisedTo, mi
 
 use crate::printing::minimal_text;
 use either::{Left, Right};
-use esto_catalog::Catalogue;
 use esto_contain::Minimal;
+use esto_mapping::Catalogue;
 use esto_opening::{Reply, Status, open_catalogue, open_query};
 use esto_ports::Shelf;
 use esto_query::Query;

@@ -1,15 +1,15 @@
 //! The texts that `contains` and `minimise` print.
 ghost use Rattle.std.specs.Prelude.{◌≡◌, ◌++◌, [], slice_get, IfOk, OnOk};
-ghost use Rattle.esto_list.specs.Names.{met_terms};
-ghost use Rattle.esto_list.specs.Text.{each_from};
+ghost use Rattle.esto_views.specs.Names.{met_terms};
+ghost use Rattle.esto_views.specs.Printing.{each_from};
 ghost use Rattle.esto_query.specs.Schemas.{names_of};
 ghost use Rattle.esto_reasoning.specs.Texts.{fact_line, fact_text, facts_lines, head_line, met_facts, minimal_text, no_text, numbered_line, relation_name};
 ghost use Rattle.esto_reasoning.specs.Texts.{set_line};
 
 use esto_bits::{RowBits, SetList};
-use esto_list::{meet_terms, put_count, put_number, put_numbers, put_terms};
 use esto_query::{Atom, Names, Schema};
 use esto_term::{Bytes, OutOfMemory, Term, Values};
+use esto_views::{meet_terms, put_count, put_number, put_numbers, put_terms};
 use std::alloc::Global;
 
 // Notes the variables of facts that have no name and weren't met.

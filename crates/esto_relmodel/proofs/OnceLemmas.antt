@@ -1,9 +1,10 @@
 -- Things each once: one thing more.
 use Rattle.std.proofs.Common.{◌≡◌, inl, inr, ℕ, Bool, true, false, ◌<◌, ◌≤◌, ◌+◌, List, [], ◌∷◌, ◌++◌, take, length, get_or, Contains, AllPairs, sym, ap, ◌∙◌, subst}
-use Rattle.std.proofs.Common.{arith}
-use Rattle.std.proofs.lemmas.List.{take_all}
+use Rattle.std.proofs.Common.{refl, arith}
+use Rattle.std.proofs.lemmas.List.{append_assoc, append-nil, take_all}
 use Rattle.std.proofs.lemmas.List.Elements.{Contains-append_left, Contains-append_right, Contains-push_cases}
-use Rattle.esto_term.proofs.ChoiceLemmas.{pairs_append}
+use Rattle.esto_term.proofs.ChoiceLemmas.{Decided, pairs_append}
+use Rattle.esto_term.proofs.DecisionLemmas.{same_bytes, same_list, contains}
 use Rattle.std.proofs.lemmas.Option.{slice_get_within}
 use Rattle.esto_term.proofs.ListLemmas.{Contains-at, Contains-head, Contains-one, at_left, at_pushed, place-from_Contains}
 use Rattle.esto_term.proofs.PlaceLemmas.{take-item}
@@ -102,3 +103,25 @@ pub all_new : {X : Type 0} (rows seen : List X) (count : ℕ) → length rows �
     → AreEachOnce rows rows
 all_new rows seen count all before =
     subst (AreEachOnce rows) (before.0 ∙ take_all count rows all) (all_rows rows seen count all before.1)
+
+-- ---- the things of a list, each once
+
+module _ {A : Type 0} (same : (thing other : A) → Decided (thing ≡ other)) where
+  once_from : (seen rest kept : List A) → AreEachOnce seen kept → (all : List A) × AreEachOnce (seen ++ rest) all
+  once_from seen [] kept are = (kept, subst (λ (things : List A). AreEachOnce things kept) (sym (append-nil seen)) are)
+  once_from seen (thing ∷ rest) kept are =
+      let (next, more) = add (contains same kept thing) in
+      let (all, is) = once_from (seen ++ thing ∷ []) rest next more in
+      (all, subst (λ (things : List A). AreEachOnce things all) (append_assoc seen (thing ∷ []) rest) is)
+    where
+      add : Decided (Contains kept thing) → (next : List A) × AreEachOnce (seen ++ thing ∷ []) next
+      add (inl there) = (kept, one_more false kept kept thing (there, refl) seen are)
+      add (inr new) = (kept ++ thing ∷ [], one_more true kept (kept ++ thing ∷ []) thing (new, refl) seen are)
+
+  -- the things of a list, each once, in order of first occurrence
+  pub each_once : (things : List A) → (kept : List A) × AreEachOnce things kept
+  each_once things = once_from [] things [] start
+
+-- rows are there each once
+pub rows_once : (rows : List (List (List ℕ))) → (kept : List (List (List ℕ))) × AreEachOnce rows kept
+rows_once = each_once (same_list same_bytes)

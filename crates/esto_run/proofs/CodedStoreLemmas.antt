@@ -1,9 +1,9 @@
 -- The rows of fragments' files as rows of codes.
 use Rattle.std.proofs.Common.{◌≡◌, ℕ, List, length, Option, None, Contains, sym, subst}
 use Rattle.std.specs.Prelude.{Result, Ok, Err}
-use Rattle.esto_catalog.specs.Soundness.{IsShapeFor}
-use Rattle.esto_catalog.specs.declared.catalogue.Shape.{Shape}
-use Rattle.esto_catalog.specs.declared.catalogue.Shape.TheVariants.{Table, Keys}
+use Rattle.esto_mapping.specs.Soundness.{IsShapeFor}
+use Rattle.esto_mapping.specs.declared.catalogue.Shape.{Shape}
+use Rattle.esto_mapping.specs.declared.catalogue.Shape.TheVariants.{Table, Keys}
 use Rattle.esto_columns.specs.CodedRows.{CodedRows}
 use Rattle.esto_columns.specs.Interned.{AreCodedRows}
 use Rattle.esto_ports.specs.declared.file_fault.FileError.{FileError}

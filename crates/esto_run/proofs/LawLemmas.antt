@@ -12,7 +12,7 @@ use Rattle.esto_semantics.specs.Views.{IsFragmentAnswer}
 use Rattle.esto_semantics.specs.declared.fact.Value.TheVariants.{Text}
 use Rattle.esto_stores.specs.Rows.{Row}
 use Rattle.esto_run.specs.Laws.{AnswersAreOverFiles, IsAnswerOver, RewritingsAnswerQueries, RisingRowsAreOne, UnionsAnswerOverFiles}
-use Rattle.esto_catalog.specs.declared.catalogue.Store.{Store}
+use Rattle.esto_mapping.specs.declared.catalogue.Store.{Store}
 use Rattle.esto_run.specs.Stores.{IsFileRow, IsRowIn}
 
 pub answers_over_files : AnswersAreOverFiles

@@ -6,16 +6,16 @@ use Rattle.std.proofs.lemmas.Bool.{cases_order, eqb-true}
 use Rattle.std.proofs.lemmas.List.{length-map}
 use Rattle.std.proofs.lemmas.Option.{none-some}
 use Rattle.esto_term.specs.declared.term.Term.TheVariants.{Plain}
-use Rattle.esto_catalog.specs.Soundness.{IsShapeFor}
-use Rattle.esto_catalog.specs.declared.catalogue.Shape.{Shape}
-use Rattle.esto_catalog.specs.declared.catalogue.Shape.TheVariants.{Table, Documents, Keys}
+use Rattle.esto_mapping.specs.Soundness.{IsShapeFor}
+use Rattle.esto_mapping.specs.declared.catalogue.Shape.{Shape}
+use Rattle.esto_mapping.specs.declared.catalogue.Shape.TheVariants.{Table, Documents, Keys}
 use Rattle.esto_docmodel.specs.Layouts.{IsLayout, AreLaidOut, StandsOnce}
 use Rattle.esto_docmodel.specs.Patterns.{Entries, done, holds, group}
 use Rattle.esto_docmodel.specs.Shapes.{entries_of}
 use Rattle.esto_docmodel.specs.declared.pattern.Pattern.{Pattern}
 use Rattle.esto_docs.specs.Files.{file_trees, trees_fault}
 use Rattle.esto_docs.specs.Rows.{IsRowOf, GivesRows}
-use Rattle.esto_docs.specs.declared.layout.Layout.{Layout}
+use Rattle.esto_docmodel.specs.declared.file.Layout.{Layout}
 use Rattle.esto_lines.specs.Faults.{Gives, fault_at}
 use Rattle.esto_ports.specs.declared.file_fault.FileError.{FileError}
 use Rattle.esto_ports.specs.declared.file_fault.FileError.TheVariants.{Fault, OutOfMemory}

@@ -1,6 +1,6 @@
 -- What laws on runs say.
 use Rattle.std.specs.Prelude.{◌≡◌, ◌↔◌, ℕ, Bool, List, map, Contains}
-use Rattle.esto_catalog.specs.declared.catalogue.Store.{Store}
+use Rattle.esto_mapping.specs.declared.catalogue.Store.{Store}
 use Rattle.esto_steps.specs.Rows.{IsRowOf, held_by}
 use Rattle.esto_plan.specs.Rows.{IsSafeQuery}
 use Rattle.esto_semantics.specs.Access.{Patterns}

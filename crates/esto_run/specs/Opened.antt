@@ -1,6 +1,6 @@
 -- The rows of fragments, as far as their files are opened.
 use Rattle.std.specs.Prelude.{◌≡◌, ◌<◌, ◌↔◌, ℕ, List, [], Some, length, map, slice_get, slice_set, slice_index_or, Contains}
-use Rattle.esto_catalog.specs.declared.catalogue.Store.{Store}
+use Rattle.esto_mapping.specs.declared.catalogue.Store.{Store}
 use Rattle.esto_columns.specs.Asked.{Shape}
 use Rattle.esto_columns.specs.declared.stored.StoredRows.{StoredRows}
 use Rattle.esto_plan.specs.Planned.{inputs_of}

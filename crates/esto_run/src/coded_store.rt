@@ -1,13 +1,13 @@
 //! The rows of a fragment's file as rows of codes.
 ghost use Rattle.std.specs.Prelude.{length};
-ghost use Rattle.esto_catalog.specs.Soundness.{IsShapeFor};
+ghost use Rattle.esto_mapping.specs.Soundness.{IsShapeFor};
 ghost use Rattle.esto_columns.specs.Interned.{Grows};
 ghost use Rattle.esto_run.specs.Coded.{CodesFile};
 ghost use Rattle.esto_run.specs.Stores.{IsRowIn, first_fault_in};
 
 use crate::store::rows_in;
-use esto_catalog::Shape;
 use esto_columns::{Codes, Rows, code_taken_rows};
+use esto_mapping::Shape;
 use esto_ports::FileError;
 use esto_stores::{code_keys, code_table};
 use esto_views::FragmentDef;

@@ -1,6 +1,6 @@
 //! The rows of all fragments, opened one by one.
 ghost use Rattle.std.specs.Prelude.{◌≡◌, ◌≢◌, ℕ, List, [], ◌∷◌, ◌++◌, ◌<◌, length, map, slice_get, IfOk, IfSome, OnOk, OnErr};
-ghost use Rattle.esto_catalog.specs.declared.catalogue.Store.{Store};
+ghost use Rattle.esto_mapping.specs.declared.catalogue.Store.{Store};
 ghost use Rattle.esto_lines.specs.Faults.{Gives};
 ghost use Rattle.esto_steps.specs.Rows.{held_by};
 ghost use Rattle.esto_run.specs.Opened.{AreRowsFor, AreOpened, rows_held, unopened};
@@ -8,8 +8,8 @@ ghost use Rattle.esto_run.specs.Stores.{first_fault_in};
 
 use crate::held::FragmentRows;
 use crate::stored::stored_rows;
-use esto_catalog::{Catalogue, catalogues_are_sound};
 use esto_columns::Rows;
+use esto_mapping::{Catalogue, catalogues_are_sound};
 use esto_ports::FileError;
 use esto_term::{List, OutOfMemory};
 use esto_views::FragmentDefs;

@@ -1,11 +1,11 @@
 //! The rows of a fragment's file.
 ghost use Rattle.std.specs.Prelude.{length, IfOk};
-ghost use Rattle.esto_catalog.specs.Soundness.{IsShapeFor};
+ghost use Rattle.esto_mapping.specs.Soundness.{IsShapeFor};
 ghost use Rattle.esto_run.specs.Opened.{HaveWidth};
 ghost use Rattle.esto_run.specs.Stores.{IsRowIn, first_fault_in, GivesRows};
 
-use esto_catalog::{Shape, Store};
 use esto_docs::open_documents;
+use esto_mapping::{Shape, Store};
 use esto_ports::FileError;
 use esto_stores::{open_keys, open_table};
 use esto_term::TextRows;

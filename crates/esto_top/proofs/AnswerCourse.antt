@@ -1,6 +1,6 @@
 -- The course of `answer` comes to an end.
 use Rattle.std.proofs.Common.{List, map, Some, Contains, subst}
-use Rattle.esto_catalog.specs.declared.catalogue.Catalogue.{Catalogue}
+use Rattle.esto_mapping.specs.declared.catalogue.Catalogue.{Catalogue}
 use Rattle.esto_course.specs.Course.{gives}
 use Rattle.esto_data.specs.Answer.{IsUnionAnswerOfFacts, answers_facts, answers_union, lists_texts}
 use Rattle.esto_data.specs.Datasets.{OneNames, loads}

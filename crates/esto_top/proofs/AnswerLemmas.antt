@@ -13,7 +13,7 @@ use Rattle.esto_semantics.specs.declared.fact.Fact.{Fact}
 use Rattle.esto_semantics.proofs.FactLemmas.{SendsInto-agree, Mentions-sent, decided_sends}
 use Rattle.esto_semantics.proofs.TermLemmas.{decided_term}
 use Rattle.esto_chase_laws.proofs.MakingLemmas.{terms_of-Mentions}
-use Rattle.esto_reading_laws.proofs.DecisionLemmas.{same_list}
+use Rattle.esto_term.proofs.DecisionLemmas.{same_list}
 use Rattle.esto_top.proofs.ListedLemmas.{Listed}
 use Rattle.esto_top.proofs.MapLemmas.{AreMaps, maps_listed, map_decided}
 

@@ -11,8 +11,8 @@ use Rattle.std.proofs.lemmas.List.{length-map, take_all}
 use Rattle.std.proofs.lemmas.List.FromFn.{length-range_with_len}
 use Rattle.std.proofs.lemmas.List.Elements.{Contains-append_cases, Contains-append_left, Contains-append_right}
 use Rattle.std.proofs.lemmas.Option.{same_Some, slice_get_within}
-use Rattle.esto_catalog.specs.declared.catalogue.Catalogue.{Catalogue}
-use Rattle.esto_catalog.specs.declared.catalogue.Store.{Store}
+use Rattle.esto_mapping.specs.declared.catalogue.Catalogue.{Catalogue}
+use Rattle.esto_mapping.specs.declared.catalogue.Store.{Store}
 use Rattle.esto_chase_laws.specs.RunLaws.{RulesAreDecided}
 use Rattle.esto_constraint.specs.Constraints.{rules_of, rule_of}
 use Rattle.esto_constraint.specs.EncodingRules.{written}
@@ -57,12 +57,12 @@ use Rattle.esto_term.proofs.ListLemmas.{Contains-at, Contains-nil, Contains-head
 use Rattle.esto_term.proofs.PlaceLemmas.{Contains-take, Contains-take_from}
 use Rattle.esto_views.specs.Fragments.{views_of}
 use Rattle.esto_views.specs.declared.fragments.FragmentDef.{FragmentDef}
-use Rattle.esto_input_laws.proofs.DatasetLemmas.{each_once}
+use Rattle.esto_relmodel.proofs.OnceLemmas.{each_once}
 use Rattle.esto_top.specs.Ends.{Ends, EndsOrLacks}
 use Rattle.esto_top.specs.LawsBelow.{BelowLaws}
 use Rattle.esto_top.proofs.CourseLemmas.{ends_judged, ends_refused, ends_then, gives_ends, judges_accepts, judges_refuses}
 use Rattle.esto_top.proofs.DataEndLemmas.{loads_end}
-use Rattle.esto_reading_laws.proofs.DecisionLemmas.{same_list}
+use Rattle.esto_term.proofs.DecisionLemmas.{same_list}
 use Rattle.esto_top.proofs.ListedLemmas.{Listed}
 use Rattle.esto_top.proofs.FileLemmas.{file_rows}
 use Rattle.esto_top.proofs.PlannedLemmas.{are_rules, views_are}

@@ -36,7 +36,7 @@ use Rattle.esto_views.specs.declared.plan.Plan.{Plan}
 use Rattle.esto_views.proofs.FlatLemmas.{named-flat}
 use Rattle.esto_views.proofs.FormLemmas.{plan_form}
 use Rattle.esto_top.specs.LawsBelow.{BelowLaws, BenchLaws}
-use Rattle.esto_reading_laws.proofs.DecisionLemmas.{same_list}
+use Rattle.esto_term.proofs.DecisionLemmas.{same_list}
 use Rattle.esto_top.proofs.ListLemmas.{items_exist}
 use Rattle.esto_top.proofs.PlanLemmas.{stated_exists}
 use Rattle.esto_top.proofs.RewritingLemmas.{Chases, IsPlanKnown, listed_sets_exist, RunsEnd}

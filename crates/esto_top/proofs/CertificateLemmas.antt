@@ -1,7 +1,7 @@
 -- What `verify` answers where nothing is wrong with the catalogue's and the query's files.
 use Rattle.std.proofs.Common.{◌≡◌, ◌↔◌, ℕ, Bool, List, length, Option, Some, None, sym, ap, subst, ◌∙◌, inl, inr}
 use Rattle.std.proofs.lemmas.Option.{none-some, same_Some}
-use Rattle.esto_catalog.specs.declared.catalogue.Catalogue.{Catalogue}
+use Rattle.esto_mapping.specs.declared.catalogue.Catalogue.{Catalogue}
 use Rattle.esto_certify.specs.Laws.{Certifies, IsChecked, IsVerified, SaysVerdict, VerifyChecksCertificates, VerifyIsOne, VerifySaysVerdicts}
 use Rattle.esto_certify.specs.Laws.IsChecked.{is_above, not_fetched, accepts, rejects}
 use Rattle.esto_certify.specs.Laws.IsVerified.{clashes, has_plan}

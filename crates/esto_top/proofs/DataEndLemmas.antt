@@ -5,8 +5,8 @@ use Rattle.std.specs.Prelude.{IsSome}
 use Rattle.std.proofs.lemmas.Option.{slice_get_within}
 use Rattle.std.proofs.lemmas.Bool.{cases_lt}
 use Rattle.std.proofs.lemmas.List.Elements.{Contains-append_cases}
-use Rattle.esto_catalog.specs.Datasets.{relation_count}
-use Rattle.esto_catalog.specs.declared.dataset.Dataset.{Dataset}
+use Rattle.esto_mapping.specs.Datasets.{relation_count}
+use Rattle.esto_mapping.specs.declared.dataset.Dataset.{Dataset}
 use Rattle.esto_course.specs.Course.{Course, judges, demands, gives, and_then, each}
 use Rattle.esto_data.specs.Datasets.{AreFactsOfFiles, AreNeeded, HasRelation, IsSourceAt, Names, OneNames, Source, demands_file, demands_files, loads, loads_files}
 use Rattle.esto_data.specs.Datasets.{loads_next, opens_dataset, opens_source, reads_data}
@@ -24,7 +24,7 @@ use Rattle.esto_semantics.specs.declared.fact.Fact.{Fact}
 use Rattle.esto_term.specs.declared.term.Term.{Term}
 use Rattle.esto_term.proofs.ChoiceLemmas.{Decided, decided_both, decided_in}
 use Rattle.esto_term.proofs.ListLemmas.{Contains-nil, Contains-head, Contains-rest, Contains-cases, thing_at}
-use Rattle.esto_reading_laws.proofs.DecisionLemmas.{at_most}
+use Rattle.esto_term.proofs.DecisionLemmas.{at_most}
 use Rattle.esto_input_laws.proofs.DatasetLemmas.{AreOf, facts_from}
 use Rattle.esto_top.specs.Ends.{Ends, EndsOrLacks}
 use Rattle.esto_top.proofs.CourseLemmas.{each_ends, ends_judged, ends_then, fetches_ends, gives_ends, judges_accepts, judges_refuses}

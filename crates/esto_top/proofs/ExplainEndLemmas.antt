@@ -1,6 +1,6 @@
 -- The course of `explain` comes to an end: the set of the number has a certificate.
 use Rattle.std.proofs.Common.{◌≡◌, ℕ, List, None, Some, slice_get}
-use Rattle.esto_catalog.specs.declared.catalogue.Catalogue.{Catalogue}
+use Rattle.esto_mapping.specs.declared.catalogue.Catalogue.{Catalogue}
 use Rattle.esto_certify.specs.Explain.{certifies_item, explain_course, explains_plan, explains_query, explains_read}
 use Rattle.esto_certify.specs.Laws.{ListedSetsHaveOne}
 use Rattle.esto_certify.specs.Verify.{HasVerdict}

@@ -1,7 +1,7 @@
 -- What `explain` answers where the files say a catalogue and a query over it.
 use Rattle.std.proofs.Common.{◌≡◌, ◌≢◌, ◌↔◌, ℕ, ◌-◌, ◌<◌, List, [], length, slice_get, Option, Some, None, refl, sym, ap, subst, ◌∙◌, inl, inr, arith}
 use Rattle.std.proofs.lemmas.Option.{none-some, same_Some, slice_get_within}
-use Rattle.esto_catalog.specs.declared.catalogue.Catalogue.{Catalogue}
+use Rattle.esto_mapping.specs.declared.catalogue.Catalogue.{Catalogue}
 use Rattle.esto_cert.specs.declared.line.Line.TheVariants.{Match}
 use Rattle.esto_certify.specs.Explain.{explain_course}
 use Rattle.esto_certify.specs.Laws.{Certifies, CertifiesOverPlans, ExplainSaysCertificates, IsExplained}

@@ -7,10 +7,10 @@ use Rattle.std.proofs.lemmas.Bool.{cases_eq}
 use Rattle.esto_term.specs.declared.term.Term.{Term}
 use Rattle.esto_term.proofs.ChoiceLemmas.{in_order}
 use Rattle.esto_term.proofs.ListLemmas.{Contains-map, Contains-map_from}
-use Rattle.esto_catalog.specs.Soundness.{AreShapes}
-use Rattle.esto_catalog.specs.declared.catalogue.Catalogue.{Catalogue}
-use Rattle.esto_catalog.specs.declared.catalogue.Shape.{Shape}
-use Rattle.esto_catalog.specs.declared.catalogue.Store.{Store}
+use Rattle.esto_mapping.specs.Soundness.{AreShapes}
+use Rattle.esto_mapping.specs.declared.catalogue.Catalogue.{Catalogue}
+use Rattle.esto_mapping.specs.declared.catalogue.Shape.{Shape}
+use Rattle.esto_mapping.specs.declared.catalogue.Store.{Store}
 use Rattle.esto_docs.specs.Rows.{GivesRows, text_in}
 use Rattle.esto_docs.proofs.RowLemmas.{text_constant}
 use Rattle.esto_fill.proofs.OrderLemmas.{texts_exact, texts_total}
@@ -30,7 +30,7 @@ use Rattle.esto_stores.specs.Rows.{Row}
 use Rattle.esto_reading_laws.specs.Totality.{HasOneOf}
 use Rattle.esto_input_laws.specs.FileLaws.{StoredRowsAreTotal}
 use Rattle.esto_top.proofs.AnswerLemmas.{answers_listed}
-use Rattle.esto_reading_laws.proofs.DecisionLemmas.{same_list}
+use Rattle.esto_term.proofs.DecisionLemmas.{same_list}
 use Rattle.esto_top.proofs.ListedLemmas.{Listed, each_listed}
 
 abbrev pub row_fact : ℕ → Row → Fact (List ℕ)

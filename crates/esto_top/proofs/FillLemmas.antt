@@ -6,9 +6,9 @@ use Rattle.std.specs.Prelude.{All}
 use Rattle.std.proofs.lemmas.Bool.{ltb-true}
 use Rattle.std.proofs.lemmas.List.Elements.{All-cons, All-nil}
 use Rattle.std.proofs.lemmas.Option.{same_Some, slice_get_within}
-use Rattle.esto_catalog.specs.declared.catalogue.Catalogue.{Catalogue}
-use Rattle.esto_catalog.specs.declared.catalogue.Shape.{Shape}
-use Rattle.esto_catalog.specs.declared.catalogue.Shape.TheVariants.{Table, Documents, Keys}
+use Rattle.esto_mapping.specs.declared.catalogue.Catalogue.{Catalogue}
+use Rattle.esto_mapping.specs.declared.catalogue.Shape.{Shape}
+use Rattle.esto_mapping.specs.declared.catalogue.Shape.TheVariants.{Table, Documents, Keys}
 use Rattle.std.specs.List.{list_any}
 use Rattle.esto_course.specs.Course.{Course, and_then, gives}
 use Rattle.esto_data.specs.Datasets.{Names, loads}
@@ -34,7 +34,7 @@ use Rattle.esto_stores.specs.Rows.{Row}
 use Rattle.esto_term.proofs.ListLemmas.{map_at-from, place-from_Contains, thing_at}
 use Rattle.esto_term.specs.declared.term.Term.{Term}
 use Rattle.esto_views.specs.declared.fragments.FragmentDef.{FragmentDef}
-use Rattle.esto_reading_laws.proofs.DecisionLemmas.{same_bytes}
+use Rattle.esto_term.proofs.DecisionLemmas.{same_bytes}
 use Rattle.esto_reading_laws.proofs.HeadLemmas.{first_at}
 use Rattle.esto_top.specs.Ends.{Ends, EndsOrLacks}
 use Rattle.esto_top.specs.LawsBelow.{BelowLaws, ReadingLaws}

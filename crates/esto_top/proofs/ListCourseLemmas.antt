@@ -1,6 +1,6 @@
 -- The course of `list`, where the text of the list is made or not.
 use Rattle.std.proofs.Common.{◌≡◌, ℕ, List, [], ◌∷◌, length, Option, Result, Ok, refl, subst}
-use Rattle.esto_catalog.specs.declared.catalogue.Catalogue.{Catalogue}
+use Rattle.esto_mapping.specs.declared.catalogue.Catalogue.{Catalogue}
 use Rattle.esto_course.specs.Course.{IsQuiet, Names, Stops, gives, and_then}
 use Rattle.esto_course.proofs.Asking.{quiet_gives, quiet_judges, quiet_then}
 use Rattle.esto_course.proofs.Steps.{gives_goes, then_goes, then_stops}

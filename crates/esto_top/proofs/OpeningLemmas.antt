@@ -1,7 +1,7 @@
 -- The opening of a catalogue, of a query and of a union comes to an end or asks for a file that is not there.
 use Rattle.std.proofs.Common.{◌≡◌, inl, inr, ℕ, List, Some, refl}
 use Rattle.esto_catalog.specs.Reading.{IsCatalogueOf, IsCatalogueError}
-use Rattle.esto_catalog.specs.declared.catalogue.Catalogue.{Catalogue}
+use Rattle.esto_mapping.specs.declared.catalogue.Catalogue.{Catalogue}
 use Rattle.esto_catalog.specs.declared.fault.CatalogueError.{CatalogueError}
 use Rattle.esto_catalog.specs.declared.fault.CatalogueError.TheVariants.{Fault, NotAcyclic}
 use Rattle.esto_opening.specs.Fetch.{fetches}

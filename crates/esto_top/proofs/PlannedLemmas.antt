@@ -1,8 +1,8 @@
 -- A query over a catalogue has a printed plan, or its run clashes; a printed plan has its list.
 use Rattle.std.proofs.Common.{◌≡◌, ◌⊎◌, inl, inr, ℕ, Bool, true, false, List, length, Some, slice_get, slice_index, refl, sym, subst}
 use Rattle.std.proofs.Common.{arith}
-use Rattle.esto_catalog.specs.Soundness.{IsSoundCatalogue}
-use Rattle.esto_catalog.specs.declared.catalogue.Catalogue.{Catalogue}
+use Rattle.esto_mapping.specs.Soundness.{IsSoundCatalogue}
+use Rattle.esto_mapping.specs.declared.catalogue.Catalogue.{Catalogue}
 use Rattle.esto_constraint.proofs.RankLemmas.{depth_of, depth-small, ranks-RanksRise, ranks-small, rules-AreRules}
 use Rattle.esto_chase_laws.specs.Runs.{Step, IsEnd, IsRun, start_of}
 use Rattle.esto_chase_laws.specs.declared.clash.Clash.{Clash}

@@ -2,7 +2,7 @@
 use Rattle.std.proofs.Common.{◌≡◌, ◌≢◌, inl, inr, ℕ, Bool, List, [], length, Contains, refl, subst, arith}
 use Rattle.std.specs.Prelude.{codes}
 use Rattle.std.proofs.lemmas.Bool.{cases_eq}
-use Rattle.esto_catalog.specs.declared.catalogue.Catalogue.{Catalogue}
+use Rattle.esto_mapping.specs.declared.catalogue.Catalogue.{Catalogue}
 use Rattle.esto_chase_laws.specs.ReceivedLaws.{FinishedRunsDecide}
 use Rattle.esto_chase.specs.Chased.{RunClashes}
 use Rattle.esto_chase_laws.specs.Runs.{Step, IsEnd, IsRun, IsStart, start_of}

@@ -35,7 +35,7 @@ use Rattle.esto_chase_laws.specs.ReceivedLaws.{StatesAreUniversal, ClashesReceiv
 use Rattle.esto_chase_laws.specs.RunLaws.{StartsHaveTheBody}
 use Rattle.esto_chase_laws.specs.Runs.{Step, IsEnd, IsRun, IsStart, start_of}
 use Rattle.esto_top.proofs.AnswerLemmas.{maps_decided}
-use Rattle.esto_reading_laws.proofs.DecisionLemmas.{same_bool, same_list}
+use Rattle.esto_term.proofs.DecisionLemmas.{same_bool, same_list}
 use Rattle.esto_reading_laws.proofs.RuleLemmas.{fixed}
 
 -- ---- what is decided

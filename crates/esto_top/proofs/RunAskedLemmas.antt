@@ -1,7 +1,7 @@
 -- What a run asks of the shelf.
 use Rattle.std.proofs.Common.{◌≡◌, ℕ, List, [], ◌∷◌, get_or, length, slice_get, Option, Some, Result, Ok, Err, refl, subst, arith}
 use Rattle.either.specs.declared.Either.TheVariants.{Left, Right}
-use Rattle.esto_catalog.specs.declared.catalogue.Catalogue.{Catalogue}
+use Rattle.esto_mapping.specs.declared.catalogue.Catalogue.{Catalogue}
 use Rattle.esto_chase_laws.specs.declared.clash.Clash.{Clash}
 use Rattle.esto_course.specs.Course.{Names, Stops, gives}
 use Rattle.esto_course.proofs.Asking.{quiet_gives, quiet_judges}

@@ -2,7 +2,7 @@
 use Rattle.either.specs.declared.Either.TheVariants.{Left, Right}
 use Rattle.std.proofs.Common.{◌≡◌, ◌↔◌, ◌<◌, ℕ, Bool, List, length, Contains, slice_get, Option, Some, Result, Ok, Err, refl, ap, subst, ◌∙◌}
 use Rattle.std.proofs.lemmas.Option.{slice_get_within}
-use Rattle.esto_catalog.specs.declared.catalogue.Catalogue.{Catalogue}
+use Rattle.esto_mapping.specs.declared.catalogue.Catalogue.{Catalogue}
 use Rattle.esto_chase_laws.specs.declared.clash.Clash.{Clash}
 use Rattle.esto_course.specs.Course.{Stops, judges, gives, and_then}
 use Rattle.esto_course.proofs.Steps.{caused_more, first_stops, then_goes, then_stops}

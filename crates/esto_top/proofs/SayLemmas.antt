@@ -1,7 +1,7 @@
 -- What the files say is read: the catalogue up to what it means, and the same queries over it.
 use Rattle.std.proofs.Common.{ℕ, List, [], ◌∷◌, Some}
-use Rattle.esto_catalog.specs.Determined.{AreSame}
-use Rattle.esto_catalog.specs.declared.catalogue.Catalogue.{Catalogue}
+use Rattle.esto_mapping.specs.Catalogues.{AreSame}
+use Rattle.esto_mapping.specs.declared.catalogue.Catalogue.{Catalogue}
 use Rattle.esto_course.specs.Course.{Course, judges}
 use Rattle.esto_course.proofs.Steps.{then_goes}
 use Rattle.esto_opening.specs.Alike.{AreSameQueries, IsSameQuery}

@@ -26,7 +26,7 @@ use Rattle.esto_docs.proofs.RowLemmas.{text_constant}
 use Rattle.esto_top.specs.Ends.{Ends}
 use Rattle.esto_top.proofs.AnswerLemmas.{answers_listed}
 use Rattle.esto_top.proofs.CourseLemmas.{judges_accepts, judges_refuses}
-use Rattle.esto_reading_laws.proofs.DecisionLemmas.{same_list}
+use Rattle.esto_term.proofs.DecisionLemmas.{same_list}
 use Rattle.esto_top.proofs.ListedLemmas.{Listed, each_listed}
 
 -- ---- values

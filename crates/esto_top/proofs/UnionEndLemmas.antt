@@ -6,7 +6,7 @@ use Rattle.std.specs.Prelude.{MatchOption}
 use Rattle.std.proofs.lemmas.Bool.{cases_eq, cases_lt}
 use Rattle.std.proofs.lemmas.List.{append-nil, append_assoc, length-map}
 use Rattle.std.proofs.lemmas.Option.{same_Some}
-use Rattle.esto_catalog.specs.declared.catalogue.Catalogue.{Catalogue}
+use Rattle.esto_mapping.specs.declared.catalogue.Catalogue.{Catalogue}
 use Rattle.esto_chase_laws.specs.declared.clash.Clash.{Clash}
 use Rattle.esto_course.specs.Course.{Course, judges, gives, and_then}
 use Rattle.esto_disjuncts.specs.List.{IsMemberText, IsUnionText, disjunct_text, lists_union, prints_members}
@@ -18,7 +18,7 @@ use Rattle.esto_disjuncts.proofs.PickingLemmas.{not_planned, same_items}
 use Rattle.esto_disjuncts.specs.declared.members.Member.{Member}
 use Rattle.esto_disjuncts.specs.declared.members.Member.TheVariants.{Planned, Clashed}
 use Rattle.esto_list.specs.Items.{totals_of}
-use Rattle.esto_list.specs.Text.{each_from}
+use Rattle.esto_views.specs.Printing.{each_from}
 use Rattle.esto_list.specs.declared.listing.Listed.{Listed}
 use Rattle.esto_fragments.specs.Fragments.{opens_fragments}
 use Rattle.esto_opening.specs.Line.{line_of}

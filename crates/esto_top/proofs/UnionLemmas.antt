@@ -1,7 +1,7 @@
 -- What `list` answers to a union of two or more queries where nothing is wrong with the files.
 use Rattle.std.proofs.Common.{◌<◌, ℕ, List, [], ◌∷◌, length, Option, Some, None, subst, inl, inr, arith}
-use Rattle.esto_catalog.specs.Determined.{AreSame}
-use Rattle.esto_catalog.specs.declared.catalogue.Catalogue.{Catalogue}
+use Rattle.esto_mapping.specs.Catalogues.{AreSame}
+use Rattle.esto_mapping.specs.declared.catalogue.Catalogue.{Catalogue}
 use Rattle.esto_disjuncts.specs.Exact.{ListsUnionExactly}
 use Rattle.esto_disjuncts.specs.Laws.{UnionListsAreExact, UnionListsAreMoved}
 use Rattle.esto_opening.specs.Alike.{AreSameQueries}

@@ -24,7 +24,7 @@ use Rattle.esto_world_laws.specs.Matches.{IsMatch, match_map, taken}
 use Rattle.esto_world_laws.specs.Worlds.{Linked}
 use Rattle.esto_world_laws.specs.declared.entry.Claim.{Claim}
 use Rattle.esto_world_laws.specs.declared.entry.Claim.TheVariants.{Fact as Stated}
-use Rattle.esto_reading_laws.proofs.DecisionLemmas.{decided_three}
+use Rattle.esto_term.proofs.DecisionLemmas.{decided_three}
 
 -- ---- which terms are linked
 

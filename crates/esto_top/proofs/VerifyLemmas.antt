@@ -4,7 +4,7 @@ use Rattle.std.proofs.Common.{Contains, nat_lt, refl, ap, arith}
 use Rattle.std.specs.Prelude.{codes, if◌then◌else◌}
 use Rattle.std.proofs.lemmas.Bool.Decides.{nat_tests}
 use Rattle.std.proofs.lemmas.Bool.{cases_eq}
-use Rattle.esto_catalog.specs.declared.catalogue.Catalogue.{Catalogue}
+use Rattle.esto_mapping.specs.declared.catalogue.Catalogue.{Catalogue}
 use Rattle.esto_cert.proofs.ExpansionLemmas.{expanded_exists}
 use Rattle.esto_cert.specs.Judging.{DecidesFor, case_for}
 use Rattle.esto_certify.specs.Verify.{HasVerdict, IsAbove, IsSetOf, first_above, judges_certificate, names_set, verifies_query, verifies_set}

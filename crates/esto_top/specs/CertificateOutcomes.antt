@@ -1,6 +1,6 @@
 -- What `explain` and `verify` answer where nothing is wrong with the catalogue's and the query's files.
 use Rattle.std.specs.Prelude.{◌≡◌, ◌≢◌, ◌↔◌, ℕ, ◌-◌, ◌≤◌, Bool, IsTrue, List, [], ◌∷◌, length, slice_get, Option, Some, None, codes}
-use Rattle.esto_catalog.specs.declared.catalogue.Catalogue.{Catalogue}
+use Rattle.esto_mapping.specs.declared.catalogue.Catalogue.{Catalogue}
 use Rattle.esto_certify.specs.Laws.{Certifies, SaysVerdict}
 use Rattle.esto_certify.specs.Verify.{first_above, HasVerdict, IsSetOf}
 use Rattle.esto_opening.specs.declared.opening.TheConstants.{DATA_LIMIT}

@@ -1,6 +1,6 @@
 -- What `fill`, `answer` and `audit` answer where nothing is wrong with the files.
 use Rattle.std.specs.Prelude.{◌≡◌, ℕ, List, [], ◌∷◌, Option, Some, None, Result, codes}
-use Rattle.esto_catalog.specs.declared.catalogue.Catalogue.{Catalogue}
+use Rattle.esto_mapping.specs.declared.catalogue.Catalogue.{Catalogue}
 use Rattle.esto_data.specs.Exact.{IsExactAnswer, IsExactAudit, IsExactFill, IsExactUnionAnswer}
 use Rattle.esto_data.specs.Fill.{fill_course}
 use Rattle.esto_course.specs.Course.{Names}

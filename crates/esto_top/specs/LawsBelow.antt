@@ -2,7 +2,7 @@
 use Rattle.std.specs.Prelude.{ℕ, ◌<◌, List, [], slice_index}
 use Rattle.esto_constraint.specs.Graphs.{IsWithin, AreRanks}
 use Rattle.esto_constraint.specs.Relations.{IsEdge}
-use Rattle.esto_catalog.specs.Determined.{CataloguesAreSound}
+use Rattle.esto_mapping.specs.Catalogues.{CataloguesAreSound}
 use Rattle.esto_chase_laws.specs.ReceivedLaws.{ClashesReceiveNothing, FinishedRunsDecide, StatesAreUniversal, StatesAreUniversalForQueries}
 use Rattle.esto_chase_laws.specs.RunLaws.{HeadsGoAlong, QueriesHaveStarts, RunsReachAnEnd, StartsHaveTheBody}
 use Rattle.esto_constraint.specs.Constraints.{rule_of}

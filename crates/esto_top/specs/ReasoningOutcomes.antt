@@ -1,6 +1,6 @@
 -- What `contains` and `minimise` answer where nothing is wrong with the files.
 use Rattle.std.specs.Prelude.{◌≡◌, ℕ, List, [], ◌∷◌, Option, Some, None, codes}
-use Rattle.esto_catalog.specs.declared.catalogue.Catalogue.{Catalogue}
+use Rattle.esto_mapping.specs.declared.catalogue.Catalogue.{Catalogue}
 use Rattle.esto_opening.specs.Opening.{FilesSayQuery}
 use Rattle.esto_ports.specs.Files.{Files}
 use Rattle.esto_query.specs.declared.query.Query.{Query}

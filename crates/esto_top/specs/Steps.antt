@@ -2,7 +2,7 @@
 use Rattle.std.specs.Prelude.{◌≡◌, ◌≢◌, ℕ, ◌<◌, Bool, List, [], slice_get, Option, None, Some}
 use Rattle.esto_bench.specs.Summary.{IsSummaryOfCase}
 use Rattle.esto_bench.specs.declared.summary.Summary.{Summary}
-use Rattle.esto_catalog.specs.declared.catalogue.Catalogue.{Catalogue}
+use Rattle.esto_mapping.specs.declared.catalogue.Catalogue.{Catalogue}
 use Rattle.esto_certify.specs.Explain.{explain_course}
 use Rattle.esto_certify.specs.Verify.{verify_course}
 use Rattle.esto_data.specs.Answer.{answer_course}

@@ -1,7 +1,6 @@
 //! Laws of the crates below, gathered.
 ghost use Rattle.esto_top.specs.LawsBelow.{BelowLaws, BenchLaws, ChaseLaws, KeptLaws, ListLaws, ReadingLaws, ReasoningLaws};
 
-use esto_catalog::catalogues_are_sound;
 use esto_chase_laws::{
     clashes_receive_nothing, finished_runs_decide, heads_go_along, queries_have_starts,
     runs_reach_an_end, states_are_universal,
@@ -9,6 +8,7 @@ use esto_chase_laws::{
 use esto_constraint::{ranks_rise, rules_are_sound};
 use esto_fragments::readable_fragments_are_opened;
 use esto_input_laws::{catalogues_are_total, files_are_total};
+use esto_mapping::catalogues_are_sound;
 use esto_plan_laws::{maps_between_plans_compose, renamed_plans_are_alike};
 use esto_planning::{planned_plans_are_universal, planned_plans_have_their_form};
 use esto_query::queries_are_sound;

@@ -7,8 +7,8 @@ ghost use Rattle.esto_top.specs.Check.{prints_check, check_course};
 ghost use Rattle.esto_opening.specs.Answers.{Answers};
 ghost use Rattle.esto_opening.specs.Asked.{AsksIn};
 
-use esto_catalog::{Catalogue, catalogues_are_sound};
 use esto_constraint::Ranks;
+use esto_mapping::{Catalogue, catalogues_are_sound};
 use esto_opening::{Reply, Status, open_catalogue};
 use esto_ports::Shelf;
 use esto_query::Schema;

@@ -8,8 +8,8 @@ ghost use Rattle.esto_top.specs.List.{prints_list, lists_query, lists_queries};
 ghost use Rattle.esto_top.specs.List.{lists_read, list_course};
 ghost use Rattle.esto_planning.specs.Listing.{IsListing, IsPlanned};
 
-use esto_catalog::Catalogue;
 use esto_disjuncts::list_union;
+use esto_mapping::Catalogue;
 use esto_opening::{Reply, Status, open_catalogue, open_union};
 use esto_planning::{listing_of, plan_of};
 use esto_ports::Shelf;

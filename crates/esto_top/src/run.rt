@@ -10,11 +10,11 @@ ghost use Rattle.esto_planning.specs.Choice.{IsItemOf};
 ghost use Rattle.esto_planning.specs.Listing.{IsPlanned};
 
 use either::{Left, Right};
-use esto_catalog::Catalogue;
 use esto_chase::Clash;
 use esto_disjuncts::run_union;
 use esto_fragments::open_fragments;
 use esto_list::Listed;
+use esto_mapping::Catalogue;
 use esto_opening::{Reply, Status, open_catalogue, open_union};
 use esto_planning::{
     choose, chosen_items_are_listed, listing_of, planned_plans_have_their_form, printed_plan,

@@ -1,7 +1,7 @@
 -- The sets of a plan's atoms that are listed in a union of queries over a catalogue, and the rewritings of the union.
 use Rattle.std.specs.Prelude.{Bool, List, map, Contains}
 use Rattle.esto_backchase.specs.Listing.{MapsOntoOne}
-use Rattle.esto_catalog.specs.declared.catalogue.Catalogue.{Catalogue}
+use Rattle.esto_mapping.specs.declared.catalogue.Catalogue.{Catalogue}
 use Rattle.esto_constraint.specs.Constraints.{rules_of}
 use Rattle.esto_plan_laws.specs.UnionSets.{AnswersUnion, IsUnionListed, IsUnionRewriting, IsExecutableUnion}
 use Rattle.esto_query.specs.Making.{query_of}

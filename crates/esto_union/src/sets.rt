@@ -7,7 +7,7 @@ ghost use Rattle.esto_union.specs.Unions.{AreRewritingOf, IsListedIn, IsPlanOfOn
 
 use esto_backchase::{entries_decide_answers, entries_of, executable_products, matching_products};
 use esto_bits::Products;
-use esto_catalog::Catalogue;
+use esto_mapping::Catalogue;
 use esto_plan_laws::{executable_unions_map_onto_sets, sets_listed_in_unions_are_executable};
 use esto_query::Query;
 use esto_term::OutOfMemory;

@@ -14,7 +14,7 @@ use Rattle.esto_views.specs.Fragments.{views_of, AreFragments}
 use Rattle.esto_views.specs.Plans.{plan_query, IsPlanOver}
 use Rattle.esto_views.specs.declared.fragments.FragmentDef.{FragmentDef}
 use Rattle.esto_views.specs.declared.plan.Plan.{Plan}
-use Rattle.esto_chase_laws.specs.ReceivedLaws.{StatesAreUniversalForQueries, FinishedRunsSatisfy, ClashesReceiveNothing, StartsAreSatisfiableAlike}
+use Rattle.esto_chase_laws.specs.ReceivedLaws.{StatesAreUniversalForQueries, FinishedRunsSatisfy, StartsAreSatisfiableAlike}
 use Rattle.esto_chase_laws.specs.RunLaws.{EndIsOne, ClashIsOne, ClashedIsNotFinished, QueriesHaveStarts, HeadsGoAlong}
 use Rattle.esto_chase_laws.specs.Runs.{Step, IsRun, HasClashed, start_of, moved_by}
 use Rattle.esto_chase_laws.specs.declared.clash.Clash.{Clash}
@@ -60,13 +60,6 @@ module _ (alike : StartsAreSatisfiableAlike) (have_starts : QueriesHaveStarts) (
   planned_satisfiable finished_satisfy views names plan planned =
       (alike rules query).1
       (finished_satisfy rules (start_of query) are_rules (have_starts query is_query) planned.trace planned.end planned.run planned.finished)
-
-  pub clashed_unsatisfiable : ClashesReceiveNothing → (clash : Clash) → RunClashes rules (start_of query) clash → ¬ (IsSatisfiable rules query)
-  clashed_unsatisfiable receive_nothing clash (trace, now, run, clashed) satisfiable = by ((alike rules query).0 satisfiable)
-    where
-      by : IsSatisfiable rules (start_of query) → ⊥
-      by (database, meets, (row, (m, keeps, sends, is))) =
-          receive_nothing rules (start_of query) are_rules (have_starts query is_query) trace now run clash clashed database meets m keeps sends
 
 -- ---- the plan is universal
 

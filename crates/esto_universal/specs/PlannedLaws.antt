@@ -40,12 +40,6 @@ PlannedIsSatisfiable =
     (rules : List Rule) (views : List ConjunctiveQuery) (names : List Name) (query : ConjunctiveQuery) (plan : Plan) → AreRules rules → IsQuery query
     → IsPlanOfRun rules views names query plan → IsSatisfiable rules query
 
--- A query whose run clashes is not satisfiable.
-abbrev pub ClashedIsUnsatisfiable : Type 0
-ClashedIsUnsatisfiable =
-    (rules : List Rule) (query : ConjunctiveQuery) (clash : Clash) → AreRules rules → IsQuery query
-    → RunClashes rules (start_of query) clash → ¬ (IsSatisfiable rules query)
-
 -- The plan of a query's run receives unions for the query.
 abbrev pub PlanOfRunReceivesUnions : Type 0
 PlanOfRunReceivesUnions =

@@ -1,16 +1,16 @@
 //! Laws of the plans of runs.
 ghost use Rattle.esto_universal.specs.PlannedLaws.{PlanOfRunIsOne, ClashOfRunIsOne};
-ghost use Rattle.esto_universal.specs.PlannedLaws.{PlanExcludesClash, PlannedIsSatisfiable};
-ghost use Rattle.esto_universal.specs.PlannedLaws.{ClashedIsUnsatisfiable, PlanOfRunIsOver};
+ghost use Rattle.esto_universal.specs.PlannedLaws.{PlanExcludesClash, PlannedIsSatisfiable, PlanOfRunIsOver};
+ghost use Rattle.esto_chase.specs.ChasedLaws.{ClashedIsUnsatisfiable};
 ghost use Rattle.esto_universal.specs.PlannedLaws.{PlanOfRunReceivesUnions, PlanOfRunIsUniversal};
 ghost use Rattle.esto_universal.specs.PlannedLaws.{PlanOfRunHasDistinctAtoms};
 
 use crate::stated::{
     stated_plans_are_one, stated_plans_are_universal, stated_plans_have_distinct_atoms,
 };
+use esto_chase::clashed_queries_are_unsatisfiable;
 use esto_chase_laws::{
-    clashes_receive_nothing, finished_runs_decide, queries_have_starts, runs_have_one_end,
-    states_are_universal,
+    finished_runs_decide, queries_have_starts, runs_have_one_end, states_are_universal,
 };
 
 /// A law: a query has one plan of its runs, or its runs have one clash, and never both.
@@ -30,7 +30,7 @@ pub fn plans_tell_satisfiable_queries()
 {
     queries_have_starts();
     finished_runs_decide();
-    clashes_receive_nothing();
+    clashed_queries_are_unsatisfiable();
 }
 
 /// A law: the plan of a query's run receives unions for the query, and so is universal for it.

@@ -19,11 +19,11 @@ use crate::planned::{
 };
 use crate::rows::view_rows;
 use either::{Either, Left, Right};
-use esto_catalog::{Catalogue, catalogues_are_sound};
 use esto_chase::{Clash, chase};
 use esto_chase_laws::{heads_go_along, queries_have_starts};
 use esto_constraint::rules_are_sound;
 use esto_instance::Instance;
+use esto_mapping::{Catalogue, catalogues_are_sound};
 use esto_query::{Facts, Names, Query, queries_are_sound};
 use esto_term::{OutOfMemory, Terms};
 use esto_views::{FragmentDefs, Plan, renamed_plan};

@@ -9,3 +9,5 @@ pub mod ReadingLemmas
 pub mod RenamingLemmas
 pub mod RenamedLemmas
 pub mod RenamedOnceLemmas
+pub mod NamingLemmas
+pub mod PrintingLemmas

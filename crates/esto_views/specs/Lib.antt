@@ -7,3 +7,5 @@ pub mod Reading
 pub mod Renamings
 pub mod RenamedLaws
 pub mod Renamed
+pub mod Names
+pub mod Printing

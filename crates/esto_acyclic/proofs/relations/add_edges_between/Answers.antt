@@ -1,4 +1,4 @@
-use Rattle.esto_acyclic.specs.Relations.{edges_from}
+use Rattle.esto_constraint.specs.Relations.{edges_from}
 use Rattle.esto_acyclic.proofs.PushLemmas.{flat_behind}
 use Rattle.esto_acyclic.proofs.relations.add_edges_between.Goals as goal
 

@@ -1,5 +1,5 @@
 use Rattle.esto_constraint.specs.Constraints.{rule_of}
-use Rattle.esto_acyclic.specs.Relations.{edges_of_rule}
+use Rattle.esto_constraint.specs.Relations.{edges_of_rule}
 use Rattle.esto_acyclic.proofs.PushLemmas.{flat_images}
 use Rattle.esto_acyclic.proofs.relations.edges_of.Goals as goal
 

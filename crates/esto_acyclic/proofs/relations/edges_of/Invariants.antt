@@ -1,6 +1,6 @@
 use Rattle.std.proofs.Common.{◌≡◌, take}
 use Rattle.esto_constraint.specs.Constraints.{rules_of}
-use Rattle.esto_acyclic.specs.Relations.{edges_of}
+use Rattle.esto_constraint.specs.Relations.{edges_of}
 use Rattle.esto_acyclic.proofs.relations.edges_of.Given as goal
 
 abbrev pub invariant-rules : goal.invariant-rules

@@ -1,7 +1,7 @@
 use Rattle.std.proofs.Common.{List, [], length, ap, subst, ◌∙◌}
 use Rattle.esto_constraint.specs.Graphs.{AreRanks}
 use Rattle.esto_constraint.specs.Relations.{IsEdge}
-use Rattle.esto_catalog.specs.Datasets.{words_of}
+use Rattle.esto_mapping.specs.Datasets.{words_of}
 use Rattle.esto_query.specs.Schemas.{IsSchema}
 use Rattle.esto_query.specs.declared.schema.Relation.{Relation}
 use Rattle.esto_bench.proofs.CatalogueLemmas.{made_sound}

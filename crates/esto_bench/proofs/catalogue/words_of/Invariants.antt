@@ -1,5 +1,5 @@
 use Rattle.std.proofs.Common.{◌≡◌, take}
-use Rattle.esto_catalog.specs.Datasets.{words_of}
+use Rattle.esto_mapping.specs.Datasets.{words_of}
 use Rattle.esto_bench.proofs.catalogue.words_of.Given as goal
 
 abbrev pub invariant-datasets : goal.invariant-datasets

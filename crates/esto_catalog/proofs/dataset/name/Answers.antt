@@ -2,7 +2,8 @@ use Rattle.std.proofs.Common.{ap, not, refl, ◌∙◌}
 use Rattle.esto_course.proofs.Steps.{first_stops, then_stops, then_goes, gives_goes}
 use Rattle.esto_course.specs.Course.{Stops}
 use Rattle.esto_catalog.proofs.RowLemmas.{error_exit, test_goes, test_stops, not_goes, not_stops}
-use Rattle.esto_catalog.specs.Datasets.{is_name, name_row}
+use Rattle.esto_catalog.specs.Datasets.{name_row}
+use Rattle.esto_mapping.specs.Datasets.{is_name}
 use Rattle.esto_catalog.specs.Rows.{IsAny, IsWant}
 use Rattle.esto_catalog.proofs.dataset.name.Goals as goal
 

@@ -1,5 +1,5 @@
 use Rattle.std.proofs.Common.{ap, ◌∙◌}
-use Rattle.esto_catalog.specs.Datasets.{schema_of, words_of}
+use Rattle.esto_mapping.specs.Datasets.{schema_of, words_of}
 use Rattle.esto_catalog.proofs.SchemaLemmas.{scope_is}
 use Rattle.esto_catalog.proofs.scope.scope_of.Goals as goal
 

@@ -2,7 +2,7 @@ use Rattle.std.proofs.Common.{sym, subst, ◌∙◌, ap}
 use Rattle.esto_course.specs.Course.{and_then, judges}
 use Rattle.esto_catalog.proofs.DatasetLemmas.{read_based}
 use Rattle.esto_catalog.proofs.WalkLemmas.{found_ranked}
-use Rattle.esto_catalog.specs.Datasets.{AreBased, schema_of}
+use Rattle.esto_mapping.specs.Datasets.{AreBased, schema_of}
 use Rattle.esto_catalog.specs.Rules.{AreAllRules}
 use Rattle.esto_catalog.proofs.walk.catalogues_keep_their_datasets.Goals as goal
 

@@ -15,6 +15,6 @@ returns c =
     let rules = rules_of c.args.catalogue.now.rules in
     let left = query_of c.args.left.now in
     unsatisfiable_contained rules left (query_of c.args.right.now)
-    (c.plans_tell_satisfiable_queries.ensures.clash rules left c.in-Right.field-0
+    (c.clashed_queries_are_unsatisfiable.ensures rules left c.in-Right.field-0
     (are_rules c.rules_are_sound.ensures.rules c.args.catalogue.now.rules) (c.queries_are_sound.ensures c.args.left.now).query
     (rw c.in-Right.is at c.in_ok-outcome.ensures))

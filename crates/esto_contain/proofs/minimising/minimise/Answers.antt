@@ -20,6 +20,6 @@ returns-in-Right-clause-run c = rw c.in-Right.is at c.in_ok-outcome.ensures
 
 pub returns-in-Right-clause-satisfiable : goal.returns-in-Right-clause-satisfiable
 returns-in-Right-clause-satisfiable c =
-    c.plans_tell_satisfiable_queries.ensures.clash (rules_of c.args.catalogue.now.rules) (query_of c.args.query.now) c.in-Right.clash
+    c.clashed_queries_are_unsatisfiable.ensures (rules_of c.args.catalogue.now.rules) (query_of c.args.query.now) c.in-Right.clash
     (are_rules c.rules_are_sound.ensures.rules c.args.catalogue.now.rules) (c.queries_are_sound.ensures c.args.query.now).query
     (rw c.in-Right.is at c.in_ok-outcome.ensures)

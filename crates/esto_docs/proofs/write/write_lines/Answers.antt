@@ -5,7 +5,7 @@ use Rattle.esto_docs.specs.Rows.{Row}
 use Rattle.esto_docs.specs.Documents.{document, document_line}
 use Rattle.esto_docs.specs.Plain.{IsReadBack}
 use Rattle.esto_docs.specs.Written.{HasWritten}
-use Rattle.esto_docs.specs.declared.layout.Layout.TheVariants.{Lines}
+use Rattle.esto_docmodel.specs.declared.file.Layout.TheVariants.{Lines}
 use Rattle.esto_docs.proofs.WriteLemmas.{lines_go, lines_written}
 use Rattle.esto_docs.proofs.write.write_lines.Goals as goal
 

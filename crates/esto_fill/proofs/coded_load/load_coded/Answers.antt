@@ -1,6 +1,6 @@
 use Rattle.std.proofs.Common.{List, ℕ, sym, subst}
 use Rattle.std.specs.Prelude.{IfSome}
-use Rattle.esto_catalog.specs.declared.dataset.Dataset.{Dataset}
+use Rattle.esto_mapping.specs.declared.dataset.Dataset.{Dataset}
 use Rattle.esto_term.proofs.ListLemmas.{Contains-at}
 use Rattle.esto_fill.specs.CodedParts.{PutsFile}
 use Rattle.esto_fill.specs.Files.{FindsFault, dataset_fault}

@@ -1,5 +1,5 @@
 use Rattle.std.proofs.Common.{ℕ, Contains, length, subst, sym}
-use Rattle.esto_catalog.specs.declared.catalogue.Shape.{Shape}
+use Rattle.esto_mapping.specs.declared.catalogue.Shape.{Shape}
 use Rattle.esto_run.specs.Stores.{IsRowIn, first_fault_in}
 use Rattle.esto_stores.specs.Keys.{key_fault, key_rows}
 use Rattle.esto_fill.specs.Coding.{CodesFile}

@@ -1,5 +1,5 @@
 use Rattle.std.proofs.Common.{◌≡◌, None, Some, slice_get}
-use Rattle.esto_catalog.specs.declared.dataset.Dataset.{Dataset}
+use Rattle.esto_mapping.specs.declared.dataset.Dataset.{Dataset}
 use Rattle.esto_term.proofs.ListLemmas.{holds_more}
 use Rattle.esto_fill.specs.Files.{dataset_fault}
 use Rattle.esto_fill.specs.declared.datasets.DatasetBytes.{DatasetBytes}

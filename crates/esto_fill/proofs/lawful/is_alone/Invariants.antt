@@ -1,5 +1,5 @@
 use Rattle.std.proofs.Common.{◌≡◌}
-use Rattle.esto_catalog.specs.declared.dataset.Dataset.{Dataset}
+use Rattle.esto_mapping.specs.declared.dataset.Dataset.{Dataset}
 use Rattle.esto_term.proofs.ListLemmas.{HoldsBelow}
 use Rattle.esto_fill.specs.Lawful.{HaveNoneInCommon}
 use Rattle.esto_fill.proofs.lawful.is_alone.Given as goal

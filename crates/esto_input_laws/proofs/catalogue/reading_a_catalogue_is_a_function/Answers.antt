@@ -1,4 +1,4 @@
-use Rattle.esto_catalog.specs.Determined.{AreSame}
+use Rattle.esto_mapping.specs.Catalogues.{AreSame}
 use Rattle.esto_catalog.specs.Reading.{IsCatalogueOf}
 use Rattle.esto_reading_laws.proofs.FunctionLemmas.{is_function}
 use Rattle.esto_input_laws.proofs.CatalogueLemmas.{catalogue_or_own_error}

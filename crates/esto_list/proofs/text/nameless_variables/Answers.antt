@@ -1,6 +1,6 @@
 use Rattle.std.proofs.Common.{ap, ◌∙◌}
-use Rattle.esto_list.specs.Names.{met_atoms, met_terms}
-use Rattle.esto_list.proofs.NameLemmas.{atoms_turn, atoms_end}
+use Rattle.esto_views.specs.Names.{met_atoms, met_terms}
+use Rattle.esto_views.proofs.NamingLemmas.{atoms_turn, atoms_end}
 use Rattle.esto_list.proofs.text.nameless_variables.Goals as goal
 
 pub atoms-init : goal.atoms-init

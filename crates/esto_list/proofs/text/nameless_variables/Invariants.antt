@@ -1,5 +1,5 @@
 use Rattle.std.proofs.Common.{◌≡◌, [], drop}
-use Rattle.esto_list.specs.Names.{met_atoms}
+use Rattle.esto_views.specs.Names.{met_atoms}
 use Rattle.esto_list.proofs.text.nameless_variables.Given as goal
 
 abbrev pub invariant-atoms : goal.invariant-atoms

@@ -1,7 +1,7 @@
 use Rattle.std.proofs.Common.{◌++◌, ap, ◌∙◌}
 use Rattle.std.proofs.lemmas.Result.{on_ok_weaker}
 use Rattle.esto_term.proofs.ListLemmas.{two_more}
-use Rattle.esto_list.specs.Text.{numbers_text}
+use Rattle.esto_views.specs.Printing.{numbers_text}
 use Rattle.esto_list.proofs.text.put_item.Goals as goal
 
 pub returns : goal.returns

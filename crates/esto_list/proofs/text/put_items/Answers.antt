@@ -1,5 +1,5 @@
 use Rattle.esto_list.specs.Text.{item_line}
-use Rattle.esto_list.proofs.TextLemmas.{each_turn, each_end}
+use Rattle.esto_views.proofs.PrintingLemmas.{each_turn, each_end}
 use Rattle.esto_list.proofs.text.put_items.Goals as goal
 
 pub items-preserved : goal.items-preserved

@@ -1,5 +1,6 @@
 use Rattle.std.proofs.Common.{◌≡◌, ◌++◌, drop}
-use Rattle.esto_list.specs.Text.{item_line, each_from}
+use Rattle.esto_list.specs.Text.{item_line}
+use Rattle.esto_views.specs.Printing.{each_from}
 use Rattle.esto_list.proofs.text.put_items.Given as goal
 
 abbrev pub invariant-items : goal.invariant-items

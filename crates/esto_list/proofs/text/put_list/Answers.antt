@@ -1,7 +1,8 @@
 use Rattle.std.proofs.Common.{codes, length}
 use Rattle.std.proofs.lemmas.Result.{on_ok_weaker}
 use Rattle.esto_term.proofs.ListLemmas.{two_more}
-use Rattle.esto_list.specs.Text.{count_line, plan_lines}
+use Rattle.esto_list.specs.Text.{plan_lines}
+use Rattle.esto_views.specs.Printing.{count_line}
 use Rattle.esto_list.proofs.text.put_list.Goals as goal
 
 pub returns : goal.returns

@@ -1,7 +1,8 @@
 use Rattle.std.proofs.Common.{◌++◌, ◌≡◌, codes, length, ap, ◌∙◌}
 use Rattle.std.proofs.lemmas.Result.{on_ok_weaker}
 use Rattle.esto_term.proofs.ListLemmas.{two_more}
-use Rattle.esto_list.specs.Text.{atom_line, count_line, each_from, terms_text}
+use Rattle.esto_list.specs.Text.{atom_line}
+use Rattle.esto_views.specs.Printing.{count_line, each_from, terms_text}
 use Rattle.esto_list.proofs.text.put_plan_lines.Goals as goal
 
 pub returns : goal.returns

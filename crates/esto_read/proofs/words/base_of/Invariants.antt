@@ -1,6 +1,6 @@
 use Rattle.std.proofs.Common.{◌≡◌, take}
 use Rattle.std.specs.Prelude.{Contains}
-use Rattle.esto_read.specs.declared.words.Word.{Word}
+use Rattle.esto_docmodel.specs.declared.words.Word.{Word}
 use Rattle.esto_read.proofs.words.base_of.Given as goal
 
 abbrev pub invariant-words : goal.invariant-words

@@ -1,7 +1,7 @@
 use Rattle.std.proofs.Common.{ℕ, ◌≡◌, sym, subst}
-use Rattle.esto_read.specs.Words.{IsPart}
-use Rattle.esto_read.specs.declared.words.DataModel.{DataModel}
-use Rattle.esto_read.specs.declared.words.Word.{Word}
+use Rattle.esto_docmodel.specs.Words.{IsPart}
+use Rattle.esto_docmodel.specs.declared.words.DataModel.{DataModel}
+use Rattle.esto_docmodel.specs.declared.words.Word.{Word}
 use Rattle.esto_term.proofs.ListLemmas.{each_more, each_seen}
 use Rattle.esto_read.proofs.words.part_of.Goals as goal
 

@@ -1,5 +1,5 @@
 use Rattle.std.proofs.Common.{◌≡◌, ◌++◌, drop}
-use Rattle.esto_list.specs.Text.{each_from}
+use Rattle.esto_views.specs.Printing.{each_from}
 use Rattle.esto_reasoning.specs.Texts.{set_line}
 use Rattle.esto_reasoning.proofs.printing.put_sets.Given as goal
 

@@ -1,6 +1,6 @@
 use Rattle.std.proofs.Common.{length, sym, subst}
-use Rattle.esto_catalog.specs.Soundness.{IsShapeFor}
-use Rattle.esto_catalog.specs.declared.catalogue.Shape.{Shape}
+use Rattle.esto_mapping.specs.Soundness.{IsShapeFor}
+use Rattle.esto_mapping.specs.declared.catalogue.Shape.{Shape}
 use Rattle.esto_docmodel.specs.Layouts.{IsLayout}
 use Rattle.esto_docmodel.specs.Shapes.{entries_of}
 use Rattle.esto_lines.specs.Faults.{Gives}

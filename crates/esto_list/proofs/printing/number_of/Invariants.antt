@@ -1,6 +1,0 @@
-use Rattle.std.proofs.Common.{◌≡◌, ◌+◌, drop}
-use Rattle.esto_list.specs.Names.{number_from}
-use Rattle.esto_list.proofs.printing.number_of.Given as goal
-
-abbrev pub invariant-variables : goal.invariant-variables
-invariant-variables l = number_from 1 l.nameless l.variable ≡ number_from (l.place + 1) (drop l.place l.nameless) l.variable

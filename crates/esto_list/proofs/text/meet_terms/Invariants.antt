@@ -1,6 +1,0 @@
-use Rattle.std.proofs.Common.{◌≡◌, drop}
-use Rattle.esto_list.specs.Names.{met_terms}
-use Rattle.esto_list.proofs.text.meet_terms.Given as goal
-
-abbrev pub invariant-terms : goal.invariant-terms
-invariant-terms l = met_terms l.names l.met (drop l.term-index l.terms) ≡ met_terms l.names l.initial.met l.terms

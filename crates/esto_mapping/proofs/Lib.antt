@@ -1,0 +1,3 @@
+pub mod ColumnLemmas
+pub mod LayoutLemmas
+pub mod SoundLemmas

@@ -1,0 +1,3 @@
+pub mod Datasets
+pub mod Soundness
+pub mod Catalogues

@@ -1,0 +1,61 @@
+//! The catalogue.
+ghost use Rattle.esto_mapping.specs.Soundness.{IsSoundCatalogue};
+
+use crate::dataset::Datasets;
+use esto_constraint::{Ranks, Rules};
+use esto_docmodel::{Layout, Pattern, Vocabulary};
+use esto_query::Schema;
+use esto_term::{List, Text, TextRow};
+use esto_views::FragmentDefs;
+
+/// The greatest number of binding patterns of a fragment.
+pub const MAX_PATTERNS: usize = 8;
+
+/// The greatest weight of a fragment.
+pub const MAX_WEIGHT: u64 = 1_000_000;
+
+/// How the rows of a fragment are stored.
+#[derive(Drop)]
+pub enum Shape {
+    /// As a CSV file with these columns.
+    Table(TextRow),
+    /// As a JSON file of documents that stand in it so, each with the cells of rows where the
+    /// pattern has the columns' variables.
+    Documents(Layout, Pattern),
+    /// As a file of lines whose cells are parted by tabs.
+    Keys,
+}
+
+/// Where a fragment is stored.
+#[derive(Drop)]
+pub struct Store {
+    pub shape: Shape,
+    pub file: Text,
+}
+
+/// The stores of a catalogue's fragments, in order.
+pub type Stores = List<Store>;
+
+/// What a catalogue says: the relations of its datasets, the names that texts may use, the
+/// datasets, the fragments and where each is stored, the rules, with the ranks of the relations by
+/// them, and whether plans are printed as their cores. The first `given` rules are the catalogue's
+/// own constraints; those that the encodings of documents and keys bring follow, in order of
+/// dataset. Words, views and rules are over the schema, in which each dataset's relations stand
+/// from its base on; the fragments are well made; and no relation leads back to itself by the
+/// rules. A fragment has at most `MAX_PATTERNS` binding patterns, all distinct, and weighs at most
+/// `MAX_WEIGHT`. The columns of a table are distinct, as many as its view has, and the first does
+/// not begin with a byte-order mark; the pattern of documents is a layout for as many columns.
+#[derive(Drop)]
+pub struct Catalogue {
+    pub schema: Schema,
+    pub words: Vocabulary,
+    pub datasets: Datasets,
+    pub fragments: FragmentDefs,
+    pub stores: Stores,
+    pub rules: Rules,
+    pub given: usize,
+    pub ranks: Ranks,
+    pub core: bool,
+    pub ghost sound: { ∥ IsSoundCatalogue
+        schema words datasets fragments stores rules given ranks ∥₁ },
+}
