@@ -8,8 +8,8 @@ use Rattle.esto_term.specs.declared.term.Term.{Term}
 use Rattle.esto_semantics.specs.declared.fact.Fact.{Fact}
 use Rattle.esto_semantics.specs.Access.{IsInput, IsBound, MeetsPattern, IsAccessible}
 use Rattle.esto_semantics.specs.Maps.{IsConstant}
-use Rattle.esto_semantics.specs.Sets.{Has, Within, Covers}
-use Rattle.esto_semantics.proofs.AccessLemmas.{none_has}
+use Rattle.esto_term.specs.Sets.{Has, Within, Covers}
+use Rattle.esto_term.proofs.SetLemmas.{none_has}
 use Rattle.esto_views.specs.Fragments.{patterns_of}
 use Rattle.esto_views.specs.Plans.{fact_of}
 use Rattle.esto_views.specs.declared.fragments.FragmentDef.{FragmentDef}

@@ -8,13 +8,12 @@ use Rattle.std.proofs.lemmas.Map.Views.{Contains-from_any}
 use Rattle.std.proofs.lemmas.Option.{same_Some, slice_get_within}
 use Rattle.esto_term.specs.declared.term.Term.{Term}
 use Rattle.esto_semantics.specs.declared.fact.Fact.{Fact}
-use Rattle.esto_semantics.specs.Sets.{Has, Within}
+use Rattle.esto_term.specs.Sets.{Has, Within}
 use Rattle.esto_semantics.specs.Access.{Patterns, IsAccessible, IsEarlier, IsOrder, IsAccessiblePart}
 use Rattle.esto_semantics.specs.AccessLaws.{PartExists}
 use Rattle.esto_term.proofs.ListLemmas.{Contains-at, place-from_Contains, thing_at}
-use Rattle.esto_semantics.proofs.AccessLemmas.{has_set, accessible_more, order_grows}
-use Rattle.esto_semantics.proofs.SetLemmas.{decided_has}
-use Rattle.esto_semantics.proofs.PlaceLemmas.{Has-within}
+use Rattle.esto_semantics.proofs.AccessLemmas.{accessible_more, order_grows}
+use Rattle.esto_term.proofs.SetLemmas.{decided_has, has_set, Has-within}
 use Rattle.esto_access.specs.Rounds.{IsNextIn, InRounds, RoundsAreEnough, LastRoundIsEnough}
 
 module _ (patterns : Patterns) (atoms : List (Fact Term)) (set : List Bool) where

@@ -5,13 +5,11 @@ use Rattle.std.proofs.lemmas.List.Elements.{Contains-get_or}
 use Rattle.std.proofs.lemmas.Option.{none-some, same_Some, slice_get_within, slice_get-get_or}
 use Rattle.esto_term.specs.declared.term.Term.{Term}
 use Rattle.esto_semantics.specs.declared.fact.Fact.{Fact}
-use Rattle.esto_semantics.specs.Sets.{Has}
+use Rattle.esto_term.specs.Sets.{Has}
 use Rattle.esto_semantics.specs.Access.{Patterns, IsAccessible, IsEarlier, IsOrder, IsExecutable, IsAccessiblePart, IsStatedOrder}
 use Rattle.esto_semantics.specs.AccessSteps.{IsStuck}
-use Rattle.esto_semantics.proofs.AccessLemmas.{earlier_contains, earlier_push, push_earlier, missing, missing-set, has_set, none_has, accessible_more}
-use Rattle.esto_semantics.proofs.AccessLemmas.{ready_more, order_grows, none_is_order, stuck_has}
-use Rattle.esto_semantics.proofs.SetLemmas.{decided_has, within_refl, within_same}
-use Rattle.esto_semantics.proofs.PlaceLemmas.{Has-within}
+use Rattle.esto_semantics.proofs.AccessLemmas.{earlier_contains, earlier_push, push_earlier, accessible_more, ready_more, order_grows, none_is_order, stuck_has}
+use Rattle.esto_term.proofs.SetLemmas.{decided_has, within_refl, within_same, missing, missing-set, has_set, none_has, Has-within}
 use Rattle.esto_access.specs.Runs.{CanFollow, NoneFollows, IsFirstFollower, IsRun}
 use Rattle.esto_term.proofs.ListLemmas.{Contains-at, at_pushed, place-from_Contains}
 use Rattle.esto_term.proofs.PlaceLemmas.{Contains-take, Contains-take_from, one_place}

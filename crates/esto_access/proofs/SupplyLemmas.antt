@@ -7,7 +7,7 @@ use Rattle.std.proofs.lemmas.Option.{none-some, same_Some, slice_get_within}
 use Rattle.esto_term.specs.declared.term.Term.{Term}
 use Rattle.esto_semantics.specs.declared.fact.Fact.{Fact}
 use Rattle.esto_semantics.specs.Access.{Patterns}
-use Rattle.esto_semantics.specs.Sets.{Covers, TellHolds}
+use Rattle.esto_term.specs.Sets.{Covers, TellHolds}
 use Rattle.esto_bits.specs.Kept.{Kept, kept, AreOver, IsAntichain}
 use Rattle.esto_access.specs.Supplies.{IsReachedIn, AreAccessProducts, sets_at, IsSupplied}
 use Rattle.esto_access.specs.Rounds.{IsNextIn, InRounds, AreSupplies, AreOneRound, AreRounds, RoundsAreEnough, TellAllReached, AddNothing, LastRoundIsEnough}

@@ -2,7 +2,7 @@
 use Rattle.std.specs.Prelude.{◌≡◌, ◌↔◌, ℕ, zero, suc, Bool, List, Some, length, slice_get, Contains}
 use Rattle.esto_term.specs.declared.term.Term.{Term}
 use Rattle.esto_semantics.specs.Access.{Patterns, IsAccessible, MeetsPattern}
-use Rattle.esto_semantics.specs.Sets.{Has}
+use Rattle.esto_term.specs.Sets.{Has}
 use Rattle.esto_semantics.specs.declared.fact.Fact.{Fact}
 use Rattle.esto_bits.specs.Kept.{Kept, AreOver, IsAntichain}
 use Rattle.esto_access.specs.Supplies.{EachIs, IsReachedIn, IsSupplied}

@@ -1,7 +1,7 @@
 -- The run that takes the accessible atom of least number each time.
 use Rattle.std.specs.Prelude.{◌≡◌, ℕ, ◌<◌, Bool, List, Some, length, slice_get, Contains}
 use Rattle.esto_term.specs.declared.term.Term.{Term}
-use Rattle.esto_semantics.specs.Sets.{Has, Within}
+use Rattle.esto_term.specs.Sets.{Has, Within}
 use Rattle.esto_semantics.specs.Access.{Patterns, IsAccessible, IsEarlier, IsOrder}
 use Rattle.esto_semantics.specs.AccessSteps.{IsReady}
 use Rattle.esto_semantics.specs.declared.fact.Fact.{Fact}

@@ -2,7 +2,7 @@
 use Rattle.std.specs.Prelude.{◌≡◌, ◌↔◌, ℕ, Bool, List, [], Some, length, slice_get, slice_index_or, Contains}
 use Rattle.esto_term.specs.declared.term.Term.{Term}
 use Rattle.esto_semantics.specs.Access.{Patterns, IsAccessiblePart}
-use Rattle.esto_semantics.specs.Sets.{Has, IsMinimal, Covers}
+use Rattle.esto_term.specs.Sets.{Has, IsMinimal, Covers}
 use Rattle.esto_semantics.specs.declared.fact.Fact.{Fact}
 use Rattle.esto_bits.specs.Kept.{Kept, kept}
 

@@ -3,7 +3,7 @@ ghost use Rattle.std.specs.Prelude.{ℕ, ◌≡◌, ◌↔◌, [], slice_get, sl
 ghost use Rattle.esto_term.specs.declared.term.Term.{Term};
 ghost use Rattle.esto_semantics.specs.declared.fact.Fact.{Fact};
 ghost use Rattle.esto_semantics.specs.Access.{IsInput, IsBound, MeetsPattern, IsAccessible};
-ghost use Rattle.esto_semantics.specs.Sets.{Has};
+ghost use Rattle.esto_term.specs.Sets.{Has};
 ghost use Rattle.esto_views.specs.Fragments.{patterns_of};
 ghost use Rattle.esto_views.specs.Plans.{fact_of, plan_query};
 ghost use Rattle.esto_access.specs.Runs.{CanFollow};

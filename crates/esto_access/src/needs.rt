@@ -1,7 +1,7 @@
 //! What an atom needs, and the sets that give it.
 ghost use Rattle.std.specs.Prelude.{◌≡◌, ◌<◌, ◌↔◌, ◌⊎◌, List, Bool, length, IfOk, OnOk};
 ghost use Rattle.esto_semantics.specs.Access.{IsBound, IsInput, MeetsPattern};
-ghost use Rattle.esto_semantics.specs.Sets.{Covers, Has};
+ghost use Rattle.esto_term.specs.Sets.{Covers, Has};
 ghost use Rattle.esto_views.specs.Fragments.{patterns_of};
 ghost use Rattle.esto_views.specs.Plans.{fact_of, plan_query};
 ghost use Rattle.esto_bits.specs.Kept.{AreOver, IsAntichain};

@@ -1,7 +1,6 @@
 -- The candidate of a set, by what the plan's expansion has for the set.
 use Rattle.std.proofs.Common.{◌≡◌, ◌≢◌, ◌↔◌, inl, inr, ℕ, ◌<◌, ◌≤◌, ◌+◌, Bool, true, false, cond, List, [], ◌∷◌, ◌++◌, length, drop, get_or, slice_index_or}
-use Rattle.std.proofs.Common.{Contains}
-use Rattle.std.proofs.Common.{refl, sym, ap, subst, ◌∙◌, arith}
+use Rattle.std.proofs.Common.{Contains, refl, sym, ap, subst, ◌∙◌, arith}
 use Rattle.std.specs.Bool.{⊤}
 use Rattle.std.proofs.lemmas.Bool.{false_from_ne_true, false≢true}
 use Rattle.std.proofs.lemmas.List.{append-nil, append_assoc, drop_all, length-map}
@@ -9,8 +8,7 @@ use Rattle.either.specs.Either.{MatchEither}
 use Rattle.either.specs.declared.Either.{Either}
 use Rattle.either.specs.declared.Either.TheVariants.{Left, Right}
 use Rattle.esto_term.specs.declared.term.Term.{Term}
-use Rattle.esto_term.proofs.ListLemmas.{Contains-at, Contains-cases, Contains-head, Contains-map, Contains-nil, Contains-rest}
-use Rattle.esto_term.proofs.ListLemmas.{place-from_Contains}
+use Rattle.esto_term.proofs.ListLemmas.{Contains-at, Contains-cases, Contains-head, Contains-map, Contains-nil, Contains-rest, place-from_Contains}
 use Rattle.esto_term.proofs.PlaceLemmas.{drop-item}
 use Rattle.esto_semantics.specs.Containment.{IsContained, IsSatisfiable}
 use Rattle.esto_semantics.specs.ExpansionLaws.{ExpansionAnswers, ExpansionIsContained, PartExpandsCandidate}
@@ -21,11 +19,10 @@ use Rattle.esto_semantics.specs.Listed.{candidate}
 use Rattle.esto_semantics.specs.Maps.{AreFlat}
 use Rattle.esto_semantics.specs.Queries.{ConjunctiveQuery, IsAnswer}
 use Rattle.esto_semantics.specs.Rules.{Rule, AreRules}
-use Rattle.esto_semantics.specs.Sets.{Has, numbers}
+use Rattle.esto_term.specs.Sets.{Has, numbers}
 use Rattle.esto_semantics.specs.Views.{IsFragmentAnswer}
 use Rattle.esto_semantics.specs.declared.fact.Fact.{Fact}
-use Rattle.esto_semantics.proofs.SetLemmas.{numbers_have}
-use Rattle.esto_semantics.proofs.PlaceLemmas.{Has-within}
+use Rattle.esto_term.proofs.SetLemmas.{numbers_have, Has-within}
 use Rattle.esto_chase.specs.Chased.{IsFinishedRun, RunClashes}
 use Rattle.esto_chase.specs.declared.chasing.Chased.{Chased}
 use Rattle.esto_chase_laws.specs.RunLaws.{StartsHaveTheBody}
@@ -33,11 +30,11 @@ use Rattle.esto_chase_laws.specs.Runs.{IsStart, start_of}
 use Rattle.esto_chase_laws.specs.declared.clash.Clash.{Clash}
 use Rattle.esto_instance.specs.Instances.{state_of}
 use Rattle.esto_views.specs.Expanded.{Expands}
-use Rattle.esto_query.specs.Expanded.{facts_of}
+use Rattle.esto_semantics.specs.Expanded.{facts_of}
 use Rattle.esto_views.specs.Fragments.{views_of}
 use Rattle.esto_views.specs.Plans.{fact_of, plan_query}
 use Rattle.esto_views.specs.Soundness.{IsSoundPlan}
-use Rattle.esto_query.specs.declared.expanded.ExpandedFact.{ExpandedFact}
+use Rattle.esto_semantics.specs.declared.expanded.ExpandedFact.{ExpandedFact}
 use Rattle.esto_views.specs.declared.fragments.FragmentDef.{FragmentDef}
 use Rattle.esto_views.specs.declared.plan.Plan.{Plan}
 use Rattle.esto_views.proofs.FlatLemmas.{named-flat}

@@ -3,9 +3,8 @@ use Rattle.std.proofs.Common.{◌≡◌, ◌↔◌, ◌⊎◌, ℕ, ◌+◌, ◌
 use Rattle.std.proofs.lemmas.Bool.{cases_order}
 use Rattle.std.proofs.lemmas.List.Elements.{All-contains}
 use Rattle.esto_term.proofs.ListLemmas.{SomeBelow, Contains-at, some_none, some_step, some_contained}
-use Rattle.esto_semantics.specs.Sets.{Has, Within, Covers}
-use Rattle.esto_semantics.proofs.SetLemmas.{within_trans}
-use Rattle.esto_semantics.proofs.PlaceLemmas.{Has-within}
+use Rattle.esto_term.specs.Sets.{Has, Within, Covers}
+use Rattle.esto_term.proofs.SetLemmas.{within_trans, Has-within}
 use Rattle.esto_bits.specs.Kept.{AreOver, Kept, CoversBoth}
 use Rattle.esto_bits.proofs.JoinLemmas.{covers_none}
 use Rattle.esto_access.specs.Supplies.{CoversWhere, IsSupplied}

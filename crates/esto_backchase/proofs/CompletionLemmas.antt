@@ -8,10 +8,9 @@ use Rattle.esto_term.proofs.ListLemmas.{Contains-cases, Contains-head, Contains-
 use Rattle.esto_semantics.specs.declared.fact.Fact.{Fact}
 use Rattle.esto_semantics.specs.Access.{Patterns, HoldsExecutably, HoldsOfPart}
 use Rattle.esto_semantics.specs.AccessLaws.{PartExists}
-use Rattle.esto_semantics.specs.Sets.{Has, Covers, IsMinimal, TellHolds, numbers, united}
+use Rattle.esto_term.specs.Sets.{Has, Covers, IsMinimal, TellHolds, numbers, united}
 use Rattle.esto_semantics.proofs.AccessLawLemmas.{minimal_of_parts, part_is_one}
-use Rattle.esto_semantics.proofs.SetLemmas.{length-united, numbers_have}
-use Rattle.esto_semantics.proofs.PlaceLemmas.{Has-within}
+use Rattle.esto_term.proofs.SetLemmas.{length-united, numbers_have, Has-within}
 use Rattle.esto_bits.specs.Kept.{Kept, AreOver, IsAntichain, unions}
 use Rattle.esto_bits.proofs.FamilyLemmas.{antichain_is_minimal, told_are_minimal}
 use Rattle.esto_bits.proofs.JoinLemmas.{covers_append, covers_none, covers_unions}

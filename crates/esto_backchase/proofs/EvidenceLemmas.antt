@@ -8,21 +8,21 @@ use Rattle.esto_semantics.specs.ExpansionLaws.{ExpansionAnswers}
 use Rattle.esto_semantics.specs.Instances.{MapsTo}
 use Rattle.esto_semantics.specs.Queries.{ConjunctiveQuery}
 use Rattle.esto_semantics.specs.Rules.{Rule}
-use Rattle.esto_semantics.specs.Sets.{IsMinimal}
+use Rattle.esto_term.specs.Sets.{IsMinimal}
 use Rattle.esto_semantics.specs.Unions.{ReceivesUnions}
 use Rattle.esto_semantics.specs.Views.{IsFragmentAnswer}
 use Rattle.esto_semantics.specs.declared.fact.Fact.{Fact}
 use Rattle.esto_semantics.proofs.FactLemmas.{image_itself}
 use Rattle.esto_views.specs.Expanded.{Expands}
-use Rattle.esto_query.specs.Expanded.{facts_of}
+use Rattle.esto_semantics.specs.Expanded.{facts_of}
 use Rattle.esto_views.specs.Fragments.{views_of}
 use Rattle.esto_views.specs.Plans.{plan_query}
-use Rattle.esto_query.specs.declared.expanded.ExpandedFact.{ExpandedFact}
+use Rattle.esto_semantics.specs.declared.expanded.ExpandedFact.{ExpandedFact}
 use Rattle.esto_views.specs.declared.fragments.FragmentDef.{FragmentDef}
 use Rattle.esto_views.specs.declared.plan.Plan.{Plan}
-use Rattle.esto_world_laws.specs.Laws.{AreFactsOf}
-use Rattle.esto_world_laws.specs.Worlds.{InWorld, IsBroken, IsDenied}
-use Rattle.esto_world_laws.specs.declared.entry.Entry.{Entry}
+use Rattle.esto_chase_laws.specs.WorldLaws.{AreFactsOf}
+use Rattle.esto_chase_laws.specs.Worlds.{InWorld, IsBroken, IsDenied}
+use Rattle.esto_chase_laws.specs.declared.entry.Entry.{Entry}
 use Rattle.esto_backchase.specs.Candidates.{facts_chosen}
 use Rattle.esto_backchase.specs.Evidence.{AreConditional, AreConsistent}
 use Rattle.esto_backchase.proofs.CandidateLemmas.{chosen-from, from-chosen}

@@ -11,10 +11,10 @@ use Rattle.esto_semantics.specs.declared.fact.Fact.{Fact}
 use Rattle.esto_semantics.specs.declared.fact.Value.{Value}
 use Rattle.esto_semantics.specs.declared.fact.Value.TheVariants.{Text, Node}
 use Rattle.esto_semantics.proofs.ValueLemmas.{Text-same, Text-apart-Node}
-use Rattle.esto_world_laws.specs.Laws.{HasMatch, IsReadAs}
-use Rattle.esto_world_laws.specs.Worlds.{Linked, Reaches, here}
-use Rattle.esto_world_laws.specs.declared.entry.Claim.{Claim}
-use Rattle.esto_world_laws.specs.declared.entry.Claim.TheVariants.{Fact as Stated}
+use Rattle.esto_chase_laws.specs.WorldLaws.{HasMatch, IsReadAs}
+use Rattle.esto_chase_laws.specs.Worlds.{Linked, Reaches, here}
+use Rattle.esto_chase_laws.specs.declared.entry.Claim.{Claim}
+use Rattle.esto_chase_laws.specs.declared.entry.Claim.TheVariants.{Fact as Stated}
 use Rattle.esto_query.proofs.SoundLemmas.{mentions_decided}
 
 -- ---- values, and what facts mention

@@ -8,7 +8,7 @@ use Rattle.esto_semantics.specs.Access.{IsBound}
 use Rattle.esto_semantics.specs.Listed.{chosen}
 use Rattle.esto_semantics.specs.ListedLaws.{ChosenAreNamed}
 use Rattle.esto_semantics.specs.Maps.{IsFixedBy}
-use Rattle.esto_semantics.specs.Sets.{Has}
+use Rattle.esto_term.specs.Sets.{Has}
 use Rattle.esto_semantics.specs.declared.fact.Fact.{Fact}
 use Rattle.esto_views.specs.Plans.{fact_of}
 use Rattle.esto_views.specs.declared.plan.PlanAtom.{PlanAtom}

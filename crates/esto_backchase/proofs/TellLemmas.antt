@@ -14,10 +14,10 @@ use Rattle.esto_semantics.specs.Plans.{IsUniversalPlan}
 use Rattle.esto_semantics.specs.Queries.{ConjunctiveQuery, IsAnswer, IsQuery}
 use Rattle.esto_semantics.specs.Rewritings.{IsPlanFor}
 use Rattle.esto_semantics.specs.Rules.{Rule, AreRules}
-use Rattle.esto_semantics.specs.Sets.{Has}
+use Rattle.esto_term.specs.Sets.{Has}
 use Rattle.esto_semantics.specs.Views.{IsFragmentAnswer}
 use Rattle.esto_semantics.specs.declared.fact.Fact.{Fact}
-use Rattle.esto_semantics.proofs.PlaceLemmas.{Has-within}
+use Rattle.esto_term.proofs.SetLemmas.{Has-within}
 use Rattle.esto_plan_laws.specs.UnionSets.{AnswersUnion}
 use Rattle.esto_query.specs.Making.{query_of}
 use Rattle.esto_query.specs.declared.query.Query.{Query}
@@ -26,15 +26,15 @@ use Rattle.esto_views.specs.Expanded.{Expands}
 use Rattle.esto_views.specs.Fragments.{views_of}
 use Rattle.esto_views.specs.Plans.{plan_query}
 use Rattle.esto_views.specs.Soundness.{IsSoundPlan}
-use Rattle.esto_query.specs.declared.expanded.ExpandedFact.{ExpandedFact}
+use Rattle.esto_semantics.specs.declared.expanded.ExpandedFact.{ExpandedFact}
 use Rattle.esto_views.specs.declared.fragments.FragmentDef.{FragmentDef}
 use Rattle.esto_views.specs.declared.plan.Plan.{Plan}
-use Rattle.esto_prov.specs.Contained.{IsSafelyContained, MatchedSetsAreContained}
-use Rattle.esto_world_laws.specs.Laws.{AreFactsOf, HasGivenHead, HasMatch, ContainmentShowsMatches}
-use Rattle.esto_world_laws.specs.Worlds.{InWorld, IsBroken, IsDenied}
-use Rattle.esto_world_laws.specs.declared.entry.Claim.{Claim}
-use Rattle.esto_world_laws.specs.declared.entry.Claim.TheVariants.{Fact as Stated}
-use Rattle.esto_world_laws.specs.declared.entry.Entry.{Entry}
+use Rattle.esto_views.specs.Contained.{IsSafelyContained, MatchedSetsAreContained}
+use Rattle.esto_chase_laws.specs.WorldLaws.{AreFactsOf, HasGivenHead, HasMatch, ContainmentShowsMatches}
+use Rattle.esto_chase_laws.specs.Worlds.{InWorld, IsBroken, IsDenied}
+use Rattle.esto_chase_laws.specs.declared.entry.Claim.{Claim}
+use Rattle.esto_chase_laws.specs.declared.entry.Claim.TheVariants.{Fact as Stated}
+use Rattle.esto_chase_laws.specs.declared.entry.Entry.{Entry}
 use Rattle.esto_views.proofs.FlatLemmas.{named-flat}
 use Rattle.esto_backchase.specs.Candidates.{facts_chosen}
 use Rattle.esto_backchase.specs.Evidence.{AreConditional}

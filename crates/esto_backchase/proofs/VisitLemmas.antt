@@ -7,9 +7,8 @@ use Rattle.std.proofs.lemmas.Option.{same_Some, slice_get_within}
 use Rattle.std.proofs.lemmas.List.Elements.{Contains-append_left, Contains-push, Contains-push_cases}
 use Rattle.esto_term.proofs.ChoiceLemmas.{Decided, decided_below, decided_both, decided_not}
 use Rattle.esto_term.proofs.ListLemmas.{at_end, Contains-at, Contains-cases, Contains-filter_from, Contains-head, Contains-nil, Contains-rest}
-use Rattle.esto_semantics.specs.Sets.{Has, Within, Covers, IsMinimal, Rises}
-use Rattle.esto_semantics.proofs.SetLemmas.{decided_has, within_trans, within_same}
-use Rattle.esto_semantics.proofs.PlaceLemmas.{Has-within}
+use Rattle.esto_term.specs.Sets.{Has, Within, Covers, IsMinimal, Rises}
+use Rattle.esto_term.proofs.SetLemmas.{decided_has, within_trans, within_same, Has-within}
 use Rattle.esto_bits.specs.Kept.{IsAntichain, CoversAlso, is_covered, is_within, with_set}
 use Rattle.esto_bits.proofs.FamilyLemmas.{antichain-same}
 use Rattle.esto_backchase.specs.Searching.{AreFailing, FailsAt, FailsWith, HasOneOf, IsBetween, IsFirstSuperset, IsSupersetAt, IsWithRange, Visited}

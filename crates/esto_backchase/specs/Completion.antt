@@ -3,7 +3,7 @@
 use Rattle.std.specs.Prelude.{◌≡◌, ◌↔◌, ℕ, Bool, false, List, [], ◌∷◌, ◌++◌, map, length, replicate, Contains}
 use Rattle.esto_term.specs.declared.term.Term.{Term}
 use Rattle.esto_semantics.specs.Access.{Patterns, HoldsExecutably}
-use Rattle.esto_semantics.specs.Sets.{Has, IsMinimal, TellHolds, numbers}
+use Rattle.esto_term.specs.Sets.{Has, IsMinimal, TellHolds, numbers}
 use Rattle.esto_semantics.specs.declared.fact.Fact.{Fact}
 use Rattle.esto_bits.specs.Kept.{Kept, AreOver, unions}
 use Rattle.esto_access.specs.Supplies.{AreAccessProducts, EachIs, IsReachedIn, IsSupplied, sets_at}

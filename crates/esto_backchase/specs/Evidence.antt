@@ -9,17 +9,17 @@ use Rattle.esto_semantics.specs.Access.{HoldsOfPart}
 use Rattle.esto_semantics.specs.Containment.{IsSatisfiable}
 use Rattle.esto_semantics.specs.Plans.{IsUniversalPlan}
 use Rattle.esto_semantics.specs.Rules.{Rule}
-use Rattle.esto_semantics.specs.Sets.{IsMinimal}
+use Rattle.esto_term.specs.Sets.{IsMinimal}
 use Rattle.esto_semantics.specs.Unions.{ReceivesUnions}
 use Rattle.esto_views.specs.Expanded.{AreExpanded, Expands}
 use Rattle.esto_views.specs.Fragments.{views_of, patterns_of}
 use Rattle.esto_views.specs.Plans.{plan_query}
-use Rattle.esto_query.specs.declared.expanded.ExpandedFact.{ExpandedFact}
+use Rattle.esto_semantics.specs.declared.expanded.ExpandedFact.{ExpandedFact}
 use Rattle.esto_views.specs.declared.plan.Plan.{Plan}
-use Rattle.esto_world_laws.specs.Derived.{AreDerived}
-use Rattle.esto_world_laws.specs.Laws.{AreGiven, HasMatch, IsSound, IsReceivedNowhere, IsDatabase, AreNestedWithin}
-use Rattle.esto_world_laws.specs.Worlds.{InWorld, AreOfCount, IsClosed, IsBroken, IsDenied}
-use Rattle.esto_world_laws.specs.declared.entry.Entry.{Entry}
+use Rattle.esto_chase_laws.specs.Derived.{AreDerived}
+use Rattle.esto_chase_laws.specs.WorldLaws.{AreGiven, HasMatch, IsSound, IsReceivedNowhere, IsDatabase, AreNestedWithin}
+use Rattle.esto_chase_laws.specs.Worlds.{InWorld, AreOfCount, IsClosed, IsBroken, IsDenied}
+use Rattle.esto_chase_laws.specs.declared.entry.Entry.{Entry}
 use Rattle.esto_backchase.specs.Candidates.{Answers}
 
 -- The entries say of each set of so many atoms what the rules make of its expanded facts, under ranks of the relations: each of these facts stands in the set's

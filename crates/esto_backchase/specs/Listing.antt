@@ -8,7 +8,7 @@ use Rattle.esto_semantics.specs.Plans.{IsUniversalPlan}
 use Rattle.esto_semantics.specs.Queries.{ConjunctiveQuery}
 use Rattle.esto_semantics.specs.Rewritings.{MapsOnto}
 use Rattle.esto_semantics.specs.Rules.{Rule}
-use Rattle.esto_semantics.specs.Sets.{Covers}
+use Rattle.esto_term.specs.Sets.{Covers}
 
 -- The query over fragments maps onto a set of the plan's atoms that has one of these sets within it.
 abbrev pub MapsOntoOne : ConjunctiveQuery → ConjunctiveQuery → List (List Bool) → Type 0

@@ -1,6 +1,6 @@
 -- What a search among the sets of a plan's atoms looks for, and what it leaves.
 use Rattle.std.specs.Prelude.{◌≡◌, ◌↔◌, ◌⊎◌, ℕ, ◌<◌, ◌≤◌, Bool, List, Option, None, Some, length, slice_get, Contains}
-use Rattle.esto_semantics.specs.Sets.{Has, Covers, Within}
+use Rattle.esto_term.specs.Sets.{Has, Covers, Within}
 
 -- The other set has each number of the set, and none of those that are left out.
 pub record IsBetween (set left_out other : List Bool) : Type 0 where

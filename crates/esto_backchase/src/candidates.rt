@@ -10,7 +10,7 @@ ghost use Rattle.esto_constraint.specs.Constraints.{rules_of};
 ghost use Rattle.esto_query.specs.Making.{query_of};
 ghost use Rattle.esto_views.specs.Fragments.{views_of};
 ghost use Rattle.esto_views.specs.Plans.{plan_query};
-ghost use Rattle.esto_query.specs.declared.expanded.ExpandedFact.{ExpandedFact};
+ghost use Rattle.esto_semantics.specs.declared.expanded.ExpandedFact.{ExpandedFact};
 ghost use Rattle.esto_chase_laws.specs.Runs.{start_of};
 ghost use Rattle.esto_instance.specs.Instances.{state_of, trace_of};
 ghost use Rattle.esto_backchase.specs.Candidates.{facts_chosen, IsSearch, Answers};
@@ -23,10 +23,10 @@ use esto_chase_laws::queries_have_starts;
 use esto_constraint::rules_are_sound;
 use esto_instance::Instance;
 use esto_mapping::{Catalogue, catalogues_are_sound};
-use esto_query::{ExpandedFact, ExpandedFacts, Facts, Query};
+use esto_query::{Facts, Query};
 use esto_semantics::{
-    an_expansion_means_the_same, an_expansion_of_a_plan_expands_its_candidates,
-    candidates_contain_the_query,
+    ExpandedFact, ExpandedFacts, an_expansion_means_the_same,
+    an_expansion_of_a_plan_expands_its_candidates, candidates_contain_the_query,
 };
 use esto_term::{List, OutOfMemory, Replicate};
 use esto_views::{Plan, plans_are_sound};

@@ -1,7 +1,7 @@
 //! Completion: sets of a plan's atoms in which something holds, made executable.
 ghost use Rattle.std.specs.Prelude.{◌≡◌, ◌↔◌, ◌⊎◌, ◌<◌, List, Bool, Some, length, slice_get, IfOk, OnOk, IsTrue, Contains};
 ghost use Rattle.esto_semantics.specs.Access.{HoldsExecutably};
-ghost use Rattle.esto_semantics.specs.Sets.{Covers, Has, IsMinimal};
+ghost use Rattle.esto_term.specs.Sets.{Covers, Has, IsMinimal};
 ghost use Rattle.esto_views.specs.Fragments.{patterns_of};
 ghost use Rattle.esto_views.specs.Plans.{plan_query};
 ghost use Rattle.esto_access.specs.Supplies.{CoversWhere, IsSupplied};

@@ -2,23 +2,21 @@
 ghost use Rattle.std.specs.Prelude.{List, Bool, IsTrue};
 ghost use Rattle.esto_term.specs.declared.term.Term.{Term};
 ghost use Rattle.esto_semantics.specs.Access.{Patterns};
-ghost use Rattle.esto_semantics.specs.Sets.{Covers};
+ghost use Rattle.esto_term.specs.Sets.{Covers};
 ghost use Rattle.esto_semantics.specs.declared.fact.Fact.{Fact};
 ghost use Rattle.esto_backchase.specs.Completion.{MinimalCompletions};
 ghost use Rattle.esto_backchase.specs.Evidence.{EntriesAreConsistent, EntriesDecideAnswers, EntriesDecideUnions};
 ghost use Rattle.esto_backchase.specs.Listing.{ListedCoverRewritings};
 
-use esto_chase_laws::queries_have_starts;
+use esto_chase_laws::{matches_decide_containment, queries_have_starts};
 use esto_constraint::rules_are_sound;
-use esto_prov::matched_sets_are_contained;
 use esto_query::queries_are_sound;
 use esto_semantics::{
     an_expansion_means_the_same, an_expansion_of_a_plan_expands_its_candidates,
     candidates_contain_the_query, chosen_atoms_are_named, executable_sets_unite,
     listed_sets_are_minimal, rewritings_map_onto_sets,
 };
-use esto_views::plans_are_sound;
-use esto_world_laws::matches_decide_containment;
+use esto_views::{matched_sets_are_contained, plans_are_sound};
 
 /// A law: each query over fragments that is an executable rewriting of a satisfiable query maps to a universal plan of
 /// it, head to head, and onto a set of the plan's atoms that has one of the sets within it, where these are exactly the

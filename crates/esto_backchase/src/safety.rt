@@ -2,7 +2,7 @@
 ghost use Rattle.std.specs.Prelude.{◌≡◌, ◌↔◌, IsTrue, length, map};
 ghost use Rattle.esto_semantics.specs.Access.{IsBound};
 ghost use Rattle.esto_semantics.specs.Listed.{IsSafe};
-ghost use Rattle.esto_semantics.specs.Sets.{Has};
+ghost use Rattle.esto_term.specs.Sets.{Has};
 ghost use Rattle.esto_views.specs.Plans.{fact_of, plan_query};
 
 use esto_bits::RowBits;

@@ -1,6 +1,6 @@
 //! The search for the minimal sets of a plan's atoms that answer the query.
 ghost use Rattle.std.specs.Prelude.{◌≡◌, ◌↔◌, ◌⊎◌, ◌<◌, ◌≤◌, ◌∷◌, ◌++◌, [], ℕ, List, Bool, Contains, IfOk, OnOk, MatchOption, length};
-ghost use Rattle.esto_semantics.specs.Sets.{Has, Rises};
+ghost use Rattle.esto_term.specs.Sets.{Has, Rises};
 ghost use Rattle.esto_backchase.specs.Candidates.{IsSearch, Answers};
 ghost use Rattle.esto_backchase.specs.Searching.{AreFailing, FailsAt, FailsWith, HasOneOf, IsBetween, IsFirstSuperset, IsWithRange, Visited};
 

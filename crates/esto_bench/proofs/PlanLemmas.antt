@@ -17,7 +17,7 @@ use Rattle.esto_semantics.specs.Plans.{IsUniversalPlan}
 use Rattle.esto_semantics.specs.Queries.{ConjunctiveQuery}
 use Rattle.esto_semantics.specs.Rewritings.{IsPlanFor}
 use Rattle.esto_semantics.specs.Rules.{Rule, AreRules}
-use Rattle.esto_semantics.specs.Sets.{AreInOrder}
+use Rattle.esto_term.specs.Sets.{AreInOrder}
 use Rattle.esto_universal.specs.Planned.{IsPlanOfRun}
 use Rattle.esto_term.proofs.ListLemmas.{Contains-at, Contains-map, Contains-nil, map_at}
 use Rattle.esto_views.specs.Fragments.{views_of, patterns_of}

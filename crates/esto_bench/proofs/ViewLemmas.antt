@@ -10,7 +10,7 @@ use Rattle.esto_semantics.specs.Facts.{Database, image}
 use Rattle.esto_semantics.specs.Listed.{IsExecutableRewriting}
 use Rattle.esto_semantics.specs.Maps.{Keeps, SendsInto}
 use Rattle.esto_semantics.specs.Queries.{ConjunctiveQuery, IsAnswer}
-use Rattle.esto_semantics.specs.Sets.{numbers}
+use Rattle.esto_term.specs.Sets.{numbers}
 use Rattle.esto_semantics.specs.Views.{IsViewRow, IsFragmentAnswer}
 use Rattle.esto_semantics.specs.declared.fact.Fact.{Fact}
 use Rattle.esto_semantics.specs.declared.fact.Value.{Value}

@@ -7,7 +7,7 @@ use Rattle.std.proofs.lemmas.List.Sums.{sum_by-drop_more, sum_by_more}
 use Rattle.std.proofs.lemmas.Nat.{div-add-mod', ones_cat, ones_le_self, shr-shr, zero_from_ones}
 use Rattle.std.proofs.lemmas.Nat.Bits.{bit_at-lt}
 use Rattle.std.specs.Int.{bit_at}
-use Rattle.esto_semantics.specs.Sets.{numbers, numbers_from}
+use Rattle.esto_term.specs.Sets.{numbers, numbers_from}
 use Rattle.esto_bits.specs.Words.{bit_of}
 use Rattle.esto_bits.proofs.NumberLemmas.{later_numbers, later_numbers-has, later_numbers-lacks, later_numbers-end}
 use Rattle.esto_bits.proofs.SetLemmas.{false-not_true}

@@ -9,9 +9,9 @@ use Rattle.std.proofs.lemmas.List.Kept.{AllPairs-filter}
 use Rattle.std.proofs.lemmas.List.Quantifiers.{all_pairs_push}
 use Rattle.std.proofs.lemmas.Option.{slice_get-get_or}
 use Rattle.esto_term.proofs.ListLemmas.{Contains-cases, Contains-filter, Contains-filter_from, Contains-nil, HoldsBelow, each_all, place-from_Contains}
-use Rattle.esto_semantics.specs.Sets.{Has, Within, Covers, HaveCount, IsMinimal, AreMinimal, TellHolds}
+use Rattle.esto_term.specs.Sets.{Has, Within, Covers, HaveCount, IsMinimal, AreMinimal, TellHolds}
 use Rattle.esto_bits.specs.Kept.{is_within, AreOver, IsAntichain, in_place_of_supersets, is_covered, with_set, with_sets, OneMoreIsMinimal, KeptAreMinimal}
-use Rattle.esto_semantics.proofs.SetLemmas.{within_refl, within_trans, within_same}
+use Rattle.esto_term.proofs.SetLemmas.{within_refl, within_trans, within_same}
 use Rattle.esto_bits.proofs.SetLemmas.{false-not_true, Within-from_test, test_from_Within}
 
 -- ---- truth values

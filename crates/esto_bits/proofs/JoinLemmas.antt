@@ -6,8 +6,8 @@ use Rattle.std.proofs.lemmas.Option.{slice_get-get_or}
 use Rattle.std.proofs.lemmas.List.Elements.{Contains-append_left, Contains-append_right, Contains-append_cases}
 use Rattle.esto_term.proofs.ListLemmas.{Contains-cases, Contains-head, Contains-map, Contains-map_from, Contains-nil, Contains-rest}
 use Rattle.esto_term.proofs.PlaceLemmas.{take-there}
-use Rattle.esto_semantics.specs.Sets.{Within, Covers, united}
-use Rattle.esto_semantics.proofs.SetLemmas.{has_united, within_refl}
+use Rattle.esto_term.specs.Sets.{Within, Covers, united}
+use Rattle.esto_term.proofs.SetLemmas.{has_united, within_refl}
 use Rattle.esto_bits.specs.Kept.{with_set, with_sets, unions, AddsOfBoth, CoverAlikeBeside, CoversAlso, CoversAlsoBeside, CoversBoth, CoversEither, IsAntichain}
 use Rattle.esto_bits.proofs.FamilyLemmas.{covered-with_set, with_set-uncovered}
 use Rattle.esto_bits.proofs.PackedLemmas.{none_left_out}

@@ -8,8 +8,8 @@ use Rattle.std.proofs.lemmas.Bool.Decides.{nat_tests}
 use Rattle.std.specs.Cmp.Lexicographic.{slice_cmp}
 use Rattle.std.specs.Ordering.{ordering_then, nat_cmp}
 use Rattle.std.specs.declared.cmp.Ordering.TheVariants.{Less, Equal, Greater}
-use Rattle.esto_semantics.specs.Sets.{numbers_from}
-use Rattle.esto_semantics.proofs.PlaceLemmas.{Has-within}
+use Rattle.esto_term.specs.Sets.{numbers_from}
+use Rattle.esto_term.proofs.SetLemmas.{Has-within}
 
 -- ---- the numbers from one on
 

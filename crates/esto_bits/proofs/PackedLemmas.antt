@@ -9,7 +9,7 @@ use Rattle.std.proofs.lemmas.List.{take-append-le, take_all, take_more}
 use Rattle.std.proofs.lemmas.List.Elements.{All-contains_itself, All-weaker, filter-append}
 use Rattle.std.proofs.lemmas.List.FromFn.{fill_by_all, get_or-map-range_with_len, length-map-range_with_len, map-range_with_len_more}
 use Rattle.std.proofs.lemmas.Option.{slice_get-get_or}
-use Rattle.esto_semantics.specs.Sets.{Covers, Within}
+use Rattle.esto_term.specs.Sets.{Covers, Within}
 use Rattle.esto_bits.specs.Kept.{HasSuperset, Kept, is_within, kept, unless_superset}
 use Rattle.esto_bits.specs.Words.{ArePacked, AreWordsBelow, LackNoBit, SomeAround, SomeWithin, set_of, sets_of, words_at, words_for}
 use Rattle.esto_bits.proofs.FamilyLemmas.{filter-all}

@@ -1,6 +1,6 @@
 -- Products, as the code reads the words of a set.
 use Rattle.std.proofs.Common.{◌≡◌, ◌↔◌, ℕ, Bool, List, length, IsTrue, sym, ap, ◌∙◌, subst}
-use Rattle.esto_semantics.specs.Sets.{Covers}
+use Rattle.esto_term.specs.Sets.{Covers}
 use Rattle.esto_bits.specs.Kept.{AreOver, IsAntichain, Kept, in_place_of_supersets, kept, with_set}
 use Rattle.esto_bits.specs.Words.{AreWordsBelow, set_of}
 use Rattle.esto_bits.proofs.FamilyLemmas.{antichain-with_set, over-with_set, with_set-uncovered}

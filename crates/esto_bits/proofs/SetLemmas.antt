@@ -5,7 +5,7 @@ use Rattle.std.proofs.lemmas.Bool.{cases_lt}
 use mathlib.Core.Bool.{beq}
 use Rattle.std.proofs.lemmas.List.{get_or-set_same, get_or-set_other, take_more}
 use Rattle.std.proofs.lemmas.List.Elements.{Contains-append_left, Contains-push, Contains-push_cases}
-use Rattle.esto_semantics.specs.Sets.{Has, Within}
+use Rattle.esto_term.specs.Sets.{Has, Within}
 use Rattle.esto_term.proofs.ChoiceLemmas.{same_truth}
 use Rattle.esto_bits.specs.Kept.{is_within}
 

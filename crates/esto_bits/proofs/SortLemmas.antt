@@ -12,8 +12,8 @@ use Rattle.std.proofs.lemmas.List.{get_or_default}
 use Rattle.std.proofs.lemmas.List.Elements.{All-contains}
 use Rattle.std.proofs.lemmas.List.Sorted.{Contains-permutation, IsPermutation-sym, ranks_by, sorted_far}
 use Rattle.esto_term.proofs.ListLemmas.{pairs_permuted}
-use Rattle.esto_semantics.specs.Sets.{AreInOrder, Within, set_cmp}
-use Rattle.esto_semantics.proofs.SetLemmas.{set_cmp_total, equal_sets, within_refl}
+use Rattle.esto_term.specs.Sets.{AreInOrder, Within, set_cmp}
+use Rattle.esto_term.proofs.SetLemmas.{set_cmp_total, equal_sets, within_refl}
 use Rattle.esto_bits.specs.Kept.{AreOver, IsAntichain}
 
 -- the test by which the code sorts is an order

@@ -9,11 +9,9 @@ use Rattle.std.proofs.lemmas.List.{get_or_past, get_or-set_same, get_or-set_othe
 use Rattle.std.proofs.lemmas.List.FromFn.{length-map-range_with_len, get_or-map-range_with_len}
 use Rattle.std.proofs.lemmas.Nat.{and_le_l}
 use Rattle.std.proofs.lemmas.Nat.Bits.{bit_at-lt, bit_at-zero, bit_at_and, bit_at_or, shr_and_one, bit_at_set_same, bit_at_set_other, same_from_bits_below}
-use Rattle.esto_semantics.specs.Sets.{Has, Within, united}
+use Rattle.esto_term.specs.Sets.{Has, Within, united}
 use Rattle.esto_bits.specs.Words.{bit_of, set_of, words_for, AreWordsBelow, LackNoBit, HaveBitsOf}
-use Rattle.esto_semantics.proofs.SetLemmas.{has_united, length-united, within_same}
-use Rattle.esto_semantics.proofs.PlaceLemmas.{Has-within}
-use Rattle.esto_semantics.proofs.AccessLemmas.{none_has}
+use Rattle.esto_term.proofs.SetLemmas.{has_united, length-united, within_same, Has-within, none_has}
 use Rattle.esto_bits.proofs.SetLemmas.{Has-set}
 
 -- the words keep the set: they are words below its count, and it is the set that they keep

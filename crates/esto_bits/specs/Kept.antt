@@ -1,7 +1,7 @@
 -- Antichains of sets, and what stays of a family when only minimal sets are kept.
 use Rattle.std.specs.Prelude.{◌≡◌, ◌↔◌, ◌⊎◌, ℕ, Bool, true, cond, not, ◌||◌, ◌&&◌, List, [], ◌∷◌, ◌++◌, length, map, take, filter, All, AllPairs, Contains}
 use Rattle.std.specs.List.{list_any}
-use Rattle.esto_semantics.specs.Sets.{Within, Covers, AreMinimal, united}
+use Rattle.esto_term.specs.Sets.{Within, Covers, AreMinimal, united}
 
 -- What products keep: the count that numbers are below, and the sets.
 pub record Kept : Type 0 where

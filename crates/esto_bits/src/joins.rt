@@ -1,6 +1,6 @@
 //! Products put together.
 ghost use Rattle.std.specs.Prelude.{◌≡◌, ◌↔◌, ◌⊎◌, ◌<◌, [], ◌∷◌, List, Bool, Some, length, map, slice_get, IfOk, OnOk, OnErr};
-ghost use Rattle.esto_semantics.specs.Sets.{Covers, Within, united};
+ghost use Rattle.esto_term.specs.Sets.{Covers, Within, united};
 ghost use Rattle.esto_bits.specs.Kept.{kept, with_sets, unions, AddsOfBoth, CoverAlikeBeside, CoversAlsoBeside, CoversBoth, CoversEither, HasFirst};
 
 use crate::products::{Products, products_are_antichains};

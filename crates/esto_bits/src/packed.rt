@@ -1,7 +1,6 @@
 //! Sets of one count in one vector of words.
-ghost use Rattle.std.specs.Prelude.{◌≡◌, ◌↔◌, ◌<◌, ◌≤◌, ◌+◌, ◌*◌, ◌++◌, ◌∷◌, [], Some, filter, length, not, slice_get, IsTrue, IfOk, IfSome, OnOk};
-ghost use Rattle.std.specs.Prelude.{OnErr};
-ghost use Rattle.esto_semantics.specs.Sets.{Covers};
+ghost use Rattle.std.specs.Prelude.{◌≡◌, ◌↔◌, ◌<◌, ◌≤◌, ◌+◌, ◌*◌, ◌++◌, ◌∷◌, [], Some, filter, length, not, slice_get, IsTrue, IfOk, IfSome, OnOk, OnErr};
+ghost use Rattle.esto_term.specs.Sets.{Covers};
 ghost use Rattle.esto_bits.specs.Kept.{HasSuperset, in_place_of_supersets, is_within, kept, unless_superset};
 ghost use Rattle.esto_bits.specs.Words.{AreWordsBelow, set_of};
 

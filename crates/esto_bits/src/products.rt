@@ -1,6 +1,6 @@
 //! Antichains: families of sets of which none is a subset of another.
 ghost use Rattle.std.specs.Prelude.{◌≡◌, ◌↔◌, ◌<◌, List, Bool, Some, [], false, length, slice_get, IsTrue, IfOk, IfSome, OnOk, OnErr, Contains};
-ghost use Rattle.esto_semantics.specs.Sets.{AreInOrder, Covers, united};
+ghost use Rattle.esto_term.specs.Sets.{AreInOrder, Covers, united};
 ghost use Rattle.esto_bits.specs.Kept.{AreOver, IsAntichain, with_set, CoversAlso, OneMoreIsMinimal, KeptAreMinimal};
 
 use crate::packed::PackedSets;

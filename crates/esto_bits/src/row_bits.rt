@@ -1,6 +1,6 @@
 //! Sets of atom numbers below a count.
 ghost use Rattle.std.specs.Prelude.{ℕ, ◌≡◌, ◌↔◌, ◌⊎◌, ◌<◌, false, true, length, replicate, slice_set, All, Contains, IsTrue, IfOk};
-ghost use Rattle.esto_semantics.specs.Sets.{Has, Within, numbers, set_cmp, united};
+ghost use Rattle.esto_term.specs.Sets.{Has, Within, numbers, set_cmp, united};
 ghost use Rattle.esto_bits.specs.Words.{AreWordsBelow, set_of};
 
 use crate::lanes::row_within;

@@ -9,8 +9,8 @@ use Rattle.esto_semantics.specs.Facts.{image}
 use Rattle.esto_semantics.specs.Rules.{Rule, tuple, equality, denial}
 use Rattle.esto_semantics.specs.declared.fact.Fact.{Fact}
 use Rattle.esto_chase_laws.specs.Making.{extended}
-use Rattle.esto_world_laws.specs.declared.entry.Claim.{Claim}
-use Rattle.esto_world_laws.specs.declared.entry.Claim.TheVariants.{Fact as Stated, Same}
+use Rattle.esto_chase_laws.specs.declared.entry.Claim.{Claim}
+use Rattle.esto_chase_laws.specs.declared.entry.Claim.TheVariants.{Fact as Stated, Same}
 use Rattle.esto_cert.specs.Certificates.{Case, MayClaim, MayEnd, equality_of, equalities_at, fact_of, facts_at, made_at, numbered}
 use Rattle.esto_cert.specs.Judging.{AreFew, IsJudgedText}
 use Rattle.esto_cert.specs.Lines.{with_item, expanded_of, match_of, step_of}

@@ -18,31 +18,30 @@ use Rattle.esto_semantics.specs.Listed.{candidate}
 use Rattle.esto_semantics.specs.Maps.{AreFlat}
 use Rattle.esto_semantics.specs.Queries.{ConjunctiveQuery, IsQuery}
 use Rattle.esto_semantics.specs.Rules.{AreRules, IsRule}
-use Rattle.esto_semantics.specs.Sets.{Has}
+use Rattle.esto_term.specs.Sets.{Has}
 use Rattle.esto_semantics.specs.Views.{IsFragmentAnswer}
 use Rattle.esto_semantics.specs.declared.fact.Fact.{Fact}
 use Rattle.esto_semantics.proofs.FactLemmas.{image_itself, Mentions-among}
-use Rattle.esto_semantics.proofs.PlaceLemmas.{Has-within}
-use Rattle.esto_semantics.proofs.SetLemmas.{decided_has}
+use Rattle.esto_term.proofs.SetLemmas.{decided_has, Has-within}
 use Rattle.esto_constraint.proofs.RankLemmas.{rules-AreRules}
 use Rattle.esto_chase_laws.specs.ReceivedLaws.{ClashesReceiveNothing, StatesAreUniversal}
 use Rattle.esto_chase_laws.specs.RunLaws.{RunsReachAnEnd}
 use Rattle.esto_chase_laws.specs.Runs.{IsEnd, IsRun, IsStart, Step as Move}
 use Rattle.esto_views.specs.Expanded.{Expands}
-use Rattle.esto_query.specs.Expanded.{facts_of}
+use Rattle.esto_semantics.specs.Expanded.{facts_of}
 use Rattle.esto_views.specs.Fragments.{views_of}
 use Rattle.esto_views.specs.Plans.{fact_of as atom_of, plan_query}
 use Rattle.esto_views.specs.Soundness.{IsSoundPlan}
-use Rattle.esto_query.specs.declared.expanded.ExpandedFact.{ExpandedFact}
+use Rattle.esto_semantics.specs.declared.expanded.ExpandedFact.{ExpandedFact}
 use Rattle.esto_views.specs.declared.fragments.FragmentDef.{FragmentDef}
 use Rattle.esto_views.specs.declared.plan.Plan.{Plan}
 use Rattle.esto_views.proofs.ExpandedLemmas.{plan_expands}
 use Rattle.esto_views.proofs.FlatLemmas.{expanded-flat, named-flat}
-use Rattle.esto_prov.specs.Contained.{IsSafelyContained}
-use Rattle.esto_world_laws.specs.Laws.{AreFactsOf}
-use Rattle.esto_world_laws.specs.Worlds.{Linked, Reaches}
-use Rattle.esto_world_laws.specs.declared.entry.Claim.TheVariants.{Fact as Stated}
-use Rattle.esto_world_laws.proofs.LinkLemmas.{rows_themselves}
+use Rattle.esto_views.specs.Contained.{IsSafelyContained}
+use Rattle.esto_chase_laws.specs.WorldLaws.{AreFactsOf}
+use Rattle.esto_chase_laws.specs.Worlds.{Linked, Reaches}
+use Rattle.esto_chase_laws.specs.declared.entry.Claim.TheVariants.{Fact as Stated}
+use Rattle.esto_chase_laws.proofs.LinkLemmas.{rows_themselves}
 use Rattle.esto_cert.specs.Certificates.{Case}
 use Rattle.esto_cert.specs.Complete.{ContainedSetsHaveCertificates, HasAnswer}
 use Rattle.esto_cert.specs.Judging.{Decides, Verdict, case_for}

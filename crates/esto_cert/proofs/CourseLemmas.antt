@@ -27,13 +27,13 @@ use Rattle.esto_chase_laws.proofs.JoinedLemmas.{joined-AreTogether, replaced-Are
 use Rattle.esto_chase_laws.proofs.KeptLemmas.{Kept, Settled, not_fired}
 use Rattle.esto_chase_laws.proofs.MakingLemmas.{extended-body, extended-flat, extended-keeps}
 use Rattle.esto_chase_laws.proofs.StateLemmas.{ran}
-use Rattle.esto_world_laws.specs.Matches.{AreChosen, IsMatch, match_map}
-use Rattle.esto_world_laws.specs.Worlds.{AreOne, Linked, Reaches}
-use Rattle.esto_world_laws.specs.declared.entry.Claim.{Claim}
-use Rattle.esto_world_laws.specs.declared.entry.Claim.TheVariants.{Fact as Stated, Same}
-use Rattle.esto_world_laws.proofs.ClosedLemmas.{choose, Fits-linked}
-use Rattle.esto_world_laws.proofs.LinkLemmas.{Linked-back, Linked-is, Linked-more, Linked-then, one_link}
-use Rattle.esto_world_laws.proofs.TakenLemmas.{substituted_has, taken-Const, taken_cases}
+use Rattle.esto_chase_laws.specs.WorldMatches.{AreChosen, IsMatch, match_map}
+use Rattle.esto_chase_laws.specs.Worlds.{AreOne, Linked, Reaches}
+use Rattle.esto_chase_laws.specs.declared.entry.Claim.{Claim}
+use Rattle.esto_chase_laws.specs.declared.entry.Claim.TheVariants.{Fact as Stated, Same}
+use Rattle.esto_chase_laws.proofs.ClosedLemmas.{choose, Fits-linked}
+use Rattle.esto_chase_laws.proofs.LinkLemmas.{Linked-back, Linked-is, Linked-more, Linked-then, one_link}
+use Rattle.esto_chase_laws.proofs.TakenLemmas.{substituted_has, taken-Const, taken_cases}
 use Rattle.esto_cert.specs.Certificates.{Case, Matches, MayClaim, MayEnd, equality_of, fact_of, equalities_at, facts_at, made_at}
 use Rattle.esto_cert.specs.Lines.{with_item}
 use Rattle.esto_cert.specs.Linking.{IsAmong}

@@ -9,7 +9,7 @@ use Rattle.esto_term.specs.declared.term.Term.{Term}
 use Rattle.esto_term.proofs.ListLemmas.{Contains-cases, Contains-flat_from, Contains-head, Contains-map, Contains-map_from, Contains-nil, Contains-rest}
 use Rattle.esto_term.proofs.ZipLemmas.{zip_weaker}
 use Rattle.esto_semantics.specs.Rules.{Rule, body_of}
-use Rattle.esto_semantics.specs.Sets.{Has}
+use Rattle.esto_term.specs.Sets.{Has}
 use Rattle.esto_semantics.specs.declared.fact.Fact.{Fact}
 use Rattle.esto_prov.specs.Derivations.{AreChain, Derives, FollowsFrom, leaves_of, leaves_of_level}
 use Rattle.esto_prov.specs.Derivations.Derives.{given, by_chain, by_rule}
@@ -17,11 +17,11 @@ use Rattle.esto_prov.specs.declared.why.Why.{Why, fold-roll-Why}
 use Rattle.esto_prov.specs.declared.why.Why.TheOpen.{Why-F}
 use Rattle.esto_prov.specs.declared.why.Why.TheVariants as why
 use Rattle.esto_prov.specs.declared.why.Why.TheVariants.{rolls-Expanded, rolls-Same, rolls-Step}
-use Rattle.esto_query.specs.declared.expanded.ExpandedFact.{ExpandedFact}
-use Rattle.esto_world_laws.specs.Worlds.{Linked, here, along, back}
-use Rattle.esto_world_laws.specs.Matches.{match_map, IsMatch}
-use Rattle.esto_world_laws.specs.declared.entry.Claim.{Claim}
-use Rattle.esto_world_laws.specs.declared.entry.Claim.TheVariants.{Fact as Stated, Same}
+use Rattle.esto_semantics.specs.declared.expanded.ExpandedFact.{ExpandedFact}
+use Rattle.esto_chase_laws.specs.Worlds.{Linked, here, along, back}
+use Rattle.esto_chase_laws.specs.WorldMatches.{match_map, IsMatch}
+use Rattle.esto_chase_laws.specs.declared.entry.Claim.{Claim}
+use Rattle.esto_chase_laws.specs.declared.entry.Claim.TheVariants.{Fact as Stated, Same}
 use Rattle.esto_cert.specs.Certificates.{Case, equalities_at, facts_at, made_at, MayClaim, MayEnd}
 use Rattle.esto_cert.specs.Judging.{after_end, Decides, IsJudgedText, Verdict}
 use Rattle.esto_cert.specs.Lines.{line_of}

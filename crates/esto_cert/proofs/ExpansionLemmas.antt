@@ -19,12 +19,12 @@ use Rattle.esto_term.proofs.ListLemmas.{Contains-cases, Contains-head, Contains-
 use Rattle.esto_term.specs.declared.term.Term.{Term}
 use Rattle.esto_term.specs.declared.term.Term.TheVariants.{Plain}
 use Rattle.esto_views.proofs.InnerLemmas.{AreInnerBelow, inner-from_parts, inner_all, inner_none, inner_skips, inner_takes}
-use Rattle.esto_query.proofs.SubstitutionLemmas.{spread_is}
+use Rattle.esto_semantics.proofs.SubstitutionLemmas.{spread_is}
 use Rattle.esto_views.specs.Expanded.{AreExpanded, placed}
 use Rattle.esto_views.specs.Fragments.{IsFragment}
 use Rattle.esto_views.specs.Plans.{IsAtomOver}
-use Rattle.esto_query.specs.Spreads.{IsSpread, substituted}
-use Rattle.esto_query.specs.declared.expanded.ExpandedFact.{ExpandedFact}
+use Rattle.esto_semantics.specs.Spreads.{IsSpread, substituted}
+use Rattle.esto_semantics.specs.declared.expanded.ExpandedFact.{ExpandedFact}
 use Rattle.esto_views.specs.declared.fragments.FragmentDef.{FragmentDef}
 use Rattle.esto_views.specs.declared.plan.PlanAtom.{PlanAtom}
 

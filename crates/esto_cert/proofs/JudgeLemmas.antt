@@ -14,9 +14,9 @@ use Rattle.esto_constraint.specs.declared.rule.Constraint.{Constraint}
 use Rattle.esto_semantics.specs.Facts.{terms_of}
 use Rattle.esto_semantics.specs.Rules.{Rule, body_of}
 use Rattle.esto_semantics.specs.declared.fact.Fact.{Fact}
-use Rattle.esto_world_laws.specs.Worlds.{Linked}
-use Rattle.esto_world_laws.specs.Matches.{taken, match_map}
-use Rattle.esto_world_laws.specs.declared.entry.Claim.{Claim}
+use Rattle.esto_chase_laws.specs.Worlds.{Linked}
+use Rattle.esto_chase_laws.specs.WorldMatches.{taken, match_map}
+use Rattle.esto_chase_laws.specs.declared.entry.Claim.{Claim}
 use Rattle.esto_cert.specs.Certificates.{numbered, made_at, Matches}
 use Rattle.esto_cert.specs.Linking.{IsAmong, StandsAsOne}
 use Rattle.esto_cert.specs.Matching.{IsFound}

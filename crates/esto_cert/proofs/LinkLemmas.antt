@@ -10,10 +10,10 @@ use Rattle.esto_term.specs.Order.{replaced, same_term}
 use Rattle.esto_term.specs.declared.term.Term.{Term}
 use Rattle.esto_semantics.proofs.TermLemmas.{same_term-Decides}
 use Rattle.esto_semantics.specs.declared.fact.Fact.{Fact}
-use Rattle.esto_world_laws.specs.Worlds.{Linked, here, along, back}
-use Rattle.esto_world_laws.specs.declared.entry.Claim.{Claim}
-use Rattle.esto_world_laws.specs.declared.entry.Claim.TheVariants.{Fact as Stated, Same}
-use Rattle.esto_world_laws.proofs.LinkLemmas.{Linked-back, Linked-is, Linked-more, Linked-respects, Linked-then, one_link}
+use Rattle.esto_chase_laws.specs.Worlds.{Linked, here, along, back}
+use Rattle.esto_chase_laws.specs.declared.entry.Claim.{Claim}
+use Rattle.esto_chase_laws.specs.declared.entry.Claim.TheVariants.{Fact as Stated, Same}
+use Rattle.esto_chase_laws.proofs.LinkLemmas.{Linked-back, Linked-is, Linked-more, Linked-respects, Linked-then, one_link}
 use Rattle.esto_cert.specs.Linking.{IsAmong, standing, Tells}
 use Rattle.esto_cert.specs.declared.linking.Equality.{Equality}
 

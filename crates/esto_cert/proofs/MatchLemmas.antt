@@ -8,10 +8,10 @@ use Rattle.esto_term.proofs.ZipLemmas.{zip_weaker}
 use Rattle.esto_term.specs.declared.term.Term.{Term}
 use Rattle.esto_semantics.specs.Facts.{terms_of}
 use Rattle.esto_semantics.specs.declared.fact.Fact.{Fact}
-use Rattle.esto_world_laws.specs.Worlds.{Linked}
-use Rattle.esto_world_laws.specs.Matches.{IsLike, Fits, AreChosen, IsMatch}
-use Rattle.esto_world_laws.specs.declared.entry.Claim.{Claim}
-use Rattle.esto_world_laws.specs.declared.entry.Claim.TheVariants.{Fact as Stated}
+use Rattle.esto_chase_laws.specs.Worlds.{Linked}
+use Rattle.esto_chase_laws.specs.WorldMatches.{IsLike, Fits, AreChosen, IsMatch}
+use Rattle.esto_chase_laws.specs.declared.entry.Claim.{Claim}
+use Rattle.esto_chase_laws.specs.declared.entry.Claim.TheVariants.{Fact as Stated}
 use Rattle.esto_cert.specs.Certificates.{facts_at, equalities_at, Matches}
 use Rattle.esto_cert.specs.Linking.{IsAmong, Tells, StandsAsOne}
 use Rattle.esto_cert.specs.Matching.{FactsFit, IsFound}

@@ -23,14 +23,14 @@ use Rattle.esto_semantics.proofs.TermLemmas.{Const-apart-Plain, decided_term}
 use Rattle.esto_views.specs.Expanded.{placed, AreExpanded, Expands}
 use Rattle.esto_views.specs.Fragments.{views_of}
 use Rattle.esto_views.specs.Plans.{fact_of as atom_of}
-use Rattle.esto_query.specs.Spreads.{IsSpread}
-use Rattle.esto_query.specs.declared.expanded.ExpandedFact.{ExpandedFact}
+use Rattle.esto_semantics.specs.Spreads.{IsSpread}
+use Rattle.esto_semantics.specs.declared.expanded.ExpandedFact.{ExpandedFact}
 use Rattle.esto_views.specs.declared.fragments.FragmentDef.{FragmentDef}
 use Rattle.esto_views.specs.declared.plan.Plan.{Plan}
 use Rattle.esto_views.specs.declared.plan.PlanAtom.{PlanAtom}
-use Rattle.esto_world_laws.specs.Matches.{match_map}
-use Rattle.esto_world_laws.specs.declared.entry.Claim.{Claim}
-use Rattle.esto_world_laws.specs.declared.entry.Claim.TheVariants.{Fact as Stated}
+use Rattle.esto_chase_laws.specs.WorldMatches.{match_map}
+use Rattle.esto_chase_laws.specs.declared.entry.Claim.{Claim}
+use Rattle.esto_chase_laws.specs.declared.entry.Claim.TheVariants.{Fact as Stated}
 use Rattle.esto_cert.specs.Certificates.{Case, made_at, MayClaim, MayEnd}
 use Rattle.esto_cert.specs.Judging.{Decides, IsJudgedText, Verdict}
 use Rattle.esto_cert.specs.Lines.{line_of}

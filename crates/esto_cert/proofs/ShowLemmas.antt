@@ -8,17 +8,17 @@ use Rattle.esto_term.proofs.ListLemmas.{Contains-cases, Contains-nil}
 use Rattle.esto_term.proofs.ZipLemmas.{zip_weaker}
 use Rattle.esto_semantics.specs.Facts.{terms_of}
 use Rattle.esto_semantics.specs.declared.fact.Fact.{Fact}
-use Rattle.esto_world_laws.specs.Worlds.{InWorld, Linked}
-use Rattle.esto_world_laws.specs.Matches.{Touching, match_map}
-use Rattle.esto_world_laws.specs.Steps.{IsCovered}
-use Rattle.esto_world_laws.specs.Laws.{HasMatch}
-use Rattle.esto_world_laws.specs.declared.entry.Claim.{Claim}
-use Rattle.esto_world_laws.specs.declared.entry.Claim.TheVariants.{Fact as Stated, Same}
-use Rattle.esto_world_laws.specs.declared.entry.Entry.{Entry}
-use Rattle.esto_world_laws.proofs.GrowLemmas.{InWorld-more, IsCovered-more}
-use Rattle.esto_world_laws.proofs.LinkLemmas.{Linked-touching}
-use Rattle.esto_world_laws.proofs.SoundLemmas.{rows_split}
-use Rattle.esto_world_laws.proofs.TakenLemmas.{taken-Const}
+use Rattle.esto_chase_laws.specs.Worlds.{InWorld, Linked}
+use Rattle.esto_chase_laws.specs.WorldMatches.{Touching, match_map}
+use Rattle.esto_chase_laws.specs.WorldSteps.{IsCovered}
+use Rattle.esto_chase_laws.specs.WorldLaws.{HasMatch}
+use Rattle.esto_chase_laws.specs.declared.entry.Claim.{Claim}
+use Rattle.esto_chase_laws.specs.declared.entry.Claim.TheVariants.{Fact as Stated, Same}
+use Rattle.esto_chase_laws.specs.declared.entry.Entry.{Entry}
+use Rattle.esto_chase_laws.proofs.GrowLemmas.{InWorld-more, IsCovered-more}
+use Rattle.esto_chase_laws.proofs.LinkLemmas.{Linked-touching}
+use Rattle.esto_chase_laws.proofs.SoundLemmas.{rows_split}
+use Rattle.esto_chase_laws.proofs.TakenLemmas.{taken-Const}
 use Rattle.esto_cert.specs.Certificates.{Case, numbered, fact_of, equality_of, facts_at, equalities_at, Matches, MayClaim, MayEnd}
 use Rattle.esto_cert.specs.Judging.{IsJudgedText, Verdict}
 use Rattle.esto_cert.specs.Lines.{line_of, with_item}

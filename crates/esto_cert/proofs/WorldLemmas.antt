@@ -13,24 +13,24 @@ use Rattle.esto_term.proofs.ListLemmas.{place-from_Contains}
 use Rattle.esto_term.proofs.ZipLemmas.{zip_weaker}
 use Rattle.esto_semantics.specs.Facts.{image}
 use Rattle.esto_semantics.specs.Rules.{Rule, tuple, equality, denial, body_of}
-use Rattle.esto_semantics.specs.Sets.{Has, Within, united}
+use Rattle.esto_term.specs.Sets.{Has, Within, united}
 use Rattle.esto_semantics.specs.declared.fact.Fact.{Fact}
-use Rattle.esto_semantics.proofs.SetLemmas.{has_united}
+use Rattle.esto_term.proofs.SetLemmas.{has_united}
 use Rattle.esto_semantics.proofs.TermLemmas.{decided_term}
 use Rattle.esto_semantics.proofs.FactLemmas.{decided_fact}
 use Rattle.esto_chase_laws.specs.Making.{extended}
-use Rattle.esto_query.specs.declared.expanded.ExpandedFact.{ExpandedFact}
-use Rattle.esto_world_laws.specs.Worlds.{InWorld, Linked}
-use Rattle.esto_world_laws.specs.Matches.{Touching, match_map, IsMatch}
-use Rattle.esto_world_laws.specs.Steps.{IsAsked, IsCovered}
-use Rattle.esto_world_laws.specs.Derived.{Claims, IsNamed, IsUnion, IsEquality, FollowsBy, Follows, AreDerived}
-use Rattle.esto_world_laws.specs.declared.entry.Claim.{Claim}
-use Rattle.esto_world_laws.specs.declared.entry.Claim.TheVariants.{Fact as Stated, Same}
-use Rattle.esto_world_laws.specs.declared.entry.Reason.{Reason}
-use Rattle.esto_world_laws.specs.declared.entry.Reason.TheVariants.{Expanded, Step}
-use Rattle.esto_world_laws.specs.declared.entry.Entry.{Entry}
-use Rattle.esto_world_laws.proofs.GrowLemmas.{AreDerived-push, InWorld-within, IsCovered-more}
-use Rattle.esto_world_laws.proofs.LinkLemmas.{Linked-touching, Touching-more}
+use Rattle.esto_semantics.specs.declared.expanded.ExpandedFact.{ExpandedFact}
+use Rattle.esto_chase_laws.specs.Worlds.{InWorld, Linked}
+use Rattle.esto_chase_laws.specs.WorldMatches.{Touching, match_map, IsMatch}
+use Rattle.esto_chase_laws.specs.WorldSteps.{IsAsked, IsCovered}
+use Rattle.esto_chase_laws.specs.Derived.{Claims, IsNamed, IsUnion, IsEquality, FollowsBy, Follows, AreDerived}
+use Rattle.esto_chase_laws.specs.declared.entry.Claim.{Claim}
+use Rattle.esto_chase_laws.specs.declared.entry.Claim.TheVariants.{Fact as Stated, Same}
+use Rattle.esto_chase_laws.specs.declared.entry.Reason.{Reason}
+use Rattle.esto_chase_laws.specs.declared.entry.Reason.TheVariants.{Expanded, Step}
+use Rattle.esto_chase_laws.specs.declared.entry.Entry.{Entry}
+use Rattle.esto_chase_laws.proofs.GrowLemmas.{AreDerived-push, InWorld-within, IsCovered-more}
+use Rattle.esto_chase_laws.proofs.LinkLemmas.{Linked-touching, Touching-more}
 use Rattle.esto_cert.specs.Certificates.{numbered, made_at}
 use Rattle.esto_cert.specs.Linking.{IsAmong}
 use Rattle.esto_cert.specs.declared.linking.Equality.{Equality}

@@ -5,14 +5,14 @@ use Rattle.esto_term.specs.declared.term.Term.{Term}
 use Rattle.esto_semantics.specs.Facts.{image}
 use Rattle.esto_semantics.specs.Queries.{ConjunctiveQuery}
 use Rattle.esto_semantics.specs.Rules.{Rule, tuple, equality, denial, body_of}
-use Rattle.esto_semantics.specs.Sets.{Has}
+use Rattle.esto_term.specs.Sets.{Has}
 use Rattle.esto_semantics.specs.declared.fact.Fact.{Fact}
 use Rattle.esto_chase_laws.specs.Making.{extended}
-use Rattle.esto_query.specs.declared.expanded.ExpandedFact.{ExpandedFact}
-use Rattle.esto_world_laws.specs.Worlds.{Linked}
-use Rattle.esto_world_laws.specs.Matches.{match_map, IsMatch}
-use Rattle.esto_world_laws.specs.declared.entry.Claim.{Claim}
-use Rattle.esto_world_laws.specs.declared.entry.Claim.TheVariants.{Fact as Stated, Same}
+use Rattle.esto_semantics.specs.declared.expanded.ExpandedFact.{ExpandedFact}
+use Rattle.esto_chase_laws.specs.Worlds.{Linked}
+use Rattle.esto_chase_laws.specs.WorldMatches.{match_map, IsMatch}
+use Rattle.esto_chase_laws.specs.declared.entry.Claim.{Claim}
+use Rattle.esto_chase_laws.specs.declared.entry.Claim.TheVariants.{Fact as Stated, Same}
 use Rattle.esto_cert.specs.Lines.{with_item}
 use Rattle.esto_cert.specs.Linking.{IsAmong}
 use Rattle.esto_cert.specs.declared.line.Line.{Line}

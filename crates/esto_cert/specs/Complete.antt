@@ -15,7 +15,7 @@ use Rattle.esto_views.specs.Fragments.{views_of}
 use Rattle.esto_views.specs.Plans.{IsPlanOver, plan_query}
 use Rattle.esto_views.specs.declared.fragments.FragmentDef.{FragmentDef}
 use Rattle.esto_views.specs.declared.plan.Plan.{Plan}
-use Rattle.esto_prov.specs.Contained.{IsSafelyContained}
+use Rattle.esto_views.specs.Contained.{IsSafelyContained}
 use Rattle.esto_cert.specs.Judging.{DecidesFor}
 
 -- Some database that meets the rules gives an answer.

@@ -4,8 +4,8 @@ use Rattle.std.specs.List.{AllZip}
 use Rattle.esto_term.specs.declared.term.Term.{Term}
 use Rattle.esto_semantics.specs.Facts.{terms_of}
 use Rattle.esto_semantics.specs.declared.fact.Fact.{Fact}
-use Rattle.esto_world_laws.specs.Matches.{IsLike, Fits}
-use Rattle.esto_world_laws.specs.declared.entry.Claim.{Claim}
+use Rattle.esto_chase_laws.specs.WorldMatches.{IsLike, Fits}
+use Rattle.esto_chase_laws.specs.declared.entry.Claim.{Claim}
 use Rattle.esto_cert.specs.Certificates.{Matches}
 use Rattle.esto_cert.specs.Linking.{IsAmong, Tells}
 use Rattle.esto_cert.specs.declared.linking.Equality.{Equality}

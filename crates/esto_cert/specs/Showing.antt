@@ -7,21 +7,21 @@ use Rattle.esto_constraint.specs.declared.rule.Constraint.{Constraint}
 use Rattle.esto_query.specs.Making.{query_of}
 use Rattle.esto_query.specs.declared.query.Query.{Query}
 use Rattle.esto_semantics.specs.Rules.{Rule}
-use Rattle.esto_semantics.specs.Sets.{Has}
+use Rattle.esto_term.specs.Sets.{Has}
 use Rattle.esto_semantics.specs.declared.fact.Fact.{Fact}
 use Rattle.esto_prov.specs.Derivations.{Derives, leaves_of}
 use Rattle.esto_prov.specs.declared.why.Why.{Why}
 use Rattle.esto_views.specs.Expanded.{AreExpanded}
 use Rattle.esto_views.specs.Fragments.{views_of}
 use Rattle.esto_views.specs.Plans.{plan_query}
-use Rattle.esto_query.specs.declared.expanded.ExpandedFact.{ExpandedFact}
+use Rattle.esto_semantics.specs.declared.expanded.ExpandedFact.{ExpandedFact}
 use Rattle.esto_views.specs.declared.fragments.FragmentDef.{FragmentDef}
 use Rattle.esto_views.specs.declared.plan.Plan.{Plan}
-use Rattle.esto_prov.specs.Contained.{IsSafelyContained}
-use Rattle.esto_world_laws.specs.Matches.{match_map}
-use Rattle.esto_world_laws.specs.Worlds.{Linked}
-use Rattle.esto_world_laws.specs.declared.entry.Claim.{Claim}
-use Rattle.esto_world_laws.specs.declared.entry.Claim.TheVariants.{Same}
+use Rattle.esto_views.specs.Contained.{IsSafelyContained}
+use Rattle.esto_chase_laws.specs.WorldMatches.{match_map}
+use Rattle.esto_chase_laws.specs.Worlds.{Linked}
+use Rattle.esto_chase_laws.specs.declared.entry.Claim.{Claim}
+use Rattle.esto_chase_laws.specs.declared.entry.Claim.TheVariants.{Same}
 use Rattle.esto_cert.specs.Certificates.{Case, Matches, MayClaim}
 use Rattle.esto_cert.specs.Judging.{case_for, DecidesFor}
 use Rattle.esto_cert.specs.Lines.{line_of}

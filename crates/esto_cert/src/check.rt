@@ -4,7 +4,7 @@ ghost use Rattle.esto_constraint.specs.Constraints.{rules_of};
 ghost use Rattle.esto_query.specs.Making.{query_of};
 ghost use Rattle.esto_views.specs.Fragments.{views_of};
 ghost use Rattle.esto_views.specs.Plans.{plan_query, IsPlanOver};
-ghost use Rattle.esto_prov.specs.Contained.{IsSafelyContained};
+ghost use Rattle.esto_views.specs.Contained.{IsSafelyContained};
 ghost use Rattle.esto_cert.specs.Judging.{after_end, case_of, AreNumbersOf, Verdict, DecidesFor, Answers};
 ghost use Rattle.esto_cert.specs.declared.check.CertError.TheVariants as error;
 

@@ -3,8 +3,8 @@ ghost use Rattle.std.specs.Prelude.{◌≡◌, ◌↔◌, ◌<◌, ℕ, List, le
 ghost use Rattle.esto_constraint.specs.Constraints.{rule_of};
 ghost use Rattle.esto_semantics.specs.Facts.{terms_of};
 ghost use Rattle.esto_semantics.specs.Rules.{tuple, equality, body_of};
-ghost use Rattle.esto_world_laws.specs.Matches.{taken};
-ghost use Rattle.esto_world_laws.specs.declared.entry.Claim.{Claim};
+ghost use Rattle.esto_chase_laws.specs.WorldMatches.{taken};
+ghost use Rattle.esto_chase_laws.specs.declared.entry.Claim.{Claim};
 ghost use Rattle.esto_cert.specs.Certificates.{made_at, IsNamed};
 ghost use Rattle.esto_cert.specs.Judging.{case_of, AreFew, AreNumbersOf, IsJudged, IsJudgedText};
 ghost use Rattle.esto_cert.specs.Lines.{line_of};
@@ -18,12 +18,12 @@ use crate::matching::find_match;
 use crate::naming::{count, numbered};
 use crate::reading::read_line;
 use esto_bits::RowBits;
+use esto_chase_laws::Claim;
 use esto_constraint::{Constraint, Egd, Tgd, frontier_of};
 use esto_prov::{made_fact, taken_term, taken_terms};
-use esto_query::{ExpandedFact, Query};
-use esto_semantics::Atom;
+use esto_query::Query;
+use esto_semantics::{Atom, ExpandedFact};
 use esto_term::{OutOfMemory, Replicate, Term};
-use esto_world_laws::Claim;
 use std::alloc::Global;
 
 /// What is judged of a line.

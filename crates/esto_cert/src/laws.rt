@@ -2,13 +2,13 @@
 ghost use Rattle.esto_cert.specs.Complete.{ContainedSetsHaveCertificates};
 ghost use Rattle.esto_cert.specs.Showing.{AcceptedCertificatesDerive, AcceptedCertificatesShow, VerdictsAreMoved, VerdictsAreOne};
 
-use esto_chase_laws::{clashes_receive_nothing, runs_reach_an_end, states_are_universal};
+use esto_chase_laws::{
+    clashes_receive_nothing, derived_entries_are_sound, runs_reach_an_end, states_are_universal,
+};
 use esto_constraint::rules_are_sound;
-use esto_prov::matched_sets_are_contained;
 use esto_query::queries_are_sound;
 use esto_semantics::{an_expansion_means_the_same, an_expansion_of_a_plan_expands_its_candidates};
-use esto_views::plans_are_sound;
-use esto_world_laws::derived_entries_are_sound;
+use esto_views::{matched_sets_are_contained, plans_are_sound};
 
 /// A law: where a certificate for a set of a plan's atoms is accepted, the set is safe, and its candidate is contained in
 /// the query under the rules.

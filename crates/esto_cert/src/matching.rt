@@ -1,7 +1,7 @@
 //! Matches of a body in what lines claim.
 ghost use Rattle.std.specs.Prelude.{◌≡◌, ◌↔◌, List, IsTrue, IfOk, MatchOption};
 ghost use Rattle.std.specs.List.{AllZip};
-ghost use Rattle.esto_world_laws.specs.Matches.{IsLike};
+ghost use Rattle.esto_chase_laws.specs.WorldMatches.{IsLike};
 ghost use Rattle.esto_term.specs.declared.term.Term.{Term};
 ghost use Rattle.esto_semantics.specs.Facts.{terms_of};
 ghost use Rattle.esto_semantics.specs.declared.fact.Fact.{Fact};
@@ -10,10 +10,10 @@ ghost use Rattle.esto_cert.specs.Matching.{IsFound, FactsFit};
 
 use crate::linking::{Equalities, Equality, renamings_of, stand_as_one};
 use crate::naming::{equalities_at, facts_at};
+use esto_chase_laws::Claim;
 use esto_prov::{taken_terms, terms_of};
 use esto_semantics::{Atom, Atoms};
 use esto_term::{OutOfMemory, Terms};
-use esto_world_laws::Claim;
 use std::alloc::Global;
 
 /// A match: the chosen facts, the terms of the body and of the facts, and renamings that tell which terms are linked.

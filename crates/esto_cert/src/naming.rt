@@ -3,9 +3,9 @@ ghost use Rattle.std.specs.Prelude.{◌≡◌, ◌≤◌, length, option_map, If
 ghost use Rattle.esto_cert.specs.Certificates.{numbered, fact_of, equality_of, facts_at, equalities_at};
 
 use crate::linking::{Equalities, Equality};
+use esto_chase_laws::Claim;
 use esto_semantics::{Atom, Atoms};
 use esto_term::{List, OutOfMemory, Replicate};
-use esto_world_laws::Claim;
 use std::alloc::Global;
 
 /// How many items there are; 64 bits hold that.

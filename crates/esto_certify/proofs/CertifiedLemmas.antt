@@ -19,7 +19,7 @@ use Rattle.esto_semantics.specs.Views.{IsFragmentAnswer}
 use Rattle.esto_views.specs.Fragments.{views_of}
 use Rattle.esto_views.specs.Plans.{plan_query}
 use Rattle.esto_views.specs.declared.plan.Plan.{Plan}
-use Rattle.esto_prov.specs.Contained.{IsSafelyContained}
+use Rattle.esto_views.specs.Contained.{IsSafelyContained}
 use Rattle.esto_certify.specs.Laws.{ContainedSetsHaveOne, ListedSetsHaveOne}
 
 -- what is known of ranks

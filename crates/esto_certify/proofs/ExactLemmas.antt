@@ -6,7 +6,7 @@ use Rattle.esto_cert.specs.Showing.{AcceptedCertificatesDerive, AcceptedCertific
 use Rattle.esto_course.specs.Course.{Course, and_then, judges}
 use Rattle.esto_ports.specs.Files.{Files}
 use Rattle.esto_query.specs.declared.query.Query.{Query}
-use Rattle.esto_semantics.specs.SetLaws.{NumbersTellSets}
+use Rattle.esto_term.specs.SetLaws.{NumbersTellSets}
 use Rattle.esto_views.specs.declared.plan.Plan.{Plan}
 use Rattle.esto_opening.specs.Alike.{CataloguesOpenAlike, IsSameQuery, QueriesOpenAlike}
 use Rattle.esto_opening.specs.Calm.{Leads}

@@ -4,8 +4,8 @@ use Rattle.std.proofs.Common.{get_or, replicate, Some, Contains, subst, refl, sy
 use Rattle.std.proofs.lemmas.Bool.Decides.{nat_tests}
 use Rattle.std.proofs.lemmas.List.{drop_all, drop_more, length-replicate}
 use Rattle.esto_term.proofs.ListLemmas.{Contains-cases, Contains-head, Contains-nil, Contains-rest}
-use Rattle.esto_semantics.specs.Sets.{Has}
-use Rattle.esto_semantics.proofs.AccessLemmas.{none_has}
+use Rattle.esto_term.specs.Sets.{Has}
+use Rattle.esto_term.proofs.SetLemmas.{none_has}
 use Rattle.esto_course.specs.Course.{Stops, judges}
 use Rattle.esto_course.specs.Course.Stops.{refused}
 use Rattle.esto_views.specs.declared.plan.Plan.{Plan}

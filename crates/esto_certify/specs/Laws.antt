@@ -12,7 +12,7 @@ use Rattle.esto_query.specs.declared.query.Query.{Query}
 use Rattle.esto_views.specs.Fragments.{views_of}
 use Rattle.esto_views.specs.Plans.{plan_query}
 use Rattle.esto_views.specs.declared.plan.Plan.{Plan}
-use Rattle.esto_prov.specs.Contained.{IsSafelyContained}
+use Rattle.esto_views.specs.Contained.{IsSafelyContained}
 use Rattle.esto_opening.specs.Calm.{AgreeCalmly, IsOne, SaysAlways}
 use Rattle.esto_opening.specs.Answers.{IsCaused}
 use Rattle.esto_opening.specs.Fetch.{FetchStops, HasWithin}

@@ -13,7 +13,8 @@ use esto_planning::{
     chosen_items_are_listed, planned_plans_are_universal, planned_plans_have_their_form,
     plans_and_lists_are_moved, plans_and_lists_are_one,
 };
-use esto_semantics::{candidates_contain_the_query, sets_are_ordered};
+use esto_semantics::candidates_contain_the_query;
+use esto_term::sets_are_ordered;
 
 /// A law: over the same files `verify` has one reply or one refusal, where no fetch is at a fault.
 pub fn verify_outcomes_are_one()

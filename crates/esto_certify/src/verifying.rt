@@ -1,7 +1,7 @@
 //! The command `verify`.
 ghost use Rattle.std.specs.Prelude.{◌≡◌, ◌⊎◌, ◌↔◌, ◌+◌, ◌≤◌, ℕ, length};
 ghost use Rattle.esto_ports.specs.Faults.{Rises};
-ghost use Rattle.esto_semantics.specs.Sets.{Has};
+ghost use Rattle.esto_term.specs.Sets.{Has};
 ghost use Rattle.esto_opening.specs.Answers.{Answers};
 ghost use Rattle.esto_opening.specs.Asked.{AsksIn};
 ghost use Rattle.esto_planning.specs.Listing.{IsPlanned};

@@ -1,6 +1,5 @@
 -- What the rule makes of a term of its head.
-use Rattle.std.proofs.Common.{◌≡◌, ◌⊎◌, inl, inr, ℕ, true, false, List}
-use Rattle.std.proofs.Common.{map, None, Some, Option, refl, sym, ap, ◌∙◌, subst}
+use Rattle.std.proofs.Common.{◌≡◌, ◌⊎◌, inl, inr, ℕ, true, false, List, map, None, Some, Option, refl, sym, ap, ◌∙◌, subst}
 use Rattle.std.specs.FinMap.{get}
 use Rattle.std.specs.Option.{unwrap_or}
 use Rattle.std.specs.Prelude.{IsSome}
@@ -12,11 +11,11 @@ use Rattle.esto_semantics.specs.Facts.{image, Mentions}
 use Rattle.esto_semantics.specs.Maps.{AreFlat}
 use Rattle.esto_semantics.specs.declared.fact.Fact.{Fact}
 use Rattle.esto_semantics.proofs.FactLemmas.{image_agree}
-use Rattle.esto_query.specs.Valuations.{Assignment, map_of}
+use Rattle.esto_semantics.specs.Valuations.{Assignment, map_of}
 use Rattle.esto_constraint.specs.Tests.{IsOver}
 use Rattle.esto_chase_laws.specs.Making.{frontier, extended, made_facts}
 use Rattle.esto_chase_laws.proofs.MakingLemmas.{extended-flat}
-use Rattle.esto_query.proofs.ValuationLemmas.{map_of-Plain, map_of-Const}
+use Rattle.esto_semantics.proofs.ValuationLemmas.{map_of-Plain, map_of-Const}
 use Rattle.esto_chase.specs.Made.{made_by, made_by_level}
 
 -- ---- what the rule makes

@@ -12,7 +12,7 @@ use Rattle.esto_term.proofs.ListLemmas.{map_at, place-from_Contains}
 use Rattle.esto_semantics.specs.Rules.{Rule, tuple, equality, denial, IsMet, AreMet}
 use Rattle.esto_semantics.specs.declared.fact.Fact.{Fact}
 use Rattle.esto_query.specs.Matches.{IsFound}
-use Rattle.esto_query.specs.Valuations.{Assignment}
+use Rattle.esto_semantics.specs.Valuations.{Assignment}
 use Rattle.esto_constraint.specs.Constraints.{rule_of, rules_of}
 use Rattle.esto_constraint.specs.Matches.{IsLeastActive, LeastActiveIsLeast}
 use Rattle.esto_constraint.specs.Tests.{IsOver}

@@ -7,7 +7,7 @@ use Rattle.esto_term.specs.Order.{term_cmp}
 use Rattle.esto_term.proofs.ListLemmas.{map_at}
 use Rattle.esto_semantics.specs.Rules.{Rule, tuple, equality, denial, body_of}
 use Rattle.esto_semantics.specs.declared.fact.Fact.{Fact}
-use Rattle.esto_query.specs.Valuations.{map_of}
+use Rattle.esto_semantics.specs.Valuations.{map_of}
 use Rattle.esto_query.specs.declared.matches.Found.{Found}
 use Rattle.esto_constraint.specs.Constraints.{rule_of, rules_of}
 use Rattle.esto_constraint.specs.Tests.{IsOver}

@@ -4,7 +4,7 @@ use Rattle.std.specs.FinMap.{get}
 use Rattle.esto_term.specs.declared.term.Term.{Term, out-Term}
 use Rattle.esto_term.specs.declared.term.Term.TheOpen.{Term-F}
 use Rattle.esto_term.specs.declared.term.Term.TheVariants.{Made}
-use Rattle.esto_query.specs.Valuations.{Assignment}
+use Rattle.esto_semantics.specs.Valuations.{Assignment}
 
 -- What it makes of a term, by the term's level.
 abbrev pub made_by_level : ℕ → List Term → Assignment → Term → Term-F Term → Term

@@ -5,7 +5,7 @@ use Rattle.esto_term.specs.declared.term.Term.{Term}
 use Rattle.esto_semantics.specs.Rules.{Rule, body_of, IsMet}
 use Rattle.esto_semantics.specs.declared.fact.Fact.{Fact}
 use Rattle.esto_query.specs.Matches.{IsFound}
-use Rattle.esto_query.specs.Valuations.{Assignment, map_of}
+use Rattle.esto_semantics.specs.Valuations.{Assignment, map_of}
 use Rattle.esto_constraint.specs.Matches.{IsLeastActive}
 use Rattle.esto_chase_laws.specs.Runs.{IsNext, kind_of}
 use Rattle.esto_chase.specs.declared.next.Kind.{Kind}

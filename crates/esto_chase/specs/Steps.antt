@@ -6,7 +6,7 @@ use Rattle.esto_term.specs.Order.{term_cmp, replaced}
 use Rattle.esto_term.specs.declared.term.Term.{Term}
 use Rattle.esto_term.specs.declared.term.Term.TheVariants.{Const}
 use Rattle.esto_semantics.specs.Rules.{Rule}
-use Rattle.esto_query.specs.Valuations.{map_of}
+use Rattle.esto_semantics.specs.Valuations.{map_of}
 use Rattle.esto_query.specs.declared.matches.Found.{Found}
 use Rattle.esto_chase_laws.specs.Runs.{AreSides, IsStep, replaced_facts}
 use Rattle.esto_chase_laws.specs.declared.clash.Clash.{Clash}

@@ -1,14 +1,13 @@
 //! The facts that a tuple rule makes of a match of its body.
 ghost use Rattle.std.specs.Prelude.{◌≡◌, map, IfOk};
 ghost use Rattle.esto_semantics.specs.Facts.{image};
-ghost use Rattle.esto_query.specs.Valuations.{map_of};
+ghost use Rattle.esto_semantics.specs.Valuations.{map_of};
 ghost use Rattle.esto_constraint.specs.Tests.{IsOver};
 ghost use Rattle.esto_chase_laws.specs.Making.{made_facts};
 ghost use Rattle.esto_chase.specs.Made.{made_by};
 
 use esto_constraint::{Tgd, frontier_of, rules_are_sound, value_of};
-use esto_query::Valuation;
-use esto_semantics::{Atom, Facts};
+use esto_semantics::{Atom, Facts, Valuation};
 use esto_term::{List, OutOfMemory, Replicate, Term, Terms};
 use std::alloc::Global;
 

@@ -3,7 +3,7 @@ ghost use Rattle.std.specs.Prelude.{◌≡◌, ◌≢◌, [], ◌∷◌, ◌++�
 ghost use Rattle.std.specs.declared.cmp.Ordering.TheVariants.{Less};
 ghost use Rattle.esto_term.specs.Kinds.{IsConstant};
 ghost use Rattle.esto_term.specs.Order.{term_cmp};
-ghost use Rattle.esto_query.specs.Valuations.{map_of};
+ghost use Rattle.esto_semantics.specs.Valuations.{map_of};
 ghost use Rattle.esto_constraint.specs.Constraints.{rules_of};
 ghost use Rattle.esto_constraint.specs.Tests.{IsOver};
 ghost use Rattle.esto_chase_laws.specs.Joined.{joined};
@@ -18,7 +18,8 @@ use crate::making::made_facts;
 use esto_chase_laws::Clash;
 use esto_constraint::{Broken, Constraint, Egd, Rules, Tgd, value_of};
 use esto_instance::Instance;
-use esto_query::{Found, Valuation};
+use esto_query::Found;
+use esto_semantics::Valuation;
 use esto_term::{OutOfMemory, Replicate, Term};
 use std::alloc::Global;
 use std::cmp::Ordering;

@@ -6,3 +6,10 @@ pub mod Bounds
 pub mod RunLaws
 pub mod ReceivedLaws
 pub mod BoundLaws
+pub mod Claims
+pub mod Worlds
+pub mod WorldMatches
+pub mod WorldSteps
+pub mod Derived
+pub mod WorldBounds
+pub mod WorldLaws

@@ -3,7 +3,6 @@ use Rattle.std.proofs.Common.{◌≡◌, ◌⊎◌, ◌↔◌, inl, inr, ℕ, �
 use Rattle.std.proofs.Common.{refl, sym, ap, ◌∙◌, subst, arith, get_or}
 use Rattle.std.specs.List.{AllZip}
 use Rattle.std.proofs.lemmas.List.{append_assoc, append-nil, length-take-le, take_all, take-append-le}
-use Rattle.std.proofs.lemmas.List.Concat.{flat_map-append}
 use Rattle.std.proofs.lemmas.List.Elements.{Contains-append_left, Contains-push, Contains-push_cases}
 use Rattle.std.proofs.lemmas.Option.{none-some, same_Some, slice_get_within, get_or_from_slice_get}
 use Rattle.std.proofs.lemmas.Slice.Zip.{all_zipped_more}
@@ -33,6 +32,7 @@ use Rattle.esto_steps.specs.Named.{NamesCodes}
 use Rattle.esto_steps.specs.Rows.{IsRowOf, held_by}
 use Rattle.esto_coded.specs.Relations.{AreWhole}
 use Rattle.esto_coded.specs.Whole.{IsLinked, AreFilters, IsWholeGet, AreWholeGets, AreWholeSteps, TakeWhole, IsOver}
+use Rattle.esto_semantics.proofs.FactLemmas.{terms_of-push}
 
 -- ---- growing texts
 
@@ -189,12 +189,9 @@ below_more start texts more atoms count bound new_bound gets new_gets atom get b
       own = subst (λ them. AreWholeGets more [] them new_gets) (sym taken) (subst (AreWholeGets more [] (take count atoms ++ atom ∷ [])) (sym gets_is)
           (gets_more more [] (take count atoms) gets atom get (gets_grow texts more [] (take count atoms) gets grown before.own)
           (subst (λ them. IsWholeGet more them atom get) before.terms is_get)));
-      terms = bound_is ∙ ap (λ them. them ++ atom.terms) before.terms ∙ sym (terms_more (take count atoms) atom) ∙ ap terms_of (sym taken);
+      terms = bound_is ∙ ap (λ them. them ++ atom.terms) before.terms ∙ sym (terms_of-push (take count atoms) atom) ∙ ap terms_of (sym taken);
       grown = grows_on start texts more before.grown grown;
     }
-  where
-    terms_more : (own : List (Fact Term)) (last : Fact Term) → terms_of (own ++ last ∷ []) ≡ terms_of own ++ last.terms
-    terms_more own last = flat_map-append (λ (fact : Fact Term). fact.terms) own (last ∷ []) ∙ ap (λ them. terms_of own ++ them) (append-nil last.terms)
 
 pub below_all : (start texts : List (List ℕ)) (atoms : List (Fact Term)) (count : ℕ) (bound : List Term) (gets : List Get)
     → AreGetsBelow start texts atoms count bound gets → length atoms ≤ count → AreWholeGets texts [] atoms gets × (bound ≡ terms_of atoms)

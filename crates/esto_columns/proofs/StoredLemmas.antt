@@ -1,6 +1,6 @@
 -- Rows that hold inputs.
 use Rattle.std.proofs.Common.{◌≡◌, ℕ, suc, ◌+◌, ◌<◌, Bool, true, false, cond, eqb, List, [], ◌∷◌, ◌++◌, map, length, get_or, take, Some, slice_get, Contains}
-use Rattle.std.proofs.Common.{refl, sym, ap, ◌∙◌, subst, arith, inl, inr}
+use Rattle.std.proofs.Common.{refl, sym, ap, ◌∙◌, subst, arith, inl, inr, zero}
 use Rattle.std.specs.List.{filter}
 use Rattle.std.proofs.lemmas.List.{append-nil, append_assoc, length-append, length-map, get_or_at, map_more}
 use Rattle.std.proofs.lemmas.List.Elements.{filter-append}
@@ -63,6 +63,22 @@ held_more rows places inputs arity count place held new below at so_far is =
     ∙ (λ i. record { arity = arity; rows = sym all i })
 
 -- ---- the rows at the places that pass a test are those that pass it
+
+-- where the test passes there is a place
+pub where_has : {X : Type 0} (test : X → Bool) (from : ℕ) (xs : List X) (place : ℕ) (x : X) → slice_get xs place ≡ Some x → test x ≡ true
+    → Contains (places_where test from xs) (from + place)
+where_has test from [] place x at passes = absurd (cc)
+where_has test from (first ∷ rest) zero x at passes =
+    let is : first ≡ x = cc in
+    let told : test first ≡ true = ap test is ∙ passes in
+    rw told (subst (Contains (from ∷ places_where test (from + 1) rest)) (omega arith) (Contains-head from (places_where test (from + 1) rest)))
+where_has test from (first ∷ rest) (suc place) x at passes =
+    by (test first) (subst (Contains (places_where test (from + 1) rest)) (omega arith) (where_has test (from + 1) rest place x at passes))
+  where
+    by : (answer : Bool) → Contains (places_where test (from + 1) rest) (from + suc place)
+        → Contains (cond answer (from ∷ places_where test (from + 1) rest) (places_where test (from + 1) rest)) (from + suc place)
+    by true inside = Contains-rest from (places_where test (from + 1) rest) (from + suc place) inside
+    by false inside = inside
 
 pub where_within : {X : Type 0} (test : X → Bool) (from : ℕ) (xs : List X) (place : ℕ) → Contains (places_where test from xs) place → place < from + length xs
 where_within test from [] place inside = absurd (Contains-nil place inside)

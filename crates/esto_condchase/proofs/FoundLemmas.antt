@@ -4,24 +4,26 @@ use Rattle.std.specs.List.{AllZip}
 use Rattle.std.proofs.lemmas.List.{length-append}
 use Rattle.std.proofs.lemmas.List.Elements.{Contains-append_left, Contains-append_right}
 use Rattle.esto_term.specs.declared.term.Term.{Term}
-use Rattle.esto_semantics.specs.Sets.{Within}
+use Rattle.esto_term.specs.Sets.{Within}
 use Rattle.esto_semantics.specs.Facts.{terms_of}
 use Rattle.esto_semantics.specs.declared.fact.Fact.{Fact}
 use Rattle.esto_term.proofs.ListLemmas.{Contains-nil, Contains-head, Contains-rest}
 use Rattle.esto_term.proofs.PlaceLemmas.{take-item}
 use Rattle.esto_term.proofs.ZipLemmas.{zip_append}
-use Rattle.esto_world_laws.specs.Worlds.{InWorld}
-use Rattle.esto_world_laws.specs.Matches.{IsLike, taken, Touching, Fits, IsDirectMatch}
-use Rattle.esto_world_laws.specs.Derived.{Claims}
-use Rattle.esto_world_laws.specs.declared.entry.Claim.TheVariants.{Fact as Stated}
-use Rattle.esto_world_laws.specs.declared.entry.Entry.{Entry}
-use Rattle.esto_world_laws.proofs.TakenLemmas.{Fits-join, Fits-split, taken-stays}
-use Rattle.esto_world_laws.proofs.BoundLemmas.{chosen_length}
+use Rattle.esto_chase_laws.specs.Worlds.{InWorld}
+use Rattle.esto_chase_laws.specs.WorldMatches.{IsLike, taken, Touching, Fits, IsDirectMatch}
+use Rattle.esto_chase_laws.specs.Derived.{Claims}
+use Rattle.esto_chase_laws.specs.declared.entry.Claim.TheVariants.{Fact as Stated}
+use Rattle.esto_chase_laws.specs.declared.entry.Entry.{Entry}
+use Rattle.esto_chase_laws.proofs.TakenLemmas.{Fits-join, Fits-split, taken-stays}
+use Rattle.esto_chase_laws.proofs.WorldBoundLemmas.{chosen_length}
 use Rattle.esto_condchase.specs.News.{AreFoundAnew, IsOlder}
-use Rattle.esto_condchase.specs.Ways.{AgreeOn, IsWay, AreFound, AreMetAt, AreNext, AreOneAt, Comes, GoesOn, MeetOne, TellsOne}
-use Rattle.esto_condchase.specs.declared.ways.Way.{Way}
+use Rattle.esto_condchase.specs.Ways.{AgreeOn, IsWay, AreFound, AreNext, AreOneAt, Comes, GoesOn, MeetOne}
+use Rattle.esto_known.specs.Told.{AreMetAt, TellsOne}
+use Rattle.esto_known.specs.declared.way.Way.{Way}
 use Rattle.esto_condchase.proofs.NewsLemmas.{old_match}
-use Rattle.esto_condchase.proofs.WayLemmas.{terms_of-push, last_chosen, AgreeOn-more, AgreeOn-same, AgreeOn-from, row_agrees, live_turn}
+use Rattle.esto_condchase.proofs.WayLemmas.{last_chosen, AgreeOn-more, AgreeOn-same, AgreeOn-from, row_agrees, live_turn}
+use Rattle.esto_semantics.proofs.FactLemmas.{terms_of-push}
 
 -- ---- one atom more
 

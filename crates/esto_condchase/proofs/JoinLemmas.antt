@@ -7,29 +7,32 @@ use Rattle.std.proofs.lemmas.List.Elements.{Contains-append_cases, Contains-appe
 use Rattle.std.proofs.lemmas.Option.{slice_get_within}
 use Rattle.esto_term.specs.declared.term.Term.{Term}
 use Rattle.esto_semantics.specs.Rules.{Rule}
-use Rattle.esto_semantics.specs.Sets.{Has, Within, Covers, united}
-use Rattle.esto_semantics.proofs.SetLemmas.{has_united, length-united}
+use Rattle.esto_term.specs.Sets.{Has, Within, Covers, united}
+use Rattle.esto_term.proofs.SetLemmas.{has_united, length-united}
 use Rattle.esto_term.proofs.ListLemmas.{Contains-nil, Contains-head, Contains-rest, Contains-cases, Contains-at, place-from_Contains}
 use Rattle.esto_term.proofs.PlaceLemmas.{take-item, Contains-take, item_at}
-use Rattle.esto_query.specs.declared.expanded.ExpandedFact.{ExpandedFact}
+use Rattle.esto_semantics.specs.declared.expanded.ExpandedFact.{ExpandedFact}
 use Rattle.esto_bits.specs.Kept.{Kept, CoversAlso}
-use Rattle.esto_world_laws.specs.Claims.{AreSameClaim}
-use Rattle.esto_world_laws.specs.Worlds.{InWorld, AreOfCount, SaysOne}
-use Rattle.esto_world_laws.specs.Matches.{Touching}
-use Rattle.esto_world_laws.specs.Steps.{AreJoined}
-use Rattle.esto_world_laws.specs.Derived.{Claims, IsUnion, Follows}
-use Rattle.esto_world_laws.specs.declared.entry.Claim.{Claim}
-use Rattle.esto_world_laws.specs.declared.entry.Claim.TheVariants.{Fact as Stated, Same}
-use Rattle.esto_world_laws.specs.declared.entry.Reason.TheVariants.{Equal}
-use Rattle.esto_world_laws.specs.declared.entry.Entry.{Entry}
-use Rattle.esto_world_laws.proofs.LinkLemmas.{Touching-more}
-use Rattle.esto_world_laws.proofs.GrowLemmas.{InWorld-more}
+use Rattle.esto_chase_laws.specs.Claims.{AreSameClaim}
+use Rattle.esto_chase_laws.specs.Worlds.{InWorld, AreOfCount, SaysOne}
+use Rattle.esto_chase_laws.specs.WorldMatches.{Touching}
+use Rattle.esto_chase_laws.specs.WorldSteps.{AreJoined}
+use Rattle.esto_chase_laws.specs.Derived.{Claims, IsUnion, Follows}
+use Rattle.esto_chase_laws.specs.declared.entry.Claim.{Claim}
+use Rattle.esto_chase_laws.specs.declared.entry.Claim.TheVariants.{Fact as Stated, Same}
+use Rattle.esto_chase_laws.specs.declared.entry.Reason.TheVariants.{Equal}
+use Rattle.esto_chase_laws.specs.declared.entry.Entry.{Entry}
+use Rattle.esto_chase_laws.proofs.LinkLemmas.{Touching-more}
+use Rattle.esto_chase_laws.proofs.GrowLemmas.{InWorld-more}
 use Rattle.esto_known.specs.Indexes.{CoversClaim, HasSide}
 use Rattle.esto_known.specs.Groups.{IsGroup, AreGroups}
 use Rattle.esto_known.specs.declared.group.Group.{Group}
-use Rattle.esto_condchase.specs.Rounds.{AsksMore, IsFollowing, AreOld, AreOpen, TellOne, MeetBy, MeetAt, IsUnionMet, IsEndMet, IsLeft, IsSideMet, IsMetWithAll}
+use Rattle.esto_condchase.specs.Rounds.{AsksMore, AreOpen, TellOne, MeetBy, MeetAt, IsUnionMet, IsEndMet, IsLeft, IsSideMet, IsMetWithAll}
+use Rattle.esto_known.specs.Added.{IsFollowing}
+use Rattle.esto_known.specs.Live.{AreOld}
 use Rattle.esto_condchase.proofs.WayLemmas.{IsUnion-more}
-use Rattle.esto_condchase.proofs.CoverLemmas.{AsksMore-then, touching_back}
+use Rattle.esto_condchase.proofs.AskLemmas.{AsksMore-then}
+use Rattle.esto_known.proofs.CoverLemmas.{touching_back}
 
 -- ---- claims
 
@@ -570,3 +573,17 @@ pub all_joined : (entries more : List Entry) (groups : List Group) (since bound 
     → AreJoined (take since entries) entries → AreMetBefore entries groups since (entries ++ more) bound → AreJoined entries (entries ++ more)
 all_joined entries more groups since bound are past before met atoms s t u one two =
     join_touching entries more groups since bound are past before met atoms s t u one two
+
+-- ---- what the loops keep
+
+-- What is asked for more follows, and so much is met.
+pub record AreMetSoFar (count : ℕ) (entries start more : List Entry) (Met : Type 0) : Type 0 where
+  pub asks : (rules : List Rule) → AsksMore rules count entries start more
+  pub met : Met
+
+-- The same; and the sets, which keep their count, tell that the terms are one.
+pub record AreToldSoFar (entries start more : List Entry) (given own : Kept) (from to : Term) (Met : Type 0) : Type 0 where
+  pub count : own.count ≡ given.count
+  pub tell : TellOne (entries ++ more) own.sets from to
+  pub asks : (rules : List Rule) → AsksMore rules given.count entries start more
+  pub met : Met

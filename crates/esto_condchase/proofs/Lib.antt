@@ -1,6 +1,4 @@
 pub mod MeetLemmas
-pub mod TurnLemmas
-pub mod CoverLemmas
 pub mod RoundLemmas
 pub mod JoinLemmas
 pub mod LoopLemmas
@@ -11,4 +9,4 @@ pub mod KnownLemmas
 pub mod ReachLemmas
 pub mod NewsLemmas
 pub mod FoundLemmas
-pub mod LiveLemmas
+pub mod AskLemmas

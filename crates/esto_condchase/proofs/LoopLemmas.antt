@@ -1,37 +1,38 @@
 -- The turns of the loop, and its end.
-use Rattle.std.proofs.Common.{◌≡◌, ◌⊎◌, ◌↔◌, ◌<◌, ◌≤◌, ◌+◌, ◌-◌, inl, inr, ℕ, zero, suc, Bool, false, List, [], ◌∷◌, ◌++◌, length, take, get_or, Contains, refl, sym, ap}
+use Rattle.std.proofs.Common.{◌≡◌, ◌⊎◌, ◌↔◌, ◌<◌, ◌≤◌, ◌+◌, ◌-◌, inl, inr, ℕ, zero, suc, Bool, false, List, [], ◌++◌, length, take, get_or, Contains, refl, sym, ap}
 use Rattle.std.proofs.Common.{◌∙◌, subst, arith, length-append}
 use Rattle.std.specs.Prelude.{replicate, slice_set, true}
 use Rattle.std.proofs.lemmas.List.{length-set}
 use Rattle.esto_constraint.specs.Constraints.{rules_of}
 use Rattle.esto_constraint.specs.declared.rule.Constraint.{Constraint}
-use Rattle.std.proofs.lemmas.List.{take_all, append-nil, length-replicate}
+use Rattle.std.proofs.lemmas.List.{take_all, append-nil, length-replicate, nil_from_length}
 use Rattle.std.proofs.lemmas.List.Elements.{Contains-append_left, Contains-push_cases}
 use Rattle.esto_semantics.specs.Rules.{Rule}
-use Rattle.esto_semantics.specs.Sets.{Has}
+use Rattle.esto_term.specs.Sets.{Has}
 use Rattle.esto_semantics.specs.declared.fact.Fact.{Fact}
 use Rattle.esto_term.specs.declared.term.Term.{Term}
 use Rattle.esto_term.proofs.ListLemmas.{Contains-nil}
-use Rattle.esto_query.specs.declared.expanded.ExpandedFact.{ExpandedFact}
-use Rattle.esto_world_laws.specs.Worlds.{InWorld}
-use Rattle.esto_world_laws.specs.Steps.{AreAnswered, AreJoined}
-use Rattle.esto_world_laws.specs.Derived.{AreDerived}
+use Rattle.esto_semantics.specs.declared.expanded.ExpandedFact.{ExpandedFact}
+use Rattle.esto_chase_laws.specs.Worlds.{InWorld}
+use Rattle.esto_chase_laws.specs.WorldSteps.{AreAnswered, AreJoined}
+use Rattle.esto_chase_laws.specs.Derived.{AreDerived}
 use Rattle.esto_semantics.specs.Maps.{AreFlat}
 use Rattle.esto_semantics.specs.Rules.{AreRules}
-use Rattle.esto_semantics.proofs.AccessLemmas.{none_has}
+use Rattle.esto_term.proofs.SetLemmas.{none_has}
 use Rattle.esto_term.specs.Nesting.{greatest_u64}
 use Rattle.esto_chase_laws.specs.Bounds.{RanksRise}
-use Rattle.esto_query.specs.Expanded.{facts_of}
-use Rattle.esto_world_laws.specs.Bounds.{most_entries}
-use Rattle.esto_world_laws.specs.Laws.{AreGiven, DerivedEntriesAreFew}
-use Rattle.esto_world_laws.specs.declared.entry.Claim.TheVariants.{Fact as Stated}
-use Rattle.esto_world_laws.specs.declared.entry.Reason.TheVariants.{Expanded}
-use Rattle.esto_world_laws.specs.declared.entry.Entry.{Entry}
-use Rattle.esto_world_laws.proofs.GrowLemmas.{InWorld-more, AreDerived-push}
-use Rattle.esto_world_laws.specs.Worlds.{AreOfCount}
-use Rattle.esto_condchase.specs.Rounds.{IsAdded, IsEntryOf, IsGrownBy}
+use Rattle.esto_semantics.specs.Expanded.{facts_of}
+use Rattle.esto_chase_laws.specs.WorldBounds.{most_entries}
+use Rattle.esto_chase_laws.specs.WorldLaws.{AreGiven, DerivedEntriesAreFew}
+use Rattle.esto_chase_laws.specs.declared.entry.Claim.TheVariants.{Fact as Stated}
+use Rattle.esto_chase_laws.specs.declared.entry.Reason.TheVariants.{Expanded}
+use Rattle.esto_chase_laws.specs.declared.entry.Entry.{Entry}
+use Rattle.esto_chase_laws.proofs.GrowLemmas.{InWorld-more, AreDerived-push}
+use Rattle.esto_chase_laws.specs.Worlds.{AreOfCount}
+use Rattle.esto_condchase.specs.Rounds.{IsEntryOf}
+use Rattle.esto_known.specs.Added.{IsAdded, IsGrownBy}
 use Rattle.esto_term.proofs.PlaceLemmas.{take-item}
-use Rattle.esto_condchase.proofs.CoverLemmas.{added_there, added_keeps}
+use Rattle.esto_known.proofs.CoverLemmas.{added_there, added_keeps}
 
 pub one_number : (old new : List Bool) (count atom : ℕ) → old ≡ replicate count false → ((number : ℕ) → Has new number ↔ ((number ≡ atom) ⊎ Has old number))
     → (number : ℕ) → Has new number ↔ (number ≡ atom)
@@ -113,10 +114,6 @@ pub grown_same : (its rules : List Constraint) (entries later : List Entry) → 
     → (asked : List Entry) × IsGrownBy (rules_of its) entries asked later → (asked : List Entry) × IsGrownBy (rules_of rules) entries asked later
 grown_same its rules entries later same (asked, grown) = (asked, subst (λ it. IsGrownBy (rules_of it) entries asked later) same grown)
 
-nothing : (more : List Entry) → length more ≡ 0 → more ≡ []
-nothing [] l = refl
-nothing (first ∷ rest) l = absurd (omega (arith, l))
-
 module _ (facts : List ExpandedFact) (rules : List Rule) (count : ℕ) (entries asked later : List Entry) (grown : IsGrownBy rules entries asked later) where
   pub turn_given : AreGiven facts entries → AreGiven facts later
   turn_given given = subst (AreGiven facts) (sym grown.more.1) (λ fact inside atoms has. InWorld-more entries (entries ++ grown.more.0) atoms
@@ -139,7 +136,7 @@ module _ (facts : List ExpandedFact) (rules : List Rule) (count : ℕ) (entries 
 
   -- where nothing was added, the entries are the same
   pub turn_same : length later ≡ length entries → entries ≡ later
-  turn_same same = sym (append-nil entries) ∙ ap (λ it. entries ++ it) (sym (nothing grown.more.0
+  turn_same same = sym (append-nil entries) ∙ ap (λ it. entries ++ it) (sym (nil_from_length grown.more.0
       (let long = ap length grown.more.1 ∙ length-append entries grown.more.0 in omega (arith, long, same)))) ∙ sym grown.more.1
 
 pub end_answered : (rules : List Rule) (entries later : List Entry) → entries ≡ later → AreAnswered rules entries later → AreAnswered rules later later

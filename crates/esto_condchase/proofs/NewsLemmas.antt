@@ -9,24 +9,24 @@ use Rattle.esto_term.proofs.ZipLemmas.{zip_weaker}
 use Rattle.esto_semantics.specs.Facts.{terms_of}
 use Rattle.esto_semantics.specs.Rules.{Rule, AreRules, body_of}
 use Rattle.esto_semantics.specs.declared.fact.Fact.{Fact}
-use Rattle.esto_world_laws.specs.Matches.{AreChosen, Touching, match_map}
-use Rattle.esto_world_laws.specs.Worlds.{InWorld}
-use Rattle.esto_world_laws.specs.Steps.{AreAnswered, AreJoined}
-use Rattle.esto_world_laws.specs.declared.entry.Claim.TheVariants.{Fact as Stated, Same}
-use Rattle.esto_world_laws.specs.declared.entry.Entry.{Entry}
-use Rattle.std.proofs.lemmas.List.Elements.{Contains-append_cases, Contains-append_right, Contains-push_cases}
+use Rattle.esto_chase_laws.specs.WorldMatches.{AreChosen, Touching, match_map}
+use Rattle.esto_chase_laws.specs.Worlds.{InWorld}
+use Rattle.esto_chase_laws.specs.WorldSteps.{AreAnswered, AreJoined}
+use Rattle.esto_chase_laws.specs.declared.entry.Claim.TheVariants.{Fact as Stated, Same}
+use Rattle.esto_chase_laws.specs.declared.entry.Entry.{Entry}
+use Rattle.std.proofs.lemmas.List.Elements.{Contains-append_cases, Contains-append_right}
 use Rattle.std.proofs.Common.{Bool}
 use Rattle.std.specs.List.{AllZip}
 use Rattle.esto_term.proofs.ListLemmas.{Contains-head, Contains-rest}
-use Rattle.esto_term.proofs.PlaceLemmas.{Contains-take, take-item}
-use Rattle.esto_semantics.specs.Sets.{Within}
+use Rattle.esto_term.proofs.PlaceLemmas.{Contains-take}
+use Rattle.esto_term.specs.Sets.{Within}
 use Rattle.esto_semantics.proofs.RuleLemmas.{has_body}
-use Rattle.esto_world_laws.specs.Derived.{Claims, IsNamed}
-use Rattle.esto_world_laws.specs.Matches.{IsDirectMatch}
-use Rattle.esto_world_laws.specs.declared.entry.Claim.{Claim}
-use Rattle.esto_world_laws.proofs.LinkLemmas.{Touching-more}
+use Rattle.esto_chase_laws.specs.Derived.{Claims, IsNamed}
+use Rattle.esto_chase_laws.specs.WorldMatches.{IsDirectMatch}
+use Rattle.esto_chase_laws.specs.declared.entry.Claim.{Claim}
+use Rattle.esto_chase_laws.proofs.LinkLemmas.{Touching-more}
 use Rattle.esto_condchase.specs.Ways.{IsFound, IsOldWay}
-use Rattle.esto_condchase.specs.declared.ways.Way.{Way}
+use Rattle.esto_known.specs.declared.way.Way.{Way}
 use Rattle.esto_condchase.specs.News.{IsApart, IsSettled, AreFoundAnew}
 
 -- each entry from a place on, and before another, is apart from the body
@@ -128,15 +128,6 @@ module _ (entries : List Entry) (since : ℕ) (body : List (Fact Term)) (way : W
         (map (match_map body found.chosen) (terms_of body))
         (λ s t _ one. Touching-more link_held s t one) found.is_way.fits,
   )
-
--- one place more is below
-pub below_more : (items : List ℕ) (at since item : ℕ) → at < length items → item ≡ get_or items at item → item < since
-    → ((place : ℕ) → Contains (take at items) place → place < since) → (place : ℕ) → Contains (take (at + 1) items) place → place < since
-below_more items at since item within is below before place inside =
-    elim (Contains-push_cases (take at items) item place (subst (λ it. Contains it place) (take-item items at item within is) inside)) [
-      | inl earlier ↦ before place earlier
-      | inr last ↦ subst (λ it. it < since) last below
-    ]
 
 pub all_old : (way : Way) (since : ℕ) (facts links : List ℕ) → facts ≡ way.facts → links ≡ way.links → ((place : ℕ) → Contains facts place → place < since)
     → ((place : ℕ) → Contains links place → place < since) → IsOldWay since way

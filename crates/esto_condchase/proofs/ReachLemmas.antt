@@ -14,29 +14,30 @@ use Rattle.esto_term.proofs.ListLemmas.{Contains-nil, Contains-cases, map_agree}
 use Rattle.esto_term.proofs.PlaceLemmas.{drop-item}
 use Rattle.esto_term.proofs.ZipLemmas.{zip_append, zip_split, zip_weaker}
 use Rattle.esto_semantics.specs.Facts.{terms_of}
-use Rattle.esto_semantics.specs.Sets.{Within, Covers}
+use Rattle.esto_term.specs.Sets.{Within, Covers}
 use Rattle.esto_semantics.specs.declared.fact.Fact.{Fact}
 use Rattle.esto_semantics.proofs.TermLemmas.{same_term-Decides}
-use Rattle.esto_query.specs.Spreads.{substituted}
-use Rattle.esto_world_laws.specs.Claims.{AreSameClaim}
-use Rattle.esto_world_laws.specs.Laws.{HasMatch}
-use Rattle.esto_world_laws.specs.Matches.{taken, Touching, Fits, AreChosen}
-use Rattle.esto_world_laws.specs.Steps.{AreJoined}
-use Rattle.esto_world_laws.specs.Worlds.{InWorld, SaysOne, Linked}
-use Rattle.esto_world_laws.specs.declared.entry.Claim.{Claim}
-use Rattle.esto_world_laws.specs.declared.entry.Claim.TheVariants.{Fact as Stated, Same}
-use Rattle.esto_world_laws.specs.declared.entry.Entry.{Entry}
-use Rattle.esto_world_laws.proofs.ClosedLemmas.{choose, touching, Fits-linked}
-use Rattle.esto_world_laws.proofs.LinkLemmas.{Linked-touching, Touching-back}
-use Rattle.esto_world_laws.proofs.SoundLemmas.{rows_split}
-use Rattle.esto_world_laws.proofs.TakenLemmas.{taken_cases, taken-Const, taken-stays, Fits-join}
+use Rattle.esto_semantics.specs.Spreads.{substituted}
+use Rattle.esto_chase_laws.specs.Claims.{AreSameClaim}
+use Rattle.esto_chase_laws.specs.WorldLaws.{HasMatch}
+use Rattle.esto_chase_laws.specs.WorldMatches.{taken, Touching, Fits, AreChosen}
+use Rattle.esto_chase_laws.specs.WorldSteps.{AreJoined}
+use Rattle.esto_chase_laws.specs.Worlds.{InWorld, SaysOne, Linked}
+use Rattle.esto_chase_laws.specs.declared.entry.Claim.{Claim}
+use Rattle.esto_chase_laws.specs.declared.entry.Claim.TheVariants.{Fact as Stated, Same}
+use Rattle.esto_chase_laws.specs.declared.entry.Entry.{Entry}
+use Rattle.esto_chase_laws.proofs.ClosedLemmas.{choose, touching, Fits-linked}
+use Rattle.esto_chase_laws.proofs.LinkLemmas.{Linked-touching, Touching-back}
+use Rattle.esto_chase_laws.proofs.SoundLemmas.{rows_split}
+use Rattle.esto_chase_laws.proofs.TakenLemmas.{taken_cases, taken-Const, taken-stays, Fits-join}
 use Rattle.esto_known.specs.Groups.{AreGroups}
-use Rattle.esto_condchase.specs.Products.{AreTouching, Reach, Steps, IsFirst, IsNext}
+use Rattle.esto_condchase.specs.Products.{Reach, Steps, IsFirst, IsNext}
+use Rattle.esto_known.specs.Touching.{AreTouching}
 use Rattle.esto_known.specs.Indexes.{CoversClaim}
-use Rattle.esto_condchase.specs.Ways.{Tell}
+use Rattle.esto_known.specs.Told.{Tell}
 use Rattle.esto_known.specs.declared.group.Group.{Group}
 use Rattle.esto_condchase.specs.declared.reached.Reached.{Reached}
-use Rattle.esto_condchase.proofs.CoverLemmas.{covers_covered}
+use Rattle.esto_known.proofs.CoverLemmas.{covers_covered}
 use Rattle.esto_condchase.proofs.WayLemmas.{taken-new}
 
 -- ---- going on

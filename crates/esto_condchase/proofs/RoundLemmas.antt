@@ -10,14 +10,13 @@ use Rattle.esto_term.specs.declared.term.Term.{Term, out-Term}
 use Rattle.esto_semantics.specs.Facts.{image, terms_of}
 use Rattle.esto_semantics.specs.Rules.{Rule, tuple, equality, denial, body_of}
 use Rattle.esto_semantics.specs.declared.fact.Fact.{Fact}
-use Rattle.esto_term.proofs.ListLemmas.{Contains-nil, Contains-head, Contains-rest}
-use Rattle.esto_term.proofs.ListLemmas.{map_at, map_agree, Contains-flat, Contains-filter_from}
+use Rattle.esto_term.proofs.ListLemmas.{Contains-nil, Contains-head, Contains-rest, map_at, map_agree, Contains-flat, Contains-filter_from}
 use Rattle.esto_term.proofs.ZipLemmas.{zip_weaker}
 use Rattle.esto_constraint.specs.Constraints.{rule_of, rules_of}
 use Rattle.esto_constraint.specs.declared.rule.Constraint.{Constraint}
-use Rattle.esto_query.specs.declared.expanded.ExpandedFact.{ExpandedFact}
-use Rattle.esto_world_laws.specs.Worlds.{InWorld, Linked}
-use Rattle.esto_world_laws.specs.Matches.{taken, Touching, AreChosen, match_map}
+use Rattle.esto_semantics.specs.declared.expanded.ExpandedFact.{ExpandedFact}
+use Rattle.esto_chase_laws.specs.Worlds.{InWorld, Linked}
+use Rattle.esto_chase_laws.specs.WorldMatches.{taken, Touching, AreChosen, match_map}
 use Rattle.esto_chase_laws.specs.Making.{is_variable_level, is_variable_of, frontier, made_for, extended}
 use Rattle.esto_chase_laws.proofs.JoinedLemmas.{joined_from}
 use Rattle.esto_chase_laws.proofs.MakingLemmas.{in_terms-Decides}
@@ -25,21 +24,22 @@ use Rattle.esto_term.specs.Order.{same_term}
 use Rattle.esto_semantics.proofs.TermLemmas.{same_term-Decides}
 use Rattle.std.specs.List.{filter}
 use Rattle.std.specs.Set.{is_member}
-use Rattle.esto_world_laws.specs.Steps.{IsAsked, IsCovered, AreAnswered}
-use Rattle.esto_world_laws.specs.Derived.{Claims, IsNamed, FollowsBy, Follows}
-use Rattle.esto_world_laws.specs.declared.entry.Claim.{Claim}
-use Rattle.esto_world_laws.specs.declared.entry.Claim.TheVariants.{Fact as Stated, Same}
-use Rattle.esto_world_laws.specs.declared.entry.Reason.TheVariants.{Step}
-use Rattle.esto_world_laws.specs.declared.entry.Entry.{Entry}
-use Rattle.esto_world_laws.proofs.LinkLemmas.{Linked-touching, Touching-more}
-use Rattle.esto_world_laws.proofs.GrowLemmas.{InWorld-more, IsCovered-more}
+use Rattle.esto_chase_laws.specs.WorldSteps.{IsAsked, IsCovered, AreAnswered}
+use Rattle.esto_chase_laws.specs.Derived.{Claims, IsNamed, FollowsBy, Follows}
+use Rattle.esto_chase_laws.specs.declared.entry.Claim.{Claim}
+use Rattle.esto_chase_laws.specs.declared.entry.Claim.TheVariants.{Fact as Stated, Same}
+use Rattle.esto_chase_laws.specs.declared.entry.Reason.TheVariants.{Step}
+use Rattle.esto_chase_laws.specs.declared.entry.Entry.{Entry}
+use Rattle.esto_chase_laws.proofs.LinkLemmas.{Linked-touching, Touching-more}
+use Rattle.esto_chase_laws.proofs.GrowLemmas.{InWorld-more, IsCovered-more}
 use Rattle.esto_prov.specs.Taking.{made_of}
 use Rattle.esto_condchase.specs.Ways.{AgreeOn, IsFound, MeetOne}
 use Rattle.esto_condchase.specs.News.{AreFoundAnew}
-use Rattle.esto_condchase.specs.Rounds.{IsNoted, IsThere, AsksMore, IsAnswered, IsRuleAnswered, sides_asked, terms_asked}
-use Rattle.esto_condchase.specs.declared.ways.Way.{Way}
+use Rattle.esto_condchase.specs.Rounds.{IsNoted, AsksMore, IsAnswered, IsRuleAnswered, sides_asked, terms_asked}
+use Rattle.esto_known.specs.Added.{IsThere}
+use Rattle.esto_known.specs.declared.way.Way.{Way}
 use Rattle.esto_term.proofs.PlaceLemmas.{take-item}
-use Rattle.esto_condchase.proofs.CoverLemmas.{IsThere-grows, AsksMore-then, noted_asks, noted_there}
+use Rattle.esto_condchase.proofs.AskLemmas.{IsThere-grows, AsksMore-then, noted_asks, noted_there}
 
 -- ---- what a rule asks for follows
 
@@ -290,3 +290,10 @@ pub AreAnswered-grows : (rules : List Rule) (old entries more later : List Entry
 AreAnswered-grows rules old entries more later kept answered atoms number rule at chosen matches claim asked =
     IsCovered-more (InWorld-more (entries ++ more) (entries ++ later) atoms (among_more entries more later kept)) claim
     (answered atoms number rule at chosen matches claim asked)
+
+-- ---- what the loops keep
+
+-- What is asked for more follows by the rules, and so much is answered.
+pub record AreAnsweredSoFar (rules : List Rule) (count : ℕ) (entries start more : List Entry) (Answered : Type 0) : Type 0 where
+  pub grows : AsksMore rules count entries start more
+  pub answered : Answered

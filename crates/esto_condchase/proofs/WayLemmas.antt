@@ -1,11 +1,10 @@
 -- Ways that grow by one term, by a row, by an atom and by a body.
-use Rattle.std.proofs.Common.{◌≡◌, ◌⊎◌, ◌↔◌, ◌<◌, ◌≤◌, ◌+◌, inl, inr, zero, suc, ℕ, Bool, true, false, cond, List, [], ◌∷◌, ◌++◌, length, map, take, drop, get_or, slice_get, slice_range, ◌-◌}
+use Rattle.std.proofs.Common.{◌≡◌, ◌⊎◌, ◌↔◌, ◌<◌, ◌≤◌, ◌+◌, inl, inr, ℕ, Bool, true, false, cond, List, [], ◌∷◌, ◌++◌, length, map, take, drop, get_or, slice_get, slice_range, ◌-◌}
 use Rattle.std.proofs.Common.{Contains, Some, refl, sym, ap, ◌∙◌, subst, arith}
 use Rattle.std.specs.List.{AllZip}
-use Rattle.std.proofs.lemmas.List.{append-nil, append_assoc, length-drop, take_all, drop_all}
+use Rattle.std.proofs.lemmas.List.{append_assoc, length-drop, take_all, drop_all}
 use Rattle.std.proofs.lemmas.List.Elements.{Contains-append_cases, Contains-append_left, Contains-append_right, Contains-push, Contains-push_cases}
 use Rattle.std.proofs.lemmas.Option.{slice_get_within}
-use Rattle.std.proofs.lemmas.Grind.{flat_map-append}
 use Rattle.esto_term.specs.declared.term.Term.{Term, out-Term}
 use Rattle.esto_term.specs.Order.{same_term}
 use Rattle.esto_semantics.proofs.TermLemmas.{same_term-Decides}
@@ -13,23 +12,26 @@ use Rattle.std.specs.Bool.{Decides}
 use Rattle.std.specs.Set.{is_member}
 use Rattle.std.proofs.lemmas.Map.Made.{is_member-Decides}
 use Rattle.std.proofs.lemmas.Bool.{false≢true}
-use Rattle.esto_query.specs.Spreads.{substituted}
-use Rattle.esto_query.proofs.SubstitutionLemmas.{substituted-outside}
-use Rattle.esto_semantics.specs.Sets.{Has, Within, united}
+use Rattle.esto_semantics.specs.Spreads.{substituted}
+use Rattle.esto_term.specs.Sets.{Has, Within, united}
 use Rattle.esto_semantics.specs.declared.fact.Fact.{Fact}
 use Rattle.esto_term.proofs.ListLemmas.{Contains-nil, Contains-head, Contains-rest, Contains-one, map_agree}
-use Rattle.esto_semantics.proofs.SetLemmas.{has_united}
-use Rattle.esto_world_laws.specs.Worlds.{InWorld}
+use Rattle.esto_term.proofs.SetLemmas.{has_united}
+use Rattle.esto_chase_laws.specs.Worlds.{InWorld}
 use Rattle.esto_semantics.specs.Facts.{terms_of}
-use Rattle.esto_world_laws.specs.Matches.{unless_constant, taken, IsDirectMatch}
-use Rattle.esto_world_laws.specs.Derived.{Claims, IsNamed, IsUnion}
-use Rattle.esto_world_laws.specs.declared.entry.Claim.{Claim}
-use Rattle.esto_world_laws.specs.declared.entry.Claim.TheVariants.{Fact as Stated}
-use Rattle.esto_world_laws.specs.declared.entry.Entry.{Entry}
-use Rattle.esto_world_laws.proofs.TakenLemmas.{taken-stays}
-use Rattle.esto_condchase.specs.Ways.{AreCounted, AgreeOn, Tell, IsPut, IsFound, AreFound}
-use Rattle.esto_condchase.specs.declared.ways.Way.{Way}
+use Rattle.esto_chase_laws.specs.WorldMatches.{unless_constant, taken, IsDirectMatch}
+use Rattle.esto_chase_laws.specs.Derived.{Claims, IsNamed, IsUnion}
+use Rattle.esto_chase_laws.specs.declared.entry.Claim.{Claim}
+use Rattle.esto_chase_laws.specs.declared.entry.Claim.TheVariants.{Fact as Stated}
+use Rattle.esto_chase_laws.specs.declared.entry.Entry.{Entry}
+use Rattle.esto_chase_laws.proofs.TakenLemmas.{taken-stays}
+use Rattle.esto_condchase.specs.Ways.{AgreeOn, IsFound, AreFound}
+use Rattle.esto_known.specs.KeptWays.{AreCounted}
+use Rattle.esto_known.specs.Told.{Tell}
+use Rattle.esto_known.specs.declared.way.Way.{Way}
 use Rattle.esto_term.proofs.PlaceLemmas.{take-item, drop-item}
+use Rattle.esto_known.proofs.TellLemmas.{taken-apart}
+use Rattle.esto_semantics.proofs.FactLemmas.{terms_of-push}
 
 one_of : {X : Type 0} (P : X → Type 0) (only other : X) → Contains (only ∷ []) other → P only → P other
 one_of P only other inside it = subst P (Contains-one only other inside) it
@@ -114,9 +116,6 @@ within_united one other atoms left right number has = elim ((has_united one othe
 
 -- ---- agreement on terms
 
-pub taken-apart : (from to others : List Term) (term : Term) → (Contains from term → ⊥) → taken from to term ≡ taken from others term
-taken-apart from to others term apart = ap (unless_constant (out-Term term) term) (substituted-outside from to term apart ∙ sym (substituted-outside from others term apart))
-
 -- of a term that stands in none of the first, the later places tell
 substituted-new : (from to more owns : List Term) → length from ≡ length to → (term : Term) → (Contains from term → ⊥)
     → substituted (from ++ more) (to ++ owns) term ≡ substituted more owns term
@@ -171,25 +170,6 @@ AgreeOn-told from terms these to others tell agree term inside = elim (tell.told
   | inr apart ↦ taken-apart from to others term apart
 ]
 
-pub tell_none : (from these : List Term) → these ≡ [] → Tell from [] these
-tell_none from these none = rw none record {
-  told = λ term inside. absurd (Contains-nil term inside);
-  among = λ term inside. absurd (Contains-nil term inside);
-}
-
-pub tell_turn : (from terms these later : List Term) (place : ℕ) (term : Term) → place < length terms → term ≡ get_or terms place term
-    → Tell from (take place terms) these → IsPut from term these later → Tell from (take (place + 1) terms) later
-tell_turn from terms these later place term within is tell put = rw (take-item terms place term within is) record {
-  told = λ own inside. elim (Contains-push_cases (take place terms) term own inside) [
-    | inl earlier ↦ elim (tell.told own earlier) [ inl told ↦ inl (put.kept own told) | inr apart ↦ inr apart ]
-    | inr same ↦ subst (λ it. Contains later it ⊎ (Contains from it → ⊥)) same put.told
-  ];
-  among = λ own inside. elim (put.among own inside) [ inl earlier ↦ tell.among own earlier | inr here ↦ here ];
-}
-
-pub tell_all : (from terms these : List Term) (place : ℕ) → length terms ≤ place → Tell from (take place terms) these → Tell from terms these
-tell_all from terms these place past tell = subst (λ it. Tell from it these) (take_all place terms past) tell
-
 pub row_agrees : (One : Term → Term → Type 0) (terms from to others owns : List Term) → AgreeOn terms from to others → AllZip One owns (map (taken from others) terms)
     → AllZip One owns (map (taken from to) terms)
 row_agrees One terms from to others owns agree row =
@@ -222,9 +202,6 @@ found_none entries live sides ways way are no_to no_facts no_links empty = rw ar
     none atoms [] matches = (way, Contains-head way [], (λ term _. taken-apart [] way.to [] term (Contains-nil term)), (λ number has. absurd (empty number has)))
     none atoms (fact ∷ chosen) matches = absurd matches.0
 
-pub terms_of-push : (facts : List (Fact Term)) (fact : Fact Term) → terms_of (facts ++ fact ∷ []) ≡ terms_of facts ++ fact.terms
-terms_of-push facts fact = flat_map-append (λ (it : Fact Term). it.terms) facts (fact ∷ []) ∙ ap (λ it. terms_of facts ++ it) (append-nil fact.terms)
-
 -- the last fact of as many as the atoms
 pub last_chosen : (R : Fact Term → Fact Term → Type 0) (body : List (Fact Term)) (atom : Fact Term) (chosen : List (Fact Term))
     → AllZip R (body ++ atom ∷ []) chosen
@@ -240,13 +217,6 @@ last_chosen R (first ∷ body) atom (fact ∷ chosen) z = let rest = last_chosen
 
 pub counted_one : (count : ℕ) (ways : List Way) (way : Way) → ways ≡ way ∷ [] → length way.product ≡ count → AreCounted count ways
 counted_one count ways way are is = rw are (λ it inside. one_of (λ (its : Way). length its.product ≡ count) way it inside is)
-
-pub same_take : {X Y : Type 0} (xs : List X) (ys : List Y) (place : ℕ) → length xs ≡ length ys → length (take place xs) ≡ length (take place ys)
-same_take xs ys zero same = refl
-same_take [] [] (suc place) same = refl
-same_take [] (y ∷ ys) (suc place) same = absurd (omega (arith, same))
-same_take (x ∷ xs) [] (suc place) same = absurd (omega (arith, same))
-same_take (x ∷ xs) (y ∷ ys) (suc place) same = let rest = same_take xs ys place (omega (arith, same)) in omega (arith, rest)
 
 pub found_lengths : (entries : List Entry) (body : List (Fact Term)) (live sides : List Term) (ways items : List Way) (from : List Term)
     → AreFound entries body live sides ways → items ≡ ways → from ≡ terms_of body → (way : Way) → Contains items way → length from ≡ length way.to

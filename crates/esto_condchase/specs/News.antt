@@ -3,15 +3,15 @@ use Rattle.std.specs.Prelude.{◌⊎◌, ℕ, Bool, List, take, Contains}
 use Rattle.esto_constraint.specs.Relations.{HasRelation}
 use Rattle.esto_term.specs.declared.term.Term.{Term}
 use Rattle.esto_semantics.specs.Facts.{terms_of}
-use Rattle.esto_semantics.specs.Sets.{Within}
+use Rattle.esto_term.specs.Sets.{Within}
 use Rattle.esto_semantics.specs.declared.fact.Fact.{Fact}
-use Rattle.esto_world_laws.specs.Matches.{IsDirectMatch}
-use Rattle.esto_world_laws.specs.Worlds.{InWorld}
-use Rattle.esto_world_laws.specs.declared.entry.Claim.{Claim}
-use Rattle.esto_world_laws.specs.declared.entry.Claim.TheVariants.{Fact as Stated, Same}
-use Rattle.esto_world_laws.specs.declared.entry.Entry.{Entry}
+use Rattle.esto_chase_laws.specs.WorldMatches.{IsDirectMatch}
+use Rattle.esto_chase_laws.specs.Worlds.{InWorld}
+use Rattle.esto_chase_laws.specs.declared.entry.Claim.{Claim}
+use Rattle.esto_chase_laws.specs.declared.entry.Claim.TheVariants.{Fact as Stated, Same}
+use Rattle.esto_chase_laws.specs.declared.entry.Entry.{Entry}
 use Rattle.esto_condchase.specs.Ways.{AgreeOn, IsFound, MeetOne}
-use Rattle.esto_condchase.specs.declared.ways.Way.{Way}
+use Rattle.esto_known.specs.declared.way.Way.{Way}
 
 -- No match of the body uses the claim: it is a fact of a relation that no atom of the body has.
 abbrev pub IsApart : Claim → List (Fact Term) → Type 0

@@ -1,30 +1,16 @@
 -- The products of a query's matches: what the worlds of all sets claim, claim by claim, and the terms that the first atoms of the body reach in them.
-use Rattle.std.specs.Prelude.{◌≡◌, ◌⊎◌, ◌↔◌, ℕ, Bool, List, ◌++◌, map, Contains}
+use Rattle.std.specs.Prelude.{◌≡◌, ◌↔◌, ℕ, Bool, List, ◌++◌, map, Contains}
 use Rattle.std.specs.List.{AllZip}
 use Rattle.esto_term.specs.declared.term.Term.{Term}
 use Rattle.esto_semantics.specs.Facts.{terms_of}
-use Rattle.esto_semantics.specs.Sets.{Covers}
+use Rattle.esto_term.specs.Sets.{Covers}
 use Rattle.esto_semantics.specs.declared.fact.Fact.{Fact}
-use Rattle.esto_world_laws.specs.Claims.{AreSameClaim}
-use Rattle.esto_world_laws.specs.Matches.{IsLike, taken}
-use Rattle.esto_world_laws.specs.Worlds.{SaysOne}
-use Rattle.esto_world_laws.specs.declared.entry.Claim.TheVariants.{Fact as Stated}
+use Rattle.esto_chase_laws.specs.WorldMatches.{IsLike, taken}
+use Rattle.esto_chase_laws.specs.declared.entry.Claim.TheVariants.{Fact as Stated}
 use Rattle.esto_known.specs.declared.group.Group.{Group}
-use Rattle.esto_condchase.specs.Ways.{Tell}
+use Rattle.esto_known.specs.Told.{Tell}
 use Rattle.esto_condchase.specs.declared.reached.Reached.{Reached}
-
--- Their sets have the count, and no two have one claim.
-pub record AreGroupsOf (count : ℕ) (groups : List Group) : Type 0 where
-  pub counted : (group : Group) → Contains groups group → group.by.count ≡ count
-  pub distinct : (group other : Group) → Contains groups group → Contains groups other → AreSameClaim group.claim other.claim → group ≡ other
-
--- An equality of the terms is known in the set's world.
-abbrev pub AreLinked : List Group → List Bool → Term → Term → Type 0
-AreLinked groups set term other = (group : Group) × Contains groups group × SaysOne group.claim term other × Covers group.by.sets set
-
--- The terms are equal, or an equality of them is known in the set's world.
-abbrev pub AreTouching : List Group → List Bool → Term → Term → Type 0
-AreTouching groups set term other = (term ≡ other) ⊎ AreLinked groups set term other
+use Rattle.esto_known.specs.Touching.{AreTouching}
 
 -- These terms are reached in the set's world.
 abbrev pub Reach : List Reached → List Term → List Bool → Type 0

@@ -1,30 +1,24 @@
 -- What a round adds.
-use Rattle.std.specs.Prelude.{◌≡◌, ◌⊎◌, ◌↔◌, ◌<◌, ◌≤◌, ℕ, Bool, List, [], ◌∷◌, ◌++◌, length, Contains, Some, slice_get}
+use Rattle.std.specs.Prelude.{◌≡◌, ◌⊎◌, ◌↔◌, ◌<◌, ℕ, Bool, List, [], ◌∷◌, ◌++◌, Contains, Some, slice_get}
 use Rattle.esto_term.specs.declared.term.Term.{Term}
 use Rattle.esto_semantics.specs.Rules.{Rule, tuple, equality, denial, body_of}
 use Rattle.esto_semantics.specs.declared.fact.Fact.{Fact}
-use Rattle.esto_semantics.specs.Sets.{Has, Within, Covers}
-use Rattle.esto_query.specs.declared.expanded.ExpandedFact.{ExpandedFact}
-use Rattle.esto_world_laws.specs.Worlds.{InWorld, SaysOne}
+use Rattle.esto_term.specs.Sets.{Has, Within, Covers}
+use Rattle.esto_semantics.specs.declared.expanded.ExpandedFact.{ExpandedFact}
+use Rattle.esto_chase_laws.specs.Worlds.{InWorld, SaysOne}
 use Rattle.esto_semantics.specs.Facts.{terms_of}
-use Rattle.esto_world_laws.specs.Matches.{taken, match_map, Touching, IsDirectMatch}
-use Rattle.esto_world_laws.specs.Steps.{IsAsked, IsCovered}
-use Rattle.esto_world_laws.specs.Derived.{AreDerived, Follows}
-use Rattle.esto_world_laws.specs.declared.entry.Claim.{Claim}
-use Rattle.esto_world_laws.specs.declared.entry.Claim.TheVariants.{Fact as Stated, Same}
-use Rattle.esto_world_laws.specs.declared.entry.Reason.{Reason}
-use Rattle.esto_world_laws.specs.declared.entry.Reason.TheVariants.{Expanded}
-use Rattle.esto_world_laws.specs.declared.entry.Entry.{Entry}
+use Rattle.esto_chase_laws.specs.WorldMatches.{taken, match_map, Touching, IsDirectMatch}
+use Rattle.esto_chase_laws.specs.WorldSteps.{IsAsked, IsCovered}
+use Rattle.esto_chase_laws.specs.declared.entry.Claim.{Claim}
+use Rattle.esto_chase_laws.specs.declared.entry.Claim.TheVariants.{Fact as Stated}
+use Rattle.esto_chase_laws.specs.declared.entry.Reason.{Reason}
+use Rattle.esto_chase_laws.specs.declared.entry.Reason.TheVariants.{Expanded}
+use Rattle.esto_chase_laws.specs.declared.entry.Entry.{Entry}
 use Rattle.esto_known.specs.Indexes.{CoversClaim}
 use Rattle.esto_known.specs.declared.group.Group.{Group}
-use Rattle.esto_condchase.specs.declared.turns.Turn.{Turn}
-use Rattle.esto_condchase.specs.declared.ways.Way.{Way}
-
--- The later list has one entry more, which was not covered, or none, and then the claim was covered.
-abbrev pub IsAdded : List Entry → Claim → List Bool → Reason → List Entry → Type 0
-IsAdded entries claim product reason later =
-    (IsCovered (InWorld entries product) claim × (later ≡ entries))
-    ⊎ ((IsCovered (InWorld entries product) claim → ⊥) × (later ≡ entries ++ (record { claim = claim; product = product; reason = reason }) ∷ []))
+use Rattle.esto_known.specs.declared.way.Way.{Way}
+use Rattle.esto_known.specs.Live.{AreOld}
+use Rattle.esto_known.specs.Added.{IsThere, IsFollowing}
 
 -- What is asked for is asked for by one entry more, or by none, and then the claim was covered.
 abbrev pub IsNoted : List Entry → List Entry → Claim → List Bool → Reason → List Entry → Type 0
@@ -32,51 +26,16 @@ IsNoted entries asked claim product reason later =
     (IsCovered (InWorld entries product) claim × (later ≡ asked))
     ⊎ (later ≡ asked ++ (record { claim = claim; product = product; reason = reason }) ∷ [])
 
--- The entry follows from the entries by the rules, and its product has the count.
-pub record IsFollowing (rules : List Rule) (count : ℕ) (entries : List Entry) (entry : Entry) : Type 0 where
-  pub follows : (expanded : List ExpandedFact) → Follows expanded rules entries entry.claim entry.product entry.reason
-  pub counted : length entry.product ≡ count
-
 -- What was asked for stays; and all that is asked for more follows from the entries.
 pub record AsksMore (rules : List Rule) (count : ℕ) (entries asked later : List Entry) : Type 0 where
   pub kept : (entry : Entry) → Contains asked entry → Contains later entry
   pub new : (entry : Entry) → Contains later entry → Contains asked entry ⊎ IsFollowing rules count entries entry
-
--- In each world that has the product, the claim is covered.
-abbrev pub IsThere : List Entry → Claim → List Bool → Type 0
-IsThere entries claim product = (atoms : List Bool) → Within product atoms → IsCovered (InWorld entries atoms) claim
-
--- The later entries are the earlier ones, and perhaps others after them, which follow; and they cover each entry that is so.
-pub record IsGrown (rules : List Rule) (entries : List Entry) (IsSo : Entry → Type 0) (later : List Entry) : Type 0 where
-  pub more : (others : List Entry) × (later ≡ entries ++ others)
-  pub derived : (expanded : List ExpandedFact) → AreDerived expanded rules entries → AreDerived expanded rules later
-  pub there : (entry : Entry) → IsSo entry → IsThere later entry.claim entry.product
-
--- The entries have grown so, and cover all that was asked for.
-abbrev pub IsGrownBy : List Rule → List Entry → List Entry → List Entry → Type 0
-IsGrownBy rules entries asked later = IsGrown rules entries (Contains asked) later
-
--- The entry at the place is added to the entries, if there is one.
-abbrev pub IsAddedAt : List Entry → List Entry → ℕ → List Entry → Type 0
-IsAddedAt entries asked place later =
-    ((entry : Entry) × (slice_get asked place ≡ Some entry) × IsAdded entries entry.claim entry.product entry.reason later)
-    ⊎ ((length asked ≤ place) × (later ≡ entries))
-
--- The entries have grown so, and cover what was asked for in these turns.
-abbrev pub IsGrownIn : List Rule → List Entry → List Entry → List Turn → List Entry → Type 0
-IsGrownIn rules entries asked turns later =
-    IsGrown rules entries (λ entry. (turn : Turn) × Contains turns turn × (slice_get asked turn.place ≡ Some entry)) later
 
 -- The entry is that of the expanded fact: it states the fact, its product is the fact's atom alone, and its reason names the atom and the fact's place.
 pub record IsEntryOf (fact : ExpandedFact) (entry : Entry) : Type 0 where
   pub states : entry.claim ≡ Stated fact.fact
   pub only : (number : ℕ) → Has entry.product number ↔ (number ≡ fact.atom)
   pub expanded : entry.reason ≡ Expanded fact.atom fact.place
-
--- The claim is an equality of a term with itself.
-abbrev pub IsTrivial : Claim → Type 0
-IsTrivial (Stated fact) = ⊥
-IsTrivial (Same left right) = left ≡ right
 
 -- The terms that tell what the rule asks for at a match: those of the head, or the two sides.
 abbrev pub terms_asked : Rule → List Term
@@ -102,10 +61,6 @@ IsRuleAnswered old new number rule =
     → (claim : Claim) → IsAsked number rule (match_map (body_of rule) chosen) claim → IsCovered (InWorld new atoms) claim
 
 -- ---- links
-
--- Each of the places is one of the first few.
-abbrev pub AreOld : ℕ → List ℕ → Type 0
-AreOld since places = (place : ℕ) → Contains places place → place < since
 
 -- In each world that the sets cover, the terms are one.
 abbrev pub TellOne : List Entry → List (List Bool) → Term → Term → Type 0

@@ -3,23 +3,17 @@ use Rattle.std.specs.Prelude.{◌≡◌, ◌⊎◌, ◌<◌, ◌≤◌, ℕ, Boo
 use Rattle.std.specs.List.{AllZip}
 use Rattle.std.specs.Prelude.{◌==◌, cond}
 use Rattle.esto_term.specs.declared.term.Term.{Term}
-use Rattle.esto_semantics.specs.Sets.{Within}
+use Rattle.esto_term.specs.Sets.{Within}
 use Rattle.esto_semantics.specs.declared.fact.Fact.{Fact}
-use Rattle.esto_world_laws.specs.Worlds.{InWorld, SaysOne}
+use Rattle.esto_chase_laws.specs.Worlds.{InWorld, SaysOne}
 use Rattle.esto_semantics.specs.Facts.{terms_of}
-use Rattle.esto_query.specs.Spreads.{substituted}
-use Rattle.esto_world_laws.specs.Matches.{IsLike, taken, Touching, Fits, IsDirectMatch}
-use Rattle.esto_world_laws.specs.Derived.{Claims, IsNamed, IsUnion, IsEquality}
-use Rattle.esto_world_laws.specs.declared.entry.Claim.{Claim}
-use Rattle.esto_world_laws.specs.declared.entry.Claim.TheVariants.{Fact as Stated}
-use Rattle.esto_world_laws.specs.declared.entry.Entry.{Entry}
-use Rattle.esto_known.specs.Indexes.{HasSide}
+use Rattle.esto_chase_laws.specs.WorldMatches.{IsLike, taken, Touching, Fits, IsDirectMatch}
+use Rattle.esto_chase_laws.specs.Derived.{Claims, IsNamed, IsUnion, IsEquality}
+use Rattle.esto_chase_laws.specs.declared.entry.Claim.TheVariants.{Fact as Stated}
+use Rattle.esto_chase_laws.specs.declared.entry.Entry.{Entry}
 use Rattle.esto_condchase.specs.declared.passing.Support.{Support}
-use Rattle.esto_condchase.specs.declared.ways.Way.{Way}
-
--- Each way's product has the count.
-abbrev pub AreCounted : ℕ → List Way → Type 0
-AreCounted count ways = (way : Way) → Contains ways way → length way.product ≡ count
+use Rattle.esto_known.specs.declared.way.Way.{Way}
+use Rattle.esto_known.specs.KeptWays.{HasWay}
 
 -- The way that has matched nothing.
 abbrev pub empty_way : ℕ → Way
@@ -44,78 +38,10 @@ pub record IsWay (entries : List Entry) (facts : List ℕ) (from to : List Term)
 abbrev pub AgreeOn : List Term → List Term → List Term → List Term → Type 0
 AgreeOn terms from to others = (term : Term) → Contains terms term → taken from to term ≡ taken from others term
 
--- These terms, all of which are of `from`, tell as much as all of the terms do: each of those is one of them, or none of `from`, so that it meets itself.
-pub record Tell (from terms these : List Term) : Type 0 where
-  pub told : (term : Term) → Contains terms term → Contains these term ⊎ ¬ (Contains from term)
-  pub among : (term : Term) → Contains these term → Contains from term
-
--- Terms stay, and the term is among them, if it is one of `from`.
-pub record IsPut (from : List Term) (term : Term) (these later : List Term) : Type 0 where
-  pub kept : (own : Term) → Contains these own → Contains later own
-  pub told : Contains later term ⊎ ¬ (Contains from term)
-  pub among : (own : Term) → Contains later own → Contains these own ⊎ Contains from own
-
 -- The new list has all of the old one, and what it has more is so.
 pub record Grown {X : Type 0} (Comes : X → Type 0) (old new : List X) : Type 0 where
   pub kept : (thing : X) → Contains old thing → Contains new thing
   pub come : (thing : X) → Contains new thing → Contains old thing ⊎ Comes thing
-
--- A later entry, or the one at the place itself, says it at one of the places, with a product within that of this one.
-abbrev pub HasLater : List Entry → List ℕ → (Claim → Type 0) → ℕ → Entry → Type 0
-HasLater entries places Says place entry =
-    (later : ℕ) × (its : Entry) × Contains places later × place ≤ later × (slice_get entries later ≡ Some its) × Says its.claim
-    × Within its.product entry.product
-
--- Among the places is one for each entry that says so.
-abbrev pub AreAllLive : List Entry → List ℕ → (Claim → Type 0) → Type 0
-AreAllLive entries places Says = (place : ℕ) (entry : Entry) → slice_get entries place ≡ Some entry → Says entry.claim
-    → HasLater entries places Says place entry
-
--- Among the places is one for each entry that states a fact of the relation.
-abbrev pub AreAllFacts : List Entry → ℕ → List ℕ → Type 0
-AreAllFacts entries relation places = (fact : Fact Term) → fact.relation ≡ relation → AreAllLive entries places (λ claim. claim ≡ Stated fact)
-
--- No equality with the term stands from a place on.
-abbrev pub IsUnlinked : List Entry → ℕ → Term → Type 0
-IsUnlinked entries since own = (place : ℕ) (entry : Entry) → slice_get entries place ≡ Some entry → HasSide entry.claim own → place < since
-
--- The entry at the place is one of the first few, and no equality from there on has a term of its fact.
-abbrev pub IsStale : List Entry → ℕ → ℕ → Type 0
-IsStale entries since place = place < since
-    × ((entry : Entry) (fact : Fact Term) → slice_get entries place ≡ Some entry → entry.claim ≡ Stated fact → (own : Term) → Contains fact.terms own
-    → IsUnlinked entries since own)
-
--- The fresh ones are among the places of facts all but stale ones.
-abbrev pub AreFresh : List Entry → ℕ → List ℕ → List ℕ → Type 0
-AreFresh entries since facts fresh = (place : ℕ) → Contains facts place → Contains fresh place ⊎ IsStale entries since place
-
--- The place is the first one of the term.
-abbrev pub IsFirstAt : List Term → Term → ℕ → Type 0
-IsFirstAt from term place = (slice_get from place ≡ Some term)
-    × ((to : List Term) (it : Term) → length from ≡ length to → slice_get to place ≡ Some it → it ≡ substituted from to term)
-
--- The lists have the same at the places.
-abbrev pub AgreeAt : List ℕ → List Term → List Term → Type 0
-AgreeAt places to others = (place : ℕ) → Contains places place → slice_get to place ≡ slice_get others place
-
--- What stands at the places tells what the term meets first.
-abbrev pub TellsOne : List Term → List ℕ → Term → Type 0
-TellsOne from places term = (to others : List Term) → length from ≡ length to → length from ≡ length others → AgreeAt places to others
-    → taken from to term ≡ taken from others term
-
--- Some way has the same at the places, with a product within the set.
-abbrev pub HasWay : List ℕ → List Way → List Term → List Bool → Type 0
-HasWay places ways to set = (way : Way) × Contains ways way × AgreeAt places way.to to × Within way.product set
-
--- What the term meets first, which is one of `from`, stands at the place.
-abbrev pub IsMetAt : List Term → Term → ℕ → Type 0
-IsMetAt from term place = Contains from term
-    × ((to : List Term) (it : Term) → length from ≡ length to → slice_get to place ≡ Some it → it ≡ taken from to term)
-
--- What the two sides meet first stands at the places.
-abbrev pub AreMetAt : List Term → List Term → ℕ × ℕ → Type 0
-AreMetAt from sides places =
-    (left : Term) × (right : Term) × (sides ≡ left ∷ right ∷ []) × IsMetAt from left places.0 × IsMetAt from right places.1
 
 -- The two sides, which are of `from`, meet terms that are one in the set's world.
 abbrev pub MeetOne : List Entry → List Term → List Term → List Term → List Bool → Type 0

@@ -2,31 +2,31 @@
 ghost use Rattle.std.specs.Prelude.{◌≡◌, ◌<◌, ◌⊎◌, ◌↔◌, ℕ, Bool, List, [], length, take, slice_index, Contains, IfOk, OnOk};
 ghost use Rattle.esto_semantics.specs.Maps.{AreFlat};
 ghost use Rattle.esto_semantics.specs.Rules.{Rule};
-ghost use Rattle.esto_semantics.specs.Sets.{Has};
+ghost use Rattle.esto_term.specs.Sets.{Has};
 ghost use Rattle.esto_constraint.specs.Constraints.{rules_of};
 ghost use Rattle.esto_constraint.specs.Graphs.{IsWithin, AreRanks};
 ghost use Rattle.esto_constraint.specs.Relations.{IsEdge};
-ghost use Rattle.esto_query.specs.Expanded.{facts_of};
-ghost use Rattle.esto_query.specs.declared.expanded.ExpandedFact.{ExpandedFact};
-ghost use Rattle.esto_world_laws.specs.Derived.{AreDerived};
-ghost use Rattle.esto_world_laws.specs.Laws.{AreGiven, IsSound, IsReceivedNowhere, IsDatabase, AreNestedWithin};
-ghost use Rattle.esto_world_laws.specs.Steps.{AreAnswered, AreJoined};
-ghost use Rattle.esto_world_laws.specs.Worlds.{InWorld, AreOfCount, IsClosed, IsBroken, IsDenied};
-ghost use Rattle.esto_condchase.specs.Rounds.{IsAdded, IsEntryOf, IsGrownBy};
-ghost use Rattle.esto_world_laws.specs.declared.entry.Entry.{Entry};
+ghost use Rattle.esto_semantics.specs.Expanded.{facts_of};
+ghost use Rattle.esto_semantics.specs.declared.expanded.ExpandedFact.{ExpandedFact};
+ghost use Rattle.esto_chase_laws.specs.Derived.{AreDerived};
+ghost use Rattle.esto_chase_laws.specs.WorldLaws.{AreGiven, IsSound, IsReceivedNowhere, IsDatabase, AreNestedWithin};
+ghost use Rattle.esto_chase_laws.specs.WorldSteps.{AreAnswered, AreJoined};
+ghost use Rattle.esto_chase_laws.specs.Worlds.{InWorld, AreOfCount, IsClosed, IsBroken, IsDenied};
+ghost use Rattle.esto_condchase.specs.Rounds.{IsEntryOf};
+ghost use Rattle.esto_known.specs.Added.{IsAdded, IsGrownBy};
+ghost use Rattle.esto_chase_laws.specs.declared.entry.Entry.{Entry};
 
-use crate::covering::{add, add_all};
 use crate::rounds::round;
 use esto_bits::RowBits;
-use esto_constraint::{Constraint, Ranks, Rules, ranks_rise, rules_are_sound};
-use esto_known::Known;
-use esto_prov::Entries;
-use esto_query::{ExpandedFact, ExpandedFacts};
-use esto_term::{List, OutOfMemory, Replicate};
-use esto_world_laws::{
+use esto_chase_laws::{
     Claim, Entry, Reason, closed_worlds_are_databases, complete_entries_are_closed,
     derived_entries_are_bounded, derived_entries_are_reasoned, derived_entries_are_sound,
 };
+use esto_constraint::{Constraint, Ranks, Rules, ranks_rise, rules_are_sound};
+use esto_known::{Known, add, add_all};
+use esto_prov::Entries;
+use esto_semantics::{ExpandedFact, ExpandedFacts};
+use esto_term::{List, OutOfMemory, Replicate};
 use std::alloc::Global;
 
 /// The set of one atom.

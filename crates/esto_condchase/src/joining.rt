@@ -1,24 +1,23 @@
 //! What links ask for: two that meet in one term link the terms at their ends.
 ghost use Rattle.std.specs.Prelude.{◌≡◌, ◌++◌, ◌<◌, ◌⊎◌, ℕ, false, List, Some, Contains, length, slice_get, take, IsTrue, IfOk, OnOk};
 ghost use Rattle.esto_semantics.specs.Rules.{Rule};
-ghost use Rattle.esto_semantics.specs.Sets.{Covers, united};
+ghost use Rattle.esto_term.specs.Sets.{Covers, united};
 ghost use Rattle.esto_term.specs.declared.term.Term.{Term};
-ghost use Rattle.esto_world_laws.specs.Worlds.{AreOfCount, SaysOne};
-ghost use Rattle.esto_world_laws.specs.Steps.{AreJoined};
-ghost use Rattle.esto_world_laws.specs.declared.entry.Claim.TheVariants.{Same};
-ghost use Rattle.esto_world_laws.specs.declared.entry.Entry.{Entry};
-ghost use Rattle.esto_world_laws.specs.declared.entry.Reason.TheVariants.{Equal};
+ghost use Rattle.esto_chase_laws.specs.Worlds.{AreOfCount, SaysOne};
+ghost use Rattle.esto_chase_laws.specs.WorldSteps.{AreJoined};
+ghost use Rattle.esto_chase_laws.specs.declared.entry.Claim.TheVariants.{Same};
+ghost use Rattle.esto_chase_laws.specs.declared.entry.Entry.{Entry};
+ghost use Rattle.esto_chase_laws.specs.declared.entry.Reason.TheVariants.{Equal};
 ghost use Rattle.esto_known.specs.Groups.{AreGroups, IsGroup};
 ghost use Rattle.esto_known.specs.Indexes.{HasSide};
 ghost use Rattle.esto_known.specs.declared.group.Group.{Group};
-ghost use Rattle.esto_condchase.specs.Rounds.{AsksMore, AreOld, AreOpen, IsEndMet, IsMetWithAll, IsSideMet, IsUnionMet, MeetAt, MeetBy, TellOne};
+ghost use Rattle.esto_condchase.specs.Rounds.{AsksMore, AreOpen, IsEndMet, IsMetWithAll, IsSideMet, IsUnionMet, MeetAt, MeetBy, TellOne};
+ghost use Rattle.esto_known.specs.Live.{AreOld};
 
-use crate::covering::same;
-use crate::news::has_later;
 use esto_bits::{Products, RowBits};
-use esto_known::{Group, Groups, Known};
+use esto_chase_laws::{Claim, Entry, Reason};
+use esto_known::{Group, Groups, Known, has_later, same};
 use esto_term::{List, OutOfMemory, Places, Replicate, Term, Values};
-use esto_world_laws::{Claim, Entry, Reason};
 use std::alloc::Global;
 
 /// The sets in whose worlds the entries say that the two terms are one.

@@ -4,20 +4,13 @@
 #![tactic(auto)]
 
 mod chase;
-mod covered;
-mod covering;
-mod fresh;
 mod joining;
-mod kept;
-mod live;
 mod news;
 mod passing;
 mod products;
 mod reached;
 mod rounds;
 mod steps;
-mod touching;
-mod turns;
 mod ways;
 
 pub use chase::chase_with_products;

@@ -2,19 +2,20 @@
 ghost use Rattle.std.specs.Prelude.{◌≡◌, ◌↔◌, ◌<◌, ◌++◌, ◌∷◌, [], ℕ, false, Contains, IsTrue, IfOk};
 ghost use Rattle.esto_semantics.specs.declared.fact.Fact.{Fact};
 ghost use Rattle.esto_term.specs.declared.term.Term.{Term};
-ghost use Rattle.esto_world_laws.specs.Worlds.{AreOfCount};
+ghost use Rattle.esto_chase_laws.specs.Worlds.{AreOfCount};
 ghost use Rattle.esto_constraint.specs.Relations.{HasRelation};
 ghost use Rattle.esto_condchase.specs.News.{IsApart, IsSettled, AreFoundAnew};
-ghost use Rattle.esto_condchase.specs.Rounds.{AreOld};
-ghost use Rattle.esto_condchase.specs.Ways.{AreCounted, IsOldWay};
+ghost use Rattle.esto_known.specs.Live.{AreOld};
+ghost use Rattle.esto_condchase.specs.Ways.{IsOldWay};
+ghost use Rattle.esto_known.specs.KeptWays.{AreCounted};
 
 use crate::steps::both;
-use crate::ways::{Way, match_next, matches_of};
-use esto_known::Known;
+use crate::ways::{match_next, matches_of};
+use esto_chase_laws::{Claim, Entry};
+use esto_known::{Known, Way};
 use esto_prov::terms_of;
 use esto_semantics::Atom;
 use esto_term::{List, OutOfMemory, Term};
-use esto_world_laws::{Claim, Entry};
 use std::alloc::Global;
 
 /// Whether some atom has the relation.
@@ -47,19 +48,6 @@ fn has_news(entries: &[Entry], since: usize, body: &[Atom]) -> bool
 {
     'entries: for place in since..entries.len() {
         if concerns(&entries[place].claim, body) {
-            return true;
-        }
-    }
-    false
-}
-
-/// Whether one of the places is none of the first few.
-pub fn has_later(places: &[usize], since: usize) -> bool
-    ensures new { IsTrue result → ¬ (AreOld since places.now) }
-    ensures old { result ≡ false → AreOld since places.now }
-{
-    'places: for place in places {
-        if *place >= since {
             return true;
         }
     }

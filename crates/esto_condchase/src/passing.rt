@@ -1,20 +1,19 @@
 //! How a fact goes on from a way: the equalities by which its terms are one with what they have to meet.
 ghost use Rattle.std.specs.Prelude.{◌≡◌, ◌++◌, ◌∷◌, ◌<◌, ◌≤◌, MatchOption, ◌⊎◌, [], List, Some, Bool, Contains, length, slice_get, IsTrue, IfOk, IfSome, OnOk, ◌==◌, false, take};
-ghost use Rattle.esto_semantics.specs.Sets.{Within, united};
-ghost use Rattle.esto_world_laws.specs.Matches.{taken};
-ghost use Rattle.esto_world_laws.specs.Worlds.{AreOfCount, SaysOne};
-ghost use Rattle.esto_world_laws.specs.declared.entry.Entry.{Entry};
+ghost use Rattle.esto_term.specs.Sets.{Within, united};
+ghost use Rattle.esto_chase_laws.specs.WorldMatches.{taken};
+ghost use Rattle.esto_chase_laws.specs.Worlds.{AreOfCount, SaysOne};
+ghost use Rattle.esto_chase_laws.specs.declared.entry.Entry.{Entry};
 ghost use Rattle.esto_condchase.specs.declared.passing.Support.{Support};
-ghost use Rattle.esto_condchase.specs.Ways.{AreCounted, AreAllLive, AreOneAt, Grown, IsTold, HasSupport, IsLonger, IsLinkedFrom, IsFreeLink, IsPassedAt, PassesIn, AreLonger, AreSupports, floor_of, meets};
+ghost use Rattle.esto_condchase.specs.Ways.{AreOneAt, Grown, IsTold, HasSupport, IsLonger, IsLinkedFrom, IsFreeLink, IsPassedAt, PassesIn, AreLonger, AreSupports, floor_of, meets};
+ghost use Rattle.esto_known.specs.KeptWays.{AreCounted};
+ghost use Rattle.esto_known.specs.Live.{AreAllLive};
 
-use crate::kept::{Kept, term_at};
-use crate::live::links_of;
-use crate::news::has_later;
 use esto_bits::RowBits;
-use esto_known::Known;
+use esto_chase_laws::Entry;
+use esto_known::{Kept, Known, has_later, links_of, term_at};
 use esto_prov::taken_term;
 use esto_term::{List, OutOfMemory, Places, Replicate, Term, has_term};
-use esto_world_laws::Entry;
 use std::alloc::Global;
 
 /// The equalities that a way uses, and the union of all products that it rests on.

@@ -2,24 +2,23 @@
 ghost use Rattle.std.specs.Prelude.{◌≡◌, ◌↔◌, List, Bool, length, map, IfOk, OnOk};
 ghost use Rattle.std.specs.List.{AllZip};
 ghost use Rattle.esto_semantics.specs.Facts.{terms_of};
-ghost use Rattle.esto_semantics.specs.Sets.{Covers};
-ghost use Rattle.esto_world_laws.specs.Laws.{HasMatch};
-ghost use Rattle.esto_world_laws.specs.Matches.{taken};
-ghost use Rattle.esto_world_laws.specs.Steps.{AreJoined};
-ghost use Rattle.esto_world_laws.specs.Worlds.{InWorld, AreOfCount};
+ghost use Rattle.esto_term.specs.Sets.{Covers};
+ghost use Rattle.esto_chase_laws.specs.WorldLaws.{HasMatch};
+ghost use Rattle.esto_chase_laws.specs.WorldMatches.{taken};
+ghost use Rattle.esto_chase_laws.specs.WorldSteps.{AreJoined};
+ghost use Rattle.esto_chase_laws.specs.Worlds.{InWorld, AreOfCount};
 ghost use Rattle.esto_known.specs.Groups.{AreGroups};
-ghost use Rattle.esto_world_laws.specs.declared.entry.Entry.{Entry};
-ghost use Rattle.esto_condchase.specs.Products.{AreGroupsOf, AreReachedOf, AreTouching, IsNext, IsFirst};
+ghost use Rattle.esto_chase_laws.specs.declared.entry.Entry.{Entry};
+ghost use Rattle.esto_condchase.specs.Products.{AreReachedOf, IsNext, IsFirst};
+ghost use Rattle.esto_known.specs.Touching.{AreGroupsOf, AreTouching};
 
-use crate::covered::telling;
 use crate::reached::{Reached, next, sets_of_all};
-use crate::touching::touch_all;
 use esto_bits::{Products, RowBits};
-use esto_known::Groups;
+use esto_chase_laws::Entry;
+use esto_known::{Groups, telling, touch_all};
 use esto_prov::{taken_terms, terms_of};
 use esto_semantics::Atom;
 use esto_term::{List, OutOfMemory, Replicate, Term, Terms};
-use esto_world_laws::Entry;
 use std::alloc::Global;
 
 /// A copy of the terms.

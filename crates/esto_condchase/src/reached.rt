@@ -1,17 +1,17 @@
 //! The terms that the first atoms of a body reach in the worlds of sets.
 ghost use Rattle.std.specs.Prelude.{◌≡◌, ◌↔◌, ◌⊎◌, ◌<◌, ◌++◌, ◌∷◌, List, [], Bool, Some, length, slice_get, Contains, IfOk, IfSome, OnOk};
 ghost use Rattle.esto_term.specs.declared.term.Term.{Term};
-ghost use Rattle.esto_semantics.specs.Sets.{Covers};
-ghost use Rattle.esto_condchase.specs.Products.{AreGroupsOf, AreReachedOf, IsReachedBy, Reach, StepsBy, StepsWith, StepsFrom, Steps};
+ghost use Rattle.esto_term.specs.Sets.{Covers};
+ghost use Rattle.esto_condchase.specs.Products.{AreReachedOf, IsReachedBy, Reach, StepsBy, StepsWith, StepsFrom, Steps};
+ghost use Rattle.esto_known.specs.Touching.{AreGroupsOf};
 ghost use Rattle.esto_condchase.specs.declared.reached.Reached.{Reached};
 
-use crate::touching::{both, touch_all};
 use esto_bits::Products;
-use esto_known::{Group, Groups};
+use esto_chase_laws::Claim;
+use esto_known::{Group, Groups, both, touch_all};
 use esto_prov::{followed, taken_terms};
 use esto_semantics::Atom;
-use esto_term::{List, OutOfMemory, Term, Terms, equal_terms};
-use esto_world_laws::Claim;
+use esto_term::{List, OutOfMemory, Term, Terms, equal_terms, push};
 use std::alloc::Global;
 
 /// Terms that are reached, and the minimal sets in whose worlds they are.
@@ -56,16 +56,6 @@ fn add_at(
     Ok(())
 }
 
-/// Puts one at the end.
-fn put(ones: &mut Vec<Reached>, one: Reached) -> Result<(), OutOfMemory>
-    ensures { OnOk result (ones.new.items ≡ ones.old.items ++ one ∷ []) }
-{
-    match ones.push(one) {
-        Ok(()) => Ok(()),
-        Err(_) => Err(OutOfMemory),
-    }
-}
-
 /// Adds what has reached the terms by the unions of one of the sets and one of the others.
 fn add_new(
     alloc: Global,
@@ -83,7 +73,7 @@ fn add_new(
         ↔ (Reach ones.old.items own set ⊎ IsReachedBy to sets.now.sets others.now.sets own set)) }
 {
     let by = both(alloc, sets, others)?;
-    put(ones, Reached { to, by })?;
+    push(ones, Reached { to, by })?;
     Ok(())
 }
 

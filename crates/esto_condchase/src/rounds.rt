@@ -4,23 +4,21 @@ ghost use Rattle.esto_semantics.specs.Facts.{terms_of};
 ghost use Rattle.esto_semantics.specs.Rules.{tuple, equality};
 ghost use Rattle.esto_constraint.specs.Constraints.{rule_of, rules_of};
 ghost use Rattle.esto_chase_laws.specs.Making.{frontier};
-ghost use Rattle.esto_world_laws.specs.Worlds.{AreOfCount};
-ghost use Rattle.esto_world_laws.specs.Steps.{AreAnswered, AreJoined};
-ghost use Rattle.esto_world_laws.specs.declared.entry.Entry.{Entry};
-ghost use Rattle.esto_world_laws.specs.declared.entry.Reason.TheVariants.{Step};
+ghost use Rattle.esto_chase_laws.specs.Worlds.{AreOfCount};
+ghost use Rattle.esto_chase_laws.specs.WorldSteps.{AreAnswered, AreJoined};
+ghost use Rattle.esto_chase_laws.specs.declared.entry.Entry.{Entry};
+ghost use Rattle.esto_chase_laws.specs.declared.entry.Reason.TheVariants.{Step};
 ghost use Rattle.esto_condchase.specs.Ways.{IsFound};
 ghost use Rattle.esto_condchase.specs.Rounds.{IsNoted, AsksMore, IsAnswered, IsRuleAnswered};
 
-use crate::covering::{is_covered, same};
 use crate::joining::join;
 use crate::news::matches_since;
-use crate::ways::Way;
 use esto_bits::RowBits;
+use esto_chase_laws::{Claim, Entry, Reason};
 use esto_constraint::{Constraint, Egd, Tgd, frontier_of};
-use esto_known::Known;
+use esto_known::{Known, Way, is_covered, same};
 use esto_prov::{made_fact, taken_term, taken_terms, terms_of};
 use esto_term::{List, OutOfMemory, Places, Replicate, Term, Terms, Values};
-use esto_world_laws::{Claim, Entry, Reason};
 use std::alloc::Global;
 
 /// The entries that a way uses, those of its facts first.

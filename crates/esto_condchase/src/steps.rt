@@ -1,25 +1,25 @@
 //! Goes on from ways by one atom, with each fact that is alike to it. A way is made only where no kept way tells the same.
 ghost use Rattle.std.specs.Prelude.{◌≡◌, ◌++◌, ◌∷◌, [], ◌⊎◌, ◌<◌, ℕ, List, Bool, true, false, MatchOption, Some, Contains, length, slice_get, take, IsTrue, IfOk, OnOk};
 ghost use Rattle.esto_term.specs.declared.term.Term.{Term};
-ghost use Rattle.esto_semantics.specs.Sets.{Within, united};
+ghost use Rattle.esto_term.specs.Sets.{Within, united};
 ghost use Rattle.esto_semantics.specs.declared.fact.Fact.{Fact};
-ghost use Rattle.esto_world_laws.specs.Matches.{IsLike};
-ghost use Rattle.esto_world_laws.specs.Worlds.{AreOfCount};
-ghost use Rattle.esto_world_laws.specs.declared.entry.Claim.TheVariants.{Fact as Stated};
-ghost use Rattle.esto_world_laws.specs.declared.entry.Entry.{Entry};
+ghost use Rattle.esto_chase_laws.specs.WorldMatches.{IsLike};
+ghost use Rattle.esto_chase_laws.specs.Worlds.{AreOfCount};
+ghost use Rattle.esto_chase_laws.specs.declared.entry.Claim.TheVariants.{Fact as Stated};
+ghost use Rattle.esto_chase_laws.specs.declared.entry.Entry.{Entry};
 ghost use Rattle.esto_condchase.specs.declared.passing.Support.{Support};
-ghost use Rattle.esto_condchase.specs.declared.ways.Way.{Way};
-ghost use Rattle.esto_condchase.specs.Ways.{AreCounted, AreAllFacts, AreFresh, Grown, HasWay, IsTold, extended, meets, PassesTo, PassesIn, IsPassedAt, ComesBy, Comes, GoesOn};
+ghost use Rattle.esto_known.specs.declared.way.Way.{Way};
+ghost use Rattle.esto_condchase.specs.Ways.{Grown, IsTold, extended, meets, PassesTo, PassesIn, IsPassedAt, ComesBy, Comes, GoesOn};
+ghost use Rattle.esto_known.specs.KeptWays.{AreCounted, HasWay};
+ghost use Rattle.esto_known.specs.Live.{AreAllFacts, AreFresh};
 
-use crate::kept::{Kept, hash_at};
-use crate::news::{has_later, is_new};
+use crate::news::is_new;
 use crate::passing::{Step, Support, is_old, is_settled, met_first, through_row, union_of};
-use crate::ways::Way;
 use esto_bits::RowBits;
-use esto_known::Known;
+use esto_chase_laws::{Claim, Entry};
+use esto_known::{Kept, Known, Way, has_later, hash_at};
 use esto_semantics::Atom;
 use esto_term::{List, OutOfMemory, Places, Replicate, Term, Terms};
-use esto_world_laws::{Claim, Entry};
 use std::alloc::Global;
 
 /// Puts copies of the terms at the end of the others.

@@ -1,30 +1,19 @@
 //! Ways to match a body among entries, modulo equalities.
 ghost use Rattle.std.specs.Prelude.{◌≡◌, ◌++◌, ◌∷◌, [], ◌<◌, length, Contains, IfOk, IfSome, OnOk};
 ghost use Rattle.esto_semantics.specs.Facts.{terms_of};
-ghost use Rattle.esto_world_laws.specs.Worlds.{AreOfCount};
-ghost use Rattle.esto_condchase.specs.Ways.{AreCounted, AreMetAt, empty_way, Comes, GoesOn, Grown, TellsOne, AreNext, AreFound};
-ghost use Rattle.esto_condchase.specs.declared.ways.Way.{Way};
+ghost use Rattle.esto_chase_laws.specs.Worlds.{AreOfCount};
+ghost use Rattle.esto_condchase.specs.Ways.{empty_way, Comes, GoesOn, Grown, AreNext, AreFound};
+ghost use Rattle.esto_known.specs.KeptWays.{AreCounted};
+ghost use Rattle.esto_known.specs.Told.{AreMetAt, TellsOne};
+ghost use Rattle.esto_known.specs.declared.way.Way.{Way};
 
-use crate::fresh::fresh_of;
-use crate::kept::{Kept, places_met, telling_places};
-use crate::live::facts_of;
 use crate::steps::{Level, both, match_all};
 use esto_bits::RowBits;
-use esto_known::Known;
+use esto_known::{Kept, Known, facts_of, fresh_of, places_met, telling_places};
 use esto_prov::terms_of;
 use esto_semantics::Atom;
 use esto_term::{List, OutOfMemory, Places, Replicate, Term, Terms, Values};
 use std::alloc::Global;
-
-/// A way to match the first atoms of a body: the terms that theirs meet, the entries of the facts and of the
-/// equalities that it uses, and the union of their products.
-#[derive(Drop)]
-pub struct Way {
-    pub to: Terms,
-    pub facts: Places,
-    pub links: Places,
-    pub product: RowBits,
-}
 
 /// The way that has matched nothing.
 fn empty_way(alloc: Global, count: usize) -> Result<Way, OutOfMemory>

@@ -1,6 +1,5 @@
 -- A rule as it is lent, the least active match of a rule, and the first rule that is broken.
-use Rattle.std.proofs.Common.{◌≡◌, ℕ, ◌+◌, ◌<◌, ◌≤◌, ◌⊎◌, ◌↔◌, List, [], ◌∷◌, length, take, Option, Some, None, IsSome}
-use Rattle.std.proofs.Common.{refl, sym, ap, subst, ◌∙◌, inl, inr}
+use Rattle.std.proofs.Common.{◌≡◌, ℕ, ◌+◌, ◌<◌, ◌≤◌, ◌⊎◌, ◌↔◌, List, [], ◌∷◌, length, take, Option, Some, None, IsSome, refl, sym, ap, subst, ◌∙◌, inl, inr}
 use Rattle.std.specs.List.{slice_get}
 use Rattle.std.specs.Option.{MatchOption, option_map}
 use Rattle.std.specs.FinMap.{get, empty, get-empty}
@@ -16,7 +15,7 @@ use Rattle.esto_semantics.specs.Maps.{AreFlat}
 use Rattle.esto_semantics.specs.Rules.{Rule, body_of, IsMet, AreMet}
 use Rattle.esto_semantics.specs.declared.fact.Fact.{Fact}
 use Rattle.esto_query.specs.Active.{Completes, NoneIsActive, IsLeastActiveFrom}
-use Rattle.esto_query.specs.Valuations.{Assignment, Extends}
+use Rattle.esto_semantics.specs.Valuations.{Assignment, Extends}
 use Rattle.esto_query.specs.declared.matches.Found.{Found}
 use Rattle.esto_query.proofs.MatchLemmas.{found_variables}
 use Rattle.esto_constraint.specs.Constraints.{rule_of, rules_of}

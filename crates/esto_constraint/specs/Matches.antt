@@ -8,7 +8,7 @@ use Rattle.esto_semantics.specs.Matches.{IsMatch, IsAtMost, IsActive}
 use Rattle.esto_semantics.specs.Rules.{Rule, body_of, AreMet}
 use Rattle.esto_semantics.specs.declared.fact.Fact.{Fact}
 pub use Rattle.esto_query.specs.Active.{Holds}
-use Rattle.esto_query.specs.Valuations.{Assignment, Extends, map_of}
+use Rattle.esto_semantics.specs.Valuations.{Assignment, Extends, map_of}
 use Rattle.esto_query.specs.Matches.{IsFound}
 
 -- The valuation and the places are those of a match of the rule's body under which the rule does not hold, and no such match comes before it.

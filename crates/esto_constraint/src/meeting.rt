@@ -2,15 +2,15 @@
 ghost use Rattle.std.specs.Prelude.{◌≡◌, IfOk, MatchOption};
 ghost use Rattle.std.specs.FinMap as map;
 ghost use Rattle.esto_query.specs.Active.{IsAimed, rule_of as rule_of_lent};
-ghost use Rattle.esto_query.specs.Valuations.{map_of};
+ghost use Rattle.esto_semantics.specs.Valuations.{map_of};
 ghost use Rattle.esto_semantics.specs.Maps.{AreFlat};
 ghost use Rattle.esto_semantics.specs.Rules.{body_of, IsMet, AreMet};
 ghost use Rattle.esto_constraint.specs.Constraints.{rule_of, rules_of};
 ghost use Rattle.esto_constraint.specs.Matches.{IsLeastActive, IsFirstBroken, LeastActiveIsLeast};
 
 use crate::rule::{Constraint, Rules};
-use esto_query::{Columns, Conclusion, Found, IndexedFacts, LentRule, Valuation};
-use esto_semantics::{Atoms, Facts};
+use esto_query::{Columns, Conclusion, Found, IndexedFacts, LentRule};
+use esto_semantics::{Atoms, Facts, Valuation};
 use esto_term::{OutOfMemory, Term};
 use std::alloc::Global;
 

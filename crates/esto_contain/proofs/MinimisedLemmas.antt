@@ -11,7 +11,7 @@ use Rattle.esto_semantics.specs.Listed.{IsEquivalentPart}
 use Rattle.esto_semantics.specs.Maps.{IsFlat}
 use Rattle.esto_semantics.specs.Queries.{ConjunctiveQuery, IsQuery}
 use Rattle.esto_semantics.specs.Rules.{Rule, AreRules}
-use Rattle.esto_semantics.specs.Sets.{IsMinimal}
+use Rattle.esto_term.specs.Sets.{IsMinimal}
 use Rattle.esto_semantics.specs.declared.fact.Fact.{Fact}
 use Rattle.esto_semantics.proofs.FactLemmas.{Sends-then}
 use Rattle.esto_chase_laws.specs.ReceivedLaws.{StatesAreUniversalForQueries}

@@ -9,8 +9,8 @@ use Rattle.esto_term.proofs.ListLemmas.{Contains-at, Contains-map_from, Contains
 use Rattle.esto_term.proofs.PlaceLemmas.{take-item}
 use Rattle.esto_semantics.specs.Maps.{AreFlat}
 use Rattle.esto_semantics.specs.declared.fact.Fact.{Fact}
-use Rattle.esto_query.specs.Expanded.{facts_of}
-use Rattle.esto_query.specs.declared.expanded.ExpandedFact.{ExpandedFact}
+use Rattle.esto_semantics.specs.Expanded.{facts_of}
+use Rattle.esto_semantics.specs.declared.expanded.ExpandedFact.{ExpandedFact}
 use Rattle.esto_contain.specs.Numbered.{AreNumbered}
 
 pub numbered_none : AreNumbered [] []

@@ -10,16 +10,16 @@ use Rattle.esto_semantics.specs.ListedLaws.{ChosenAreNamed}
 use Rattle.esto_semantics.specs.Maps.{IsFlat}
 use Rattle.esto_semantics.specs.Queries.{ConjunctiveQuery, IsQuery}
 use Rattle.esto_semantics.specs.Rules.{Rule, AreRules}
-use Rattle.esto_semantics.specs.Sets.{Covers, IsMinimal}
+use Rattle.esto_term.specs.Sets.{Covers, IsMinimal}
 use Rattle.esto_bits.specs.Kept.{AreOver, IsAntichain}
 use Rattle.esto_bits.proofs.FamilyLemmas.{antichain_is_minimal}
-use Rattle.esto_query.specs.declared.expanded.ExpandedFact.{ExpandedFact}
-use Rattle.esto_world_laws.specs.Derived.{AreDerived}
-use Rattle.esto_world_laws.specs.Laws.{AreFactsOf, AreGiven, HasGivenHead, HasMatch, IsReceivedNowhere, IsSound, RestsOn}
-use Rattle.esto_world_laws.specs.Laws.{ContainmentShowsMatches, MatchesRestOnAtoms, MatchesShowContainment}
-use Rattle.esto_world_laws.specs.Worlds.{InWorld, IsBroken, IsClosed, IsDenied}
-use Rattle.esto_world_laws.specs.declared.entry.Claim.{Claim}
-use Rattle.esto_world_laws.specs.declared.entry.Entry.{Entry}
+use Rattle.esto_semantics.specs.declared.expanded.ExpandedFact.{ExpandedFact}
+use Rattle.esto_chase_laws.specs.Derived.{AreDerived}
+use Rattle.esto_chase_laws.specs.WorldLaws.{AreFactsOf, AreGiven, HasGivenHead, HasMatch, IsReceivedNowhere, IsSound, RestsOn}
+use Rattle.esto_chase_laws.specs.WorldLaws.{ContainmentShowsMatches, MatchesRestOnAtoms, MatchesShowContainment}
+use Rattle.esto_chase_laws.specs.Worlds.{InWorld, IsBroken, IsClosed, IsDenied}
+use Rattle.esto_chase_laws.specs.declared.entry.Claim.{Claim}
+use Rattle.esto_chase_laws.specs.declared.entry.Entry.{Entry}
 use Rattle.esto_contain.specs.Numbered.{AreNumbered}
 
 module _ (rules : List Rule) (query instance : ConjunctiveQuery) (expanded : List ExpandedFact) (entries : List Entry) (are_rules : AreRules rules)

@@ -8,7 +8,7 @@ use Rattle.esto_semantics.specs.Expansions.{IsOfQuery}
 use Rattle.esto_semantics.specs.Listed.{IsEquivalentPart}
 use Rattle.esto_semantics.specs.Queries.{ConjunctiveQuery}
 use Rattle.esto_semantics.specs.Rules.{Rule}
-use Rattle.esto_semantics.specs.Sets.{IsMinimal}
+use Rattle.esto_term.specs.Sets.{IsMinimal}
 use Rattle.esto_term.specs.declared.term.Term.{Term}
 use Rattle.esto_views.specs.Renamed.{IsRenamed}
 use Rattle.esto_views.specs.Soundness.{IsNamed}

@@ -15,27 +15,26 @@ ghost use Rattle.esto_semantics.specs.Expansions.{IsOfQuery};
 ghost use Rattle.esto_semantics.specs.Instances.{IsUniversalFor};
 ghost use Rattle.esto_semantics.specs.Listed.{IsEquivalentPart};
 ghost use Rattle.esto_semantics.specs.Maps.{IsFlat};
-ghost use Rattle.esto_semantics.specs.Sets.{IsMinimal};
+ghost use Rattle.esto_term.specs.Sets.{IsMinimal};
 ghost use Rattle.esto_term.specs.declared.term.Term.{Term};
 
 use crate::ends::end_of;
 use either::{Either, Left, Right};
 use esto_bits::{Products, products_are_antichains};
 use esto_chase::{Clash, clashed_queries_are_unsatisfiable};
-use esto_chase_laws::states_are_universal;
+use esto_chase_laws::{matches_decide_containment, matches_rest_on_atoms, states_are_universal};
 use esto_condchase::{chase_with_products, products_of_matches};
 use esto_constraint::rules_are_sound;
 use esto_instance::Instance;
 use esto_mapping::{Catalogue, catalogues_rank_their_rules};
 use esto_plan_laws::{maps_between_plans_compose, renamed_plans_are_alike};
-use esto_query::{Atom, ExpandedFact, ExpandedFacts, Facts, Names, Query, queries_are_sound};
+use esto_query::{Atom, Facts, Names, Query, queries_are_sound};
 use esto_semantics::{
-    chosen_atoms_are_named, parts_of_an_instance_contain_the_query,
+    ExpandedFact, ExpandedFacts, chosen_atoms_are_named, parts_of_an_instance_contain_the_query,
     universal_instances_satisfy_queries,
 };
 use esto_term::{List, OutOfMemory, Replicate, Terms};
 use esto_views::{plan_facts, plans_are_sound, renamed_plan, renamed_plans_are_one};
-use esto_world_laws::{matches_decide_containment, matches_rest_on_atoms};
 use std::alloc::Global;
 
 /// The last facts and the head of a query's run, under new names, and the minimal sets of these facts that are equivalent

@@ -11,7 +11,7 @@ use Rattle.esto_term.specs.declared.term.Term.{Term}
 use Rattle.esto_term.specs.declared.term.Term.TheVariants.{Const, Plain}
 use Rattle.esto_term.proofs.ListLemmas.{map_itself}
 use Rattle.esto_term.proofs.PlaceLemmas.{take-item}
-use Rattle.esto_query.specs.Valuations.{Assignment, Extends}
+use Rattle.esto_semantics.specs.Valuations.{Assignment, Extends}
 use Rattle.esto_core.specs.Left.{IsFixing}
 
 own_key : (number : ℕ) → eq_by_cmp nat_cmp number number ≡ true

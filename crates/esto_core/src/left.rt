@@ -6,8 +6,8 @@ ghost use Rattle.esto_semantics.specs.Maps.{IsFlat, AreFlat};
 ghost use Rattle.esto_plan_laws.specs.Cores.{Retracts, AreLeft};
 ghost use Rattle.esto_core.specs.Left.{without, IsFixing, IsDroppedAt};
 
-use esto_query::{Valuation, first_match, matches_send, valuations_are_maps};
-use esto_semantics::{Atom, Facts};
+use esto_query::{first_match, matches_send};
+use esto_semantics::{Atom, Facts, Valuation, valuations_are_maps};
 use esto_term::{List, OutOfMemory, Replicate, Term, Terms};
 use std::alloc::Global;
 

@@ -6,10 +6,10 @@ use Rattle.esto_term.specs.declared.term.Term.{Term}
 use Rattle.esto_constraint.specs.Constraints.{rules_of}
 use Rattle.esto_constraint.specs.declared.rule.Constraint.{Constraint}
 use Rattle.esto_semantics.specs.Queries.{ConjunctiveQuery}
-use Rattle.esto_query.specs.declared.expanded.ExpandedFact.{ExpandedFact}
-use Rattle.esto_world_laws.specs.Derived.{AreDerived}
-use Rattle.esto_world_laws.specs.declared.entry.Claim.{Claim}
-use Rattle.esto_world_laws.specs.declared.entry.Entry.{Entry}
+use Rattle.esto_semantics.specs.declared.expanded.ExpandedFact.{ExpandedFact}
+use Rattle.esto_chase_laws.specs.Derived.{AreDerived}
+use Rattle.esto_chase_laws.specs.declared.entry.Claim.{Claim}
+use Rattle.esto_chase_laws.specs.declared.entry.Entry.{Entry}
 use Rattle.esto_cert.specs.Certificates.{Case, MayClaim, MayEnd}
 use Rattle.esto_cert.specs.Judging.{IsJudgedText, Verdict, Decides}
 use Rattle.esto_cert.specs.Lines.{line_of}

@@ -6,21 +6,21 @@ use Rattle.esto_term.specs.declared.term.Term.{Term}
 use Rattle.esto_term.proofs.ZipLemmas.{zip_left, zip_length, zip_weaker}
 use Rattle.esto_semantics.specs.Facts.{terms_of}
 use Rattle.esto_semantics.specs.Maps.{IsFixedBy}
-use Rattle.esto_semantics.specs.Sets.{Within}
+use Rattle.esto_term.specs.Sets.{Within}
 use Rattle.esto_semantics.specs.declared.fact.Fact.{Fact}
-use Rattle.esto_world_laws.specs.Derived.{Claims, IsNamed, AreDerived}
-use Rattle.esto_world_laws.specs.Laws.{HasMatch}
-use Rattle.esto_world_laws.specs.Matches.{Fits}
-use Rattle.esto_world_laws.specs.Worlds.{InWorld, Linked}
-use Rattle.esto_world_laws.specs.declared.entry.Claim.TheVariants.{Fact as Stated}
-use Rattle.esto_world_laws.specs.declared.entry.Entry.{Entry}
+use Rattle.esto_chase_laws.specs.Derived.{Claims, IsNamed, AreDerived}
+use Rattle.esto_chase_laws.specs.WorldLaws.{HasMatch}
+use Rattle.esto_chase_laws.specs.WorldMatches.{Fits}
+use Rattle.esto_chase_laws.specs.Worlds.{InWorld, Linked}
+use Rattle.esto_chase_laws.specs.declared.entry.Claim.TheVariants.{Fact as Stated}
+use Rattle.esto_chase_laws.specs.declared.entry.Entry.{Entry}
 use Rattle.esto_cert.specs.Certificates.{Case}
 use Rattle.esto_derive.specs.Marking.{AreUsed, AreUsedWithin}
 use Rattle.esto_derive.specs.Searching.{ClaimsIn, IsFound, AreLinks}
 use Rattle.esto_derive.specs.Writing.{IsBasis, IsMatchAt, IsWritten, WritesMatch, terms_at}
 use Rattle.esto_constraint.specs.Constraints.{rules_of}
 use Rattle.esto_constraint.specs.declared.rule.Constraint.{Constraint}
-use Rattle.esto_query.specs.declared.expanded.ExpandedFact.{ExpandedFact}
+use Rattle.esto_semantics.specs.declared.expanded.ExpandedFact.{ExpandedFact}
 use Rattle.esto_derive.proofs.LoopLemmas.{terms_stated}
 use Rattle.esto_derive.proofs.MatchLemmas.{match_at, some_go_on}
 use Rattle.esto_derive.proofs.WriteLemmas.{AreThere}

@@ -15,10 +15,10 @@ use Rattle.esto_query.specs.Making.{query_of}
 use Rattle.esto_query.specs.Soundness.{IsSound}
 use Rattle.esto_query.specs.declared.query.Query.{Query}
 use Rattle.esto_views.specs.Expanded.{Expands}
-use Rattle.esto_query.specs.Expanded.{facts_of}
+use Rattle.esto_semantics.specs.Expanded.{facts_of}
 use Rattle.esto_views.specs.Plans.{plan_query, fact_of}
 use Rattle.esto_views.specs.Soundness.{IsSoundPlan}
-use Rattle.esto_query.specs.declared.expanded.ExpandedFact.{ExpandedFact}
+use Rattle.esto_semantics.specs.declared.expanded.ExpandedFact.{ExpandedFact}
 use Rattle.esto_views.specs.declared.fragments.FragmentDef.{FragmentDef}
 use Rattle.esto_views.specs.declared.plan.PlanAtom.{PlanAtom}
 use Rattle.esto_views.specs.declared.plan.Plan.{Plan}

@@ -8,18 +8,18 @@ use Rattle.esto_term.proofs.ListLemmas.{Contains-nil, Contains-at, Contains-case
 use Rattle.esto_term.proofs.ZipLemmas.{zip_both, zip_by_places, zip_length}
 use Rattle.esto_term.specs.declared.term.Term.{Term}
 use Rattle.esto_semantics.specs.Facts.{terms_of}
-use Rattle.esto_semantics.specs.Sets.{Within}
+use Rattle.esto_term.specs.Sets.{Within}
 use Rattle.esto_semantics.specs.declared.fact.Fact.{Fact}
-use Rattle.esto_world_laws.proofs.ClosedLemmas.{touching}
-use Rattle.esto_world_laws.proofs.LinkLemmas.{Linked-more, Linked-touching}
-use Rattle.esto_world_laws.proofs.TakenLemmas.{Fits-split, Fits-join}
-use Rattle.esto_world_laws.specs.Derived.{IsNamed}
-use Rattle.esto_world_laws.specs.Matches.{taken, Fits, Touching}
-use Rattle.esto_world_laws.specs.Steps.{AreJoined}
-use Rattle.esto_world_laws.specs.Worlds.{InWorld, SaysOne, Linked, here}
-use Rattle.esto_world_laws.specs.declared.entry.Claim.{Claim}
-use Rattle.esto_world_laws.specs.declared.entry.Claim.TheVariants.{Fact as Stated, Same}
-use Rattle.esto_world_laws.specs.declared.entry.Entry.{Entry}
+use Rattle.esto_chase_laws.proofs.ClosedLemmas.{touching}
+use Rattle.esto_chase_laws.proofs.LinkLemmas.{Linked-more, Linked-touching}
+use Rattle.esto_chase_laws.proofs.TakenLemmas.{Fits-split, Fits-join}
+use Rattle.esto_chase_laws.specs.Derived.{IsNamed}
+use Rattle.esto_chase_laws.specs.WorldMatches.{taken, Fits, Touching}
+use Rattle.esto_chase_laws.specs.WorldSteps.{AreJoined}
+use Rattle.esto_chase_laws.specs.Worlds.{InWorld, SaysOne, Linked, here}
+use Rattle.esto_chase_laws.specs.declared.entry.Claim.{Claim}
+use Rattle.esto_chase_laws.specs.declared.entry.Claim.TheVariants.{Fact as Stated, Same}
+use Rattle.esto_chase_laws.specs.declared.entry.Entry.{Entry}
 use Rattle.std.proofs.lemmas.Option.{same_Some, slice_get_within}
 use Rattle.esto_derive.proofs.MarkLemmas.{same_or_later}
 use Rattle.esto_derive.specs.Searching.{ClaimsIn, IsLink, GoesOn, IsFound, IsFoundAfter, IsFoundBy, AddsLink}

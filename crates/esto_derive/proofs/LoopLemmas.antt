@@ -9,9 +9,9 @@ use Rattle.esto_term.proofs.ListLemmas.{Contains-nil}
 use Rattle.esto_semantics.specs.Facts.{terms_of}
 use Rattle.esto_semantics.specs.declared.fact.Fact.{Fact}
 use Rattle.esto_term.specs.declared.term.Term.{Term}
-use Rattle.esto_world_laws.specs.Derived.{Claims}
-use Rattle.esto_world_laws.specs.declared.entry.Claim.TheVariants.{Fact as Stated}
-use Rattle.esto_world_laws.specs.declared.entry.Entry.{Entry}
+use Rattle.esto_chase_laws.specs.Derived.{Claims}
+use Rattle.esto_chase_laws.specs.declared.entry.Claim.TheVariants.{Fact as Stated}
+use Rattle.esto_chase_laws.specs.declared.entry.Entry.{Entry}
 use Rattle.esto_derive.specs.Writing.{AddsNew, entry_terms, terms_at, claimed_terms}
 
 -- ---- what places give, one after the other

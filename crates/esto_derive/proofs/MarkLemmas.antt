@@ -6,12 +6,12 @@ use Rattle.std.proofs.lemmas.List.Elements.{All-weaker, All-contains_itself}
 use Rattle.std.proofs.lemmas.Option.{same_Some}
 use Rattle.esto_term.proofs.ListLemmas.{Contains-nil}
 use Rattle.esto_term.proofs.PlaceLemmas.{at_before}
-use Rattle.esto_semantics.specs.Sets.{Has, Within}
-use Rattle.esto_world_laws.specs.Derived.{IsUnion}
-use Rattle.esto_world_laws.specs.Laws.{AreReasoned, IsReasoned}
-use Rattle.esto_world_laws.specs.declared.entry.Entry.{Entry}
-use Rattle.esto_world_laws.specs.declared.entry.Reason.{Reason}
-use Rattle.esto_world_laws.specs.declared.entry.Reason.TheVariants.{Expanded, Step, Equal}
+use Rattle.esto_term.specs.Sets.{Has, Within}
+use Rattle.esto_chase_laws.specs.Derived.{IsUnion}
+use Rattle.esto_chase_laws.specs.WorldLaws.{AreReasoned, IsReasoned}
+use Rattle.esto_chase_laws.specs.declared.entry.Entry.{Entry}
+use Rattle.esto_chase_laws.specs.declared.entry.Reason.{Reason}
+use Rattle.esto_chase_laws.specs.declared.entry.Reason.TheVariants.{Expanded, Step, Equal}
 use Rattle.esto_derive.specs.Marking.{named_by, AddsNamed, AreUsedWithin, IsNamedByUsed}
 
 pub all_below : (count : ℕ) (places : List ℕ) → ((place : ℕ) → Contains places place → place < count) → All (λ place. place < count) places

@@ -12,17 +12,17 @@ use Rattle.esto_term.specs.declared.term.Term.TheVariants.{Const}
 use Rattle.esto_semantics.proofs.CanonicalLemmas.{Mentions-terms_of}
 use Rattle.esto_semantics.specs.Facts.{terms_of}
 use Rattle.esto_semantics.specs.Maps.{Keeps, IsFixedBy}
-use Rattle.esto_semantics.specs.Sets.{Has}
+use Rattle.esto_term.specs.Sets.{Has}
 use Rattle.esto_semantics.specs.declared.fact.Fact.{Fact}
-use Rattle.esto_world_laws.proofs.ClosedLemmas.{choose, Fits-linked}
-use Rattle.esto_world_laws.proofs.TakenLemmas.{taken-Const, taken-stays, Fits-split}
-use Rattle.esto_world_laws.specs.Derived.{Claims, IsNamed}
-use Rattle.esto_world_laws.specs.Laws.{HasMatch}
-use Rattle.esto_world_laws.specs.Matches.{Fits, taken, match_map}
-use Rattle.esto_world_laws.specs.Worlds.{InWorld, Linked}
-use Rattle.esto_world_laws.specs.declared.entry.Claim.{Claim}
-use Rattle.esto_world_laws.specs.declared.entry.Claim.TheVariants.{Fact as Stated}
-use Rattle.esto_world_laws.specs.declared.entry.Entry.{Entry}
+use Rattle.esto_chase_laws.proofs.ClosedLemmas.{choose, Fits-linked}
+use Rattle.esto_chase_laws.proofs.TakenLemmas.{taken-Const, taken-stays, Fits-split}
+use Rattle.esto_chase_laws.specs.Derived.{Claims, IsNamed}
+use Rattle.esto_chase_laws.specs.WorldLaws.{HasMatch}
+use Rattle.esto_chase_laws.specs.WorldMatches.{Fits, taken, match_map}
+use Rattle.esto_chase_laws.specs.Worlds.{InWorld, Linked}
+use Rattle.esto_chase_laws.specs.declared.entry.Claim.{Claim}
+use Rattle.esto_chase_laws.specs.declared.entry.Claim.TheVariants.{Fact as Stated}
+use Rattle.esto_chase_laws.specs.declared.entry.Entry.{Entry}
 use Rattle.esto_cert.specs.Certificates.{Case, MayEnd}
 use Rattle.esto_cert.specs.declared.line.Line.TheVariants as line
 use Rattle.esto_cert.proofs.MatchLemmas.{are_like}

@@ -6,10 +6,10 @@ use Rattle.esto_semantics.specs.Facts.{image}
 use Rattle.esto_semantics.specs.Rules.{tuple}
 use Rattle.esto_semantics.specs.declared.fact.Fact.{Fact}
 use Rattle.esto_chase_laws.specs.Making.{extended}
-use Rattle.esto_world_laws.specs.Claims.{AreSameClaim}
-use Rattle.esto_world_laws.specs.Steps.{IsAsked}
-use Rattle.esto_world_laws.specs.declared.entry.Claim.{Claim}
-use Rattle.esto_world_laws.specs.declared.entry.Claim.TheVariants.{Fact as Stated, Same}
+use Rattle.esto_chase_laws.specs.Claims.{AreSameClaim}
+use Rattle.esto_chase_laws.specs.WorldSteps.{IsAsked}
+use Rattle.esto_chase_laws.specs.declared.entry.Claim.{Claim}
+use Rattle.esto_chase_laws.specs.declared.entry.Claim.TheVariants.{Fact as Stated, Same}
 use Rattle.esto_cert.specs.Certificates.{made_at, numbered}
 use Rattle.std.proofs.lemmas.Option.{slice_get_within}
 use Rattle.esto_cert.proofs.NumberLemmas.{numbered_next}

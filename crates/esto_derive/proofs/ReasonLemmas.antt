@@ -11,13 +11,13 @@ use Rattle.esto_term.proofs.ZipLemmas.{zip_append, zip_length, zip_weaker}
 use Rattle.esto_term.specs.declared.term.Term.{Term}
 use Rattle.esto_semantics.specs.Rules.{Rule}
 use Rattle.esto_semantics.specs.declared.fact.Fact.{Fact}
-use Rattle.esto_query.specs.declared.expanded.ExpandedFact.{ExpandedFact}
-use Rattle.esto_world_laws.specs.Derived.{AreDerived, Claims, Follows}
-use Rattle.esto_world_laws.specs.declared.entry.Claim.{Claim}
-use Rattle.esto_world_laws.specs.declared.entry.Claim.TheVariants.{Fact as Stated, Same}
-use Rattle.esto_world_laws.specs.declared.entry.Entry.{Entry}
-use Rattle.esto_world_laws.specs.declared.entry.Reason.{Reason}
-use Rattle.esto_world_laws.specs.declared.entry.Reason.TheVariants as reason
+use Rattle.esto_semantics.specs.declared.expanded.ExpandedFact.{ExpandedFact}
+use Rattle.esto_chase_laws.specs.Derived.{AreDerived, Claims, Follows}
+use Rattle.esto_chase_laws.specs.declared.entry.Claim.{Claim}
+use Rattle.esto_chase_laws.specs.declared.entry.Claim.TheVariants.{Fact as Stated, Same}
+use Rattle.esto_chase_laws.specs.declared.entry.Entry.{Entry}
+use Rattle.esto_chase_laws.specs.declared.entry.Reason.{Reason}
+use Rattle.esto_chase_laws.specs.declared.entry.Reason.TheVariants as reason
 use Rattle.esto_cert.specs.Certificates.{Case, MayClaim, numbered}
 use Rattle.esto_cert.specs.Showing.{AreClaimsOf}
 use Rattle.esto_cert.specs.declared.line.Line.{Line}

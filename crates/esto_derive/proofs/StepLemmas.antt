@@ -10,13 +10,13 @@ use Rattle.esto_term.specs.Nesting.{greatest_u64}
 use Rattle.esto_term.specs.declared.term.Term.{Term}
 use Rattle.esto_semantics.specs.Facts.{terms_of}
 use Rattle.esto_semantics.specs.declared.fact.Fact.{Fact}
-use Rattle.esto_world_laws.proofs.LinkLemmas.{Linked-then, Linked-back, one_link}
-use Rattle.esto_world_laws.specs.Derived.{Claims, IsNamed, IsEquality}
-use Rattle.esto_world_laws.specs.Matches.{IsLike, Fits, AreChosen}
-use Rattle.esto_world_laws.specs.Worlds.{Linked, here, along, back}
-use Rattle.esto_world_laws.specs.declared.entry.Claim.{Claim}
-use Rattle.esto_world_laws.specs.declared.entry.Claim.TheVariants.{Fact as Stated, Same}
-use Rattle.esto_world_laws.specs.declared.entry.Entry.{Entry}
+use Rattle.esto_chase_laws.proofs.LinkLemmas.{Linked-then, Linked-back, one_link}
+use Rattle.esto_chase_laws.specs.Derived.{Claims, IsNamed, IsEquality}
+use Rattle.esto_chase_laws.specs.WorldMatches.{IsLike, Fits, AreChosen}
+use Rattle.esto_chase_laws.specs.Worlds.{Linked, here, along, back}
+use Rattle.esto_chase_laws.specs.declared.entry.Claim.{Claim}
+use Rattle.esto_chase_laws.specs.declared.entry.Claim.TheVariants.{Fact as Stated, Same}
+use Rattle.esto_chase_laws.specs.declared.entry.Entry.{Entry}
 use Rattle.esto_cert.specs.Certificates.{numbered, fact_of, equality_of, facts_at, equalities_at, Matches}
 use Rattle.esto_cert.specs.Lines.{with_item}
 use Rattle.esto_cert.specs.Linking.{IsAmong}

@@ -11,14 +11,14 @@ use Rattle.esto_constraint.specs.declared.rule.Constraint.{Constraint}
 use Rattle.esto_semantics.specs.Facts.{terms_of}
 use Rattle.esto_semantics.specs.Rules.{Rule, body_of}
 use Rattle.esto_semantics.specs.declared.fact.Fact.{Fact}
-use Rattle.esto_query.specs.declared.expanded.ExpandedFact.{ExpandedFact}
-use Rattle.esto_world_laws.specs.Derived.{AreDerived, Claims, Follows}
-use Rattle.esto_world_laws.specs.Matches.{taken, match_map}
-use Rattle.esto_world_laws.specs.Steps.{IsAsked}
-use Rattle.esto_world_laws.specs.declared.entry.Claim.TheVariants.{Fact as Stated}
-use Rattle.esto_world_laws.specs.declared.entry.Entry.{Entry}
-use Rattle.esto_world_laws.specs.declared.entry.Reason.{Reason}
-use Rattle.esto_world_laws.specs.declared.entry.Reason.TheVariants.{Step, Equal}
+use Rattle.esto_semantics.specs.declared.expanded.ExpandedFact.{ExpandedFact}
+use Rattle.esto_chase_laws.specs.Derived.{AreDerived, Claims, Follows}
+use Rattle.esto_chase_laws.specs.WorldMatches.{taken, match_map}
+use Rattle.esto_chase_laws.specs.WorldSteps.{IsAsked}
+use Rattle.esto_chase_laws.specs.declared.entry.Claim.TheVariants.{Fact as Stated}
+use Rattle.esto_chase_laws.specs.declared.entry.Entry.{Entry}
+use Rattle.esto_chase_laws.specs.declared.entry.Reason.{Reason}
+use Rattle.esto_chase_laws.specs.declared.entry.Reason.TheVariants.{Step, Equal}
 use Rattle.esto_cert.specs.Certificates.{made_at}
 use Rattle.esto_derive.specs.Writing.{terms_at}
 use Rattle.esto_derive.proofs.LoopLemmas.{terms_stated}

@@ -1,9 +1,9 @@
 -- The entries that are used, directly or through reasons.
 use Rattle.std.specs.Prelude.{◌≡◌, ◌⊎◌, ◌↔◌, ℕ, Bool, List, [], Some, slice_get, Contains}
-use Rattle.esto_semantics.specs.Sets.{Has, Within}
-use Rattle.esto_world_laws.specs.declared.entry.Entry.{Entry}
-use Rattle.esto_world_laws.specs.declared.entry.Reason.{Reason}
-use Rattle.esto_world_laws.specs.declared.entry.Reason.TheVariants.{Expanded, Step, Equal}
+use Rattle.esto_term.specs.Sets.{Has, Within}
+use Rattle.esto_chase_laws.specs.declared.entry.Entry.{Entry}
+use Rattle.esto_chase_laws.specs.declared.entry.Reason.{Reason}
+use Rattle.esto_chase_laws.specs.declared.entry.Reason.TheVariants.{Expanded, Step, Equal}
 
 -- The places of the entries that the reason names.
 abbrev pub named_by : Reason → List ℕ

@@ -2,8 +2,8 @@
 use Rattle.std.specs.Prelude.{◌≡◌, ℕ, Some}
 use Rattle.esto_term.specs.declared.term.Term.{Term}
 use Rattle.esto_semantics.specs.Rules.{Rule}
-use Rattle.esto_world_laws.specs.Claims.{AreSameClaim}
-use Rattle.esto_world_laws.specs.declared.entry.Claim.{Claim}
+use Rattle.esto_chase_laws.specs.Claims.{AreSameClaim}
+use Rattle.esto_chase_laws.specs.declared.entry.Claim.{Claim}
 use Rattle.esto_cert.specs.Certificates.{made_at}
 
 -- The rule of that number makes the claim at the place of its head, counted from 1, or at 0 for the equality of its sides.

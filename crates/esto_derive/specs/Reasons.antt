@@ -1,12 +1,12 @@
 -- Lines of entries, each by its entry's reason.
 use Rattle.std.specs.Prelude.{◌≡◌, ⊤, ℕ, ◌+◌, Bool, List, [], ◌++◌, Some, slice_get, Contains, AllPairs, ◌<◌}
 use Rattle.std.specs.List.{AllZip}
-use Rattle.esto_semantics.specs.Sets.{Within}
-use Rattle.esto_world_laws.specs.Derived.{Claims}
-use Rattle.esto_world_laws.specs.declared.entry.Claim.{Claim}
-use Rattle.esto_world_laws.specs.declared.entry.Entry.{Entry}
-use Rattle.esto_world_laws.specs.declared.entry.Reason.{Reason}
-use Rattle.esto_world_laws.specs.declared.entry.Reason.TheVariants as reason
+use Rattle.esto_term.specs.Sets.{Within}
+use Rattle.esto_chase_laws.specs.Derived.{Claims}
+use Rattle.esto_chase_laws.specs.declared.entry.Claim.{Claim}
+use Rattle.esto_chase_laws.specs.declared.entry.Entry.{Entry}
+use Rattle.esto_chase_laws.specs.declared.entry.Reason.{Reason}
+use Rattle.esto_chase_laws.specs.declared.entry.Reason.TheVariants as reason
 use Rattle.esto_cert.specs.Certificates.{Case, numbered}
 use Rattle.esto_cert.specs.Showing.{AreClaimsOf}
 use Rattle.esto_cert.specs.declared.line.Line.{Line}

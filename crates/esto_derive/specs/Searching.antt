@@ -3,14 +3,14 @@ use Rattle.std.specs.Prelude.{◌≡◌, ℕ, Bool, List, ◌∷◌, ◌++◌, O
 use Rattle.std.specs.List.{AllZip}
 use Rattle.esto_term.specs.declared.term.Term.{Term}
 use Rattle.esto_semantics.specs.Facts.{terms_of}
-use Rattle.esto_semantics.specs.Sets.{Within}
+use Rattle.esto_term.specs.Sets.{Within}
 use Rattle.esto_semantics.specs.declared.fact.Fact.{Fact}
-use Rattle.esto_world_laws.specs.Derived.{IsNamed}
-use Rattle.esto_world_laws.specs.Matches.{AreChosen, Fits}
-use Rattle.esto_world_laws.specs.Worlds.{InWorld, SaysOne, Linked}
-use Rattle.esto_world_laws.specs.declared.entry.Claim.{Claim}
-use Rattle.esto_world_laws.specs.declared.entry.Claim.TheVariants.{Fact as Stated, Same}
-use Rattle.esto_world_laws.specs.declared.entry.Entry.{Entry}
+use Rattle.esto_chase_laws.specs.Derived.{IsNamed}
+use Rattle.esto_chase_laws.specs.WorldMatches.{AreChosen, Fits}
+use Rattle.esto_chase_laws.specs.Worlds.{InWorld, SaysOne, Linked}
+use Rattle.esto_chase_laws.specs.declared.entry.Claim.{Claim}
+use Rattle.esto_chase_laws.specs.declared.entry.Claim.TheVariants.{Fact as Stated, Same}
+use Rattle.esto_chase_laws.specs.declared.entry.Entry.{Entry}
 
 -- The entry at the place makes the claim in the world of the set.
 abbrev pub ClaimsIn : List Entry → List Bool → ℕ → Claim → Type 0

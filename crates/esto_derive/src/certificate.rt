@@ -2,13 +2,13 @@
 ghost use Rattle.std.specs.Prelude.{◌≡◌, ◌<◌, ◌++◌, ℕ, List, Contains, None, length, IfOk};
 ghost use Rattle.esto_constraint.specs.Constraints.{rules_of};
 ghost use Rattle.esto_query.specs.Making.{query_of};
-ghost use Rattle.esto_query.specs.declared.expanded.ExpandedFact.{ExpandedFact};
+ghost use Rattle.esto_semantics.specs.declared.expanded.ExpandedFact.{ExpandedFact};
 ghost use Rattle.esto_semantics.specs.Facts.{terms_of};
-ghost use Rattle.esto_world_laws.specs.Derived.{AreDerived, IsNamed};
-ghost use Rattle.esto_world_laws.specs.Laws.{AreReasoned, HasMatch};
-ghost use Rattle.esto_world_laws.specs.Matches.{Fits};
-ghost use Rattle.esto_world_laws.specs.Steps.{AreJoined};
-ghost use Rattle.esto_world_laws.specs.Worlds.{AreOfCount, InWorld, Linked};
+ghost use Rattle.esto_chase_laws.specs.Derived.{AreDerived, IsNamed};
+ghost use Rattle.esto_chase_laws.specs.WorldLaws.{AreReasoned, HasMatch};
+ghost use Rattle.esto_chase_laws.specs.WorldMatches.{Fits};
+ghost use Rattle.esto_chase_laws.specs.WorldSteps.{AreJoined};
+ghost use Rattle.esto_chase_laws.specs.Worlds.{AreOfCount, InWorld, Linked};
 ghost use Rattle.esto_derive.specs.Marking.{AreUsed};
 ghost use Rattle.esto_backchase.specs.Evidence.{AreEntriesOf};
 ghost use Rattle.esto_cert.specs.Judging.{DecidesFor};
@@ -25,6 +25,7 @@ use crate::searching::World;
 use crate::writing::{Writer, terms_at};
 use esto_backchase::entries_decide_answers;
 use esto_bits::RowBits;
+use esto_chase_laws::derived_entries_are_reasoned;
 use esto_constraint::Constraint;
 use esto_mapping::Catalogue;
 use esto_prov::{Entries, Entry, followed, terms_of};
@@ -32,7 +33,6 @@ use esto_query::{Query, queries_are_sound};
 use esto_semantics::Atom;
 use esto_term::{Bytes, List, OutOfMemory, Terms};
 use esto_views::{Plan, plans_are_sound};
-use esto_world_laws::derived_entries_are_reasoned;
 use std::alloc::Global;
 
 /// The places of the entries that are used where those at these places are.

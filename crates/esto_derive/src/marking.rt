@@ -1,7 +1,7 @@
 //! The entries that a match uses, directly or through reasons.
 ghost use Rattle.std.specs.Prelude.{◌≡◌, ◌⊎◌, ◌↔◌, ◌<◌, ℕ, Contains, length, OnOk};
-ghost use Rattle.esto_semantics.specs.Sets.{Has};
-ghost use Rattle.esto_world_laws.specs.Laws.{AreReasoned};
+ghost use Rattle.esto_term.specs.Sets.{Has};
+ghost use Rattle.esto_chase_laws.specs.WorldLaws.{AreReasoned};
 ghost use Rattle.esto_derive.specs.Marking.{named_by, AddsNamed, Closes};
 
 use esto_bits::RowBits;

@@ -3,8 +3,8 @@ ghost use Rattle.std.specs.Prelude.{◌≡◌, ◌↔◌, ◌+◌, ◌<◌, ℕ,
 ghost use Rattle.esto_constraint.specs.Constraints.{rule_of};
 ghost use Rattle.esto_semantics.specs.Facts.{terms_of};
 ghost use Rattle.esto_semantics.specs.Rules.{body_of};
-ghost use Rattle.esto_world_laws.specs.Matches.{taken};
-ghost use Rattle.esto_world_laws.specs.Steps.{IsAsked};
+ghost use Rattle.esto_chase_laws.specs.WorldMatches.{taken};
+ghost use Rattle.esto_chase_laws.specs.WorldSteps.{IsAsked};
 ghost use Rattle.esto_cert.specs.Certificates.{made_at};
 ghost use Rattle.esto_derive.specs.Placing.{Makes};
 

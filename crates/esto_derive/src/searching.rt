@@ -3,10 +3,10 @@ ghost use Rattle.std.specs.Prelude.{◌≡◌, ◌↔◌, ◌∷◌, List, Some,
 ghost use Rattle.std.specs.List.{AllZip};
 ghost use Rattle.esto_semantics.specs.declared.fact.Fact.{Fact};
 ghost use Rattle.esto_term.specs.declared.term.Term.{Term};
-ghost use Rattle.esto_world_laws.specs.Derived.{IsNamed};
-ghost use Rattle.esto_world_laws.specs.Matches.{Fits};
-ghost use Rattle.esto_world_laws.specs.Steps.{AreJoined};
-ghost use Rattle.esto_world_laws.specs.Worlds.{AreOfCount, InWorld, Linked};
+ghost use Rattle.esto_chase_laws.specs.Derived.{IsNamed};
+ghost use Rattle.esto_chase_laws.specs.WorldMatches.{Fits};
+ghost use Rattle.esto_chase_laws.specs.WorldSteps.{AreJoined};
+ghost use Rattle.esto_chase_laws.specs.Worlds.{AreOfCount, InWorld, Linked};
 ghost use Rattle.esto_derive.specs.Searching.{IsLink, IsFound, IsFoundAfter, IsFoundBy, AreLinks, AddsLink};
 
 use esto_bits::RowBits;

@@ -3,11 +3,11 @@ ghost use Rattle.std.specs.Prelude.{◌≡◌, ◌+◌, ◌++◌, ◌<◌, ◌�
 ghost use Rattle.esto_constraint.specs.Constraints.{rule_of, rules_of};
 ghost use Rattle.esto_semantics.specs.Facts.{terms_of};
 ghost use Rattle.esto_semantics.specs.Rules.{body_of};
-ghost use Rattle.esto_query.specs.declared.expanded.ExpandedFact.{ExpandedFact};
-ghost use Rattle.esto_world_laws.specs.Derived.{AreDerived};
-ghost use Rattle.esto_world_laws.specs.Matches.{taken};
-ghost use Rattle.esto_world_laws.specs.Steps.{IsAsked};
-ghost use Rattle.esto_world_laws.specs.declared.entry.Reason.TheVariants.{Expanded, Step, Equal};
+ghost use Rattle.esto_semantics.specs.declared.expanded.ExpandedFact.{ExpandedFact};
+ghost use Rattle.esto_chase_laws.specs.Derived.{AreDerived};
+ghost use Rattle.esto_chase_laws.specs.WorldMatches.{taken};
+ghost use Rattle.esto_chase_laws.specs.WorldSteps.{IsAsked};
+ghost use Rattle.esto_chase_laws.specs.declared.entry.Reason.TheVariants.{Expanded, Step, Equal};
 ghost use Rattle.esto_cert.specs.Certificates.{made_at};
 ghost use Rattle.esto_derive.specs.Writing.{lines_at, claimed_terms, terms_at, AddsNew, Writes, WritesIfUsed, WritesAll, WritesMatch};
 

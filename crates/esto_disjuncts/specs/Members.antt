@@ -7,7 +7,7 @@ use Rattle.esto_list.specs.Items.{HaveOrders, HaveWeights, sets_of}
 use Rattle.esto_list.specs.declared.listing.Listed.{Listed}
 use Rattle.esto_planning.specs.Listing.{IsClash, IsPlanned}
 use Rattle.esto_query.specs.declared.query.Query.{Query}
-use Rattle.esto_semantics.specs.Sets.{AreListedBy}
+use Rattle.esto_term.specs.Sets.{AreListedBy}
 use Rattle.esto_union.specs.Unions.{IsRewritingIn}
 use Rattle.esto_views.specs.declared.plan.Plan.{Plan}
 use Rattle.esto_disjuncts.specs.declared.members.Member.{Member}

@@ -20,8 +20,8 @@ use Rattle.esto_semantics.specs.Maps.{IsConstant, Keeps, Sends}
 use Rattle.esto_semantics.specs.Queries.{IsAnswerInto}
 use Rattle.esto_semantics.specs.declared.fact.Fact.{Fact}
 use Rattle.esto_query.specs.Rows.{IsAscending}
-use Rattle.esto_query.specs.Valuations.{Assignment, Extends}
-use Rattle.esto_query.proofs.ValuationLemmas.{other_key, same_key}
+use Rattle.esto_semantics.specs.Valuations.{Assignment, Extends}
+use Rattle.esto_semantics.proofs.ValuationLemmas.{other_key, same_key}
 use Rattle.esto_docmodel.specs.Encodings.{facts_of}
 use Rattle.esto_docmodel.specs.Forests.{Label, Node, Forest, place, kid, none, HasKid}
 use Rattle.esto_docmodel.specs.Matching.{AreVariables, AreRows, head_of, IsEncoding, given, valuation_of}

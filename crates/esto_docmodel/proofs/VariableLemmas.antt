@@ -13,7 +13,7 @@ use Rattle.esto_semantics.specs.Maps.{IsFlat, AreFlat, IsFixedBy}
 use Rattle.esto_semantics.specs.declared.fact.Fact.{Fact}
 use Rattle.esto_query.specs.Rows.{Adds}
 use Rattle.esto_query.specs.Soundness.{IsSound, AreNamed}
-use Rattle.esto_query.specs.Valuations.{Assignment}
+use Rattle.esto_semantics.specs.Valuations.{Assignment}
 use Rattle.esto_query.specs.declared.query.Name.{Name}
 use Rattle.esto_docmodel.specs.Encodings.{used, atoms_of}
 use Rattle.esto_docmodel.specs.Matching.{AreVariables, head_of, given}

@@ -5,7 +5,7 @@ use Rattle.esto_term.specs.declared.term.Term.{Term}
 use Rattle.esto_term.specs.declared.term.Term.TheVariants.{Const, Plain}
 use Rattle.esto_semantics.specs.Maps.{Keeps}
 use Rattle.esto_semantics.specs.declared.fact.Fact.{Fact}
-use Rattle.esto_query.specs.Valuations.{Assignment}
+use Rattle.esto_semantics.specs.Valuations.{Assignment}
 use Rattle.esto_docmodel.specs.Encodings.{atoms_of}
 use Rattle.esto_docmodel.specs.Meanings.{AreFresh}
 use Rattle.esto_docmodel.specs.Forests.{Node}

@@ -6,7 +6,7 @@ use Rattle.esto_term.specs.Order.{term_cmp}
 use Rattle.esto_term.specs.declared.term.Term.{Term}
 use Rattle.esto_term.specs.declared.term.Term.TheVariants.{Const, Plain}
 use Rattle.esto_semantics.specs.Maps.{IsConstant, IsFlat, Keeps}
-use Rattle.esto_query.specs.Valuations.{Assignment, Extends}
+use Rattle.esto_semantics.specs.Valuations.{Assignment, Extends}
 use Rattle.esto_docmodel.specs.Forests.{Node}
 use Rattle.esto_docmodel.specs.Patterns.{Entries, Matches, Mentions}
 

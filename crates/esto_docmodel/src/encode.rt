@@ -8,7 +8,7 @@ ghost use Rattle.esto_docmodel.specs.Shapes.{entries_of};
 
 use crate::pattern::{Entry, Pattern, Step};
 use esto_semantics::{Atoms, Fact, Facts};
-use esto_term::{List, OutOfMemory, Replicate, Term, Terms, Text};
+use esto_term::{List, OutOfMemory, Replicate, Term, Text};
 use std::alloc::Global;
 
 /// The facts of documents, and the first number that is no node's.
@@ -38,16 +38,6 @@ pub fn after(number: u64) -> Result<u64, OutOfMemory>
     }
 }
 
-/// An empty row, with room for so many terms.
-fn row_with_room(alloc: Global, terms: usize) -> Result<Terms, OutOfMemory>
-    ensures { IfOk result (λ it. it ≡ []) }
-{
-    match Vec::with_capacity(alloc, terms) {
-        Ok(terms) => Ok(List::from_vec(terms)),
-        Err(_) => Err(OutOfMemory),
-    }
-}
-
 /// Puts a fact over one node.
 pub fn put_one(
     alloc: Global,
@@ -57,7 +47,7 @@ pub fn put_one(
 ) -> Result<(), OutOfMemory>
     ensures { OnOk result (facts.new ≡ facts.old ++ fact_over relation (Plain node ∷ []) ∷ []) }
 {
-    let mut terms = row_with_room(alloc, 1)?;
+    let mut terms = List::with_room(alloc, 1)?;
     terms.push(Term::Plain(node))?;
     facts.push(Fact { relation, terms })
 }
@@ -73,7 +63,7 @@ pub fn put_two(
     ensures { OnOk result (facts.new ≡ facts.old
         ++ fact_over relation (Plain node ∷ term ∷ []) ∷ []) }
 {
-    let mut terms = row_with_room(alloc, 2)?;
+    let mut terms = List::with_room(alloc, 2)?;
     terms.push(Term::Plain(node))?;
     terms.push(term)?;
     facts.push(Fact { relation, terms })
@@ -91,7 +81,7 @@ pub fn put_named(
     ensures { OnOk result (facts.new ≡ facts.old
         ++ fact_over relation (Plain node ∷ Const name.now ∷ Plain other ∷ []) ∷ []) }
 {
-    let mut terms = row_with_room(alloc, 3)?;
+    let mut terms = List::with_room(alloc, 3)?;
     terms.push(Term::Plain(node))?;
     terms.push(Term::Const(Text::from_str(alloc, name)?))?;
     terms.push(Term::Plain(other))?;

@@ -1,5 +1,5 @@
 -- The turns of filling rows along a layout.
-use Rattle.std.proofs.Common.{◌≡◌, ◌∙◌, ◌<◌, ◌+◌, ◌++◌, ℕ, List, [], ◌∷◌, length, map, take, get_or, Bor, refl, sym, ap, subst, arith}
+use Rattle.std.proofs.Common.{◌≡◌, ◌∙◌, ◌<◌, ◌+◌, ◌++◌, ℕ, List, [], ◌∷◌, length, map, take, get_or, Bor, sym, ap, subst, arith}
 use Rattle.std.proofs.lemmas.List.{take_more, map-append}
 use Rattle.serde_json.specs.View.{view}
 use Rattle.serde_json.specs.declared.value.Value.{Value}
@@ -40,10 +40,6 @@ all_done values [] old new none is =
     subst (λ (rows : List Row). Fills (length values) [] (cells_of values) (cells_of values) old rows) (sym is)
     (fills_row (length values) (cells_of values) old (cells_count values))
 all_done values (pending ∷ todo) old new none is = absurd (omega (arith, none))
-
-pub none_left : (entries : List Entry) → length entries ≡ 0 → entries ≡ []
-none_left [] none = refl
-none_left (e ∷ entries) none = absurd (omega (arith, none))
 
 -- ---- its first entry
 

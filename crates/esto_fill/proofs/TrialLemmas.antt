@@ -17,7 +17,7 @@ use Rattle.esto_constraint.specs.declared.rule.Constraint.{Constraint}
 use Rattle.esto_steps.specs.Rows.{IsRowOf, held_by}
 use Rattle.esto_mapping.specs.declared.catalogue.Catalogue.{Catalogue}
 use Rattle.esto_query.specs.Making.{query_of}
-use Rattle.esto_query.specs.Valuations.{Assignment, map_of}
+use Rattle.esto_semantics.specs.Valuations.{Assignment, map_of}
 use Rattle.esto_semantics.specs.Facts.{image}
 use Rattle.esto_semantics.specs.Maps.{AreFlat, Keeps}
 use Rattle.esto_semantics.specs.Matches.{IsActive, IsAtMost, IsMatch}

@@ -3,7 +3,7 @@ use Rattle.std.specs.Prelude.{◌≡◌, ◌⊎◌, ℕ, List, map, take, slice_
 use Rattle.esto_constraint.specs.Matches.{IsLeastActive}
 use Rattle.esto_semantics.specs.Rules.{IsMet}
 use Rattle.esto_steps.specs.Rows.{IsRowOf, held_by}
-use Rattle.esto_query.specs.Valuations.{Assignment}
+use Rattle.esto_semantics.specs.Valuations.{Assignment}
 use Rattle.esto_query.specs.declared.query.Name.{Name}
 use Rattle.esto_semantics.specs.Facts.{Database}
 use Rattle.esto_semantics.specs.Queries.{ConjunctiveQuery}

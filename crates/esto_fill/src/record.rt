@@ -3,13 +3,14 @@ ghost use Rattle.std.specs.Prelude.{◌≡◌, ◌++◌, [], ◌∷◌, codes, m
 ghost use Rattle.std.specs.Fmt.{decimal};
 ghost use Rattle.esto_constraint.specs.Constraints.{rule_of};
 ghost use Rattle.esto_constraint.specs.EncodingRules.{written};
-ghost use Rattle.esto_query.specs.Valuations.{map_of};
+ghost use Rattle.esto_semantics.specs.Valuations.{map_of};
 ghost use Rattle.esto_semantics.specs.Rules.{body_of};
 ghost use Rattle.esto_fill.specs.Placing.{AddsNamed};
 ghost use Rattle.esto_fill.specs.Records.{AreNamedVariables, IsRecordOf, cell_of, is_named, one_at_least};
 
 use esto_constraint::{Constraint, body_of, value_of};
-use esto_query::{Atoms, Name, Names, Valuation};
+use esto_query::{Atoms, Name, Names};
+use esto_semantics::Valuation;
 use esto_term::{List, OutOfMemory, Replicate, Term, Terms, Text, TextRow, has_term};
 use std::alloc::Global;
 

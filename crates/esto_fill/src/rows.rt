@@ -93,21 +93,11 @@ fn moved_text(alloc: Global, term: Term) -> Text
     }
 }
 
-// An empty row, with room for so many texts.
-fn row_with_room(alloc: Global, texts: usize) -> Result<TextRow, OutOfMemory>
-    ensures { IfOk result (λ it. it ≡ []) }
-{
-    match Vec::with_capacity(alloc, texts) {
-        Ok(texts) => Ok(List::from_vec(texts)),
-        Err(_) => Err(OutOfMemory),
-    }
-}
-
 // The row of the texts of the terms, which are moved and not copied.
 fn moved_row(alloc: Global, terms: Terms) -> Result<TextRow, OutOfMemory>
     ensures { IfOk result (λ it. it ≡ map text_of terms) }
 {
-    let mut row = row_with_room(alloc, terms.len())?;
+    let mut row = List::with_room(alloc, terms.len())?;
     'terms: for term in terms.into_vec() {
         row.push(moved_text(alloc, term))?;
     }

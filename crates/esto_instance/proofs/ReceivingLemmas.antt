@@ -16,7 +16,7 @@ use Rattle.esto_semantics.specs.Matches.{IsMatch}
 use Rattle.esto_semantics.specs.Queries.{ConjunctiveQuery}
 use Rattle.esto_semantics.specs.declared.fact.Fact.{Fact}
 use Rattle.esto_query.specs.Matches.{IsLeastMatch, HasNoMatch}
-use Rattle.esto_query.specs.Valuations.{Assignment, Extends, map_of}
+use Rattle.esto_semantics.specs.Valuations.{Assignment, Extends, map_of}
 use Rattle.esto_query.specs.declared.matches.Found.{Found}
 use Rattle.esto_instance.specs.Receiving.{row_fact, NoneSends, IsSending}
 

@@ -1,7 +1,7 @@
 -- What instances and their traces mean.
 use Rattle.std.specs.Prelude.{List, map}
 use Rattle.esto_semantics.specs.Queries.{ConjunctiveQuery}
-use Rattle.esto_query.specs.Valuations.{map_of}
+use Rattle.esto_semantics.specs.Valuations.{map_of}
 use Rattle.esto_chase_laws.specs.Runs.{Step, added, merged}
 use Rattle.esto_instance.specs.declared.instance.ChaseStep.{ChaseStep}
 use Rattle.esto_instance.specs.declared.instance.ChaseStep.TheVariants.{Added, Merged}

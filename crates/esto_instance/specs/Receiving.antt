@@ -2,7 +2,7 @@
 use Rattle.std.specs.Prelude.{◌≡◌, ◌↔◌, List, map}
 use Rattle.esto_term.specs.declared.term.Term.{Term}
 use Rattle.esto_term.specs.declared.term.Term.TheVariants.{Const}
-use Rattle.esto_query.specs.Valuations.{Assignment, Extends}
+use Rattle.esto_semantics.specs.Valuations.{Assignment, Extends}
 use Rattle.esto_semantics.specs.Maps.{Keeps}
 use Rattle.esto_semantics.specs.declared.fact.Fact.{Fact}
 

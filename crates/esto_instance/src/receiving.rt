@@ -6,10 +6,8 @@ ghost use Rattle.esto_semantics.specs.Maps.{IsFlat};
 ghost use Rattle.esto_query.specs.Making.{query_of};
 ghost use Rattle.esto_instance.specs.Receiving.{row_fact, NoneSends, IsSending};
 
-use esto_query::{
-    Query, Valuation, first_match, matches_send, queries_are_sound, valuations_are_maps,
-};
-use esto_semantics::{Atom, Facts};
+use esto_query::{Query, first_match, matches_send, queries_are_sound};
+use esto_semantics::{Atom, Facts, Valuation, valuations_are_maps};
 use esto_term::{List, OutOfMemory, Replicate, Terms};
 use std::alloc::Global;
 

@@ -7,15 +7,15 @@ use Rattle.std.proofs.lemmas.List.Elements.{Contains-append_left, Contains-push,
 use Rattle.std.proofs.lemmas.Option.{none-some, slice_get_within, same_Some, get_or_from_slice_get}
 use Rattle.esto_term.specs.declared.term.Term.{Term}
 use Rattle.esto_semantics.specs.declared.fact.Fact.{Fact}
-use Rattle.esto_semantics.specs.Sets.{Covers, Within}
+use Rattle.esto_term.specs.Sets.{Covers, Within}
 use Rattle.esto_term.proofs.ListLemmas.{Contains-nil, Contains-at, Contains-one, Contains-head, place-from_Contains, at_left, at_end, at_pushed}
 use Rattle.esto_term.proofs.PlaceLemmas.{take-item}
-use Rattle.esto_world_laws.specs.Worlds.{AreOfCount}
-use Rattle.esto_world_laws.specs.Claims.{AreSameClaim}
-use Rattle.esto_world_laws.specs.declared.entry.Claim.{Claim}
-use Rattle.esto_world_laws.specs.declared.entry.Claim.TheVariants.{Fact as Stated, Same}
-use Rattle.esto_world_laws.specs.declared.entry.Entry.{Entry}
-use Rattle.esto_world_laws.proofs.ClaimLemmas.{stated_same, says_same, same_both, same_itself, same_back}
+use Rattle.esto_chase_laws.specs.Worlds.{AreOfCount}
+use Rattle.esto_chase_laws.specs.Claims.{AreSameClaim}
+use Rattle.esto_chase_laws.specs.declared.entry.Claim.{Claim}
+use Rattle.esto_chase_laws.specs.declared.entry.Claim.TheVariants.{Fact as Stated, Same}
+use Rattle.esto_chase_laws.specs.declared.entry.Entry.{Entry}
+use Rattle.esto_chase_laws.proofs.ClaimLemmas.{stated_same, says_same, same_both, same_itself, same_back}
 use Rattle.esto_known.specs.Indexes.{CoversClaim, CoversAt}
 use Rattle.esto_known.specs.Groups.{IsGroup, AreGroups, AreLeft, IsOfOne, StatesAt, LinksAt, claims_of}
 use Rattle.esto_known.specs.declared.group.Group.{Group}

@@ -1,5 +1,5 @@
 -- Indexes of claims: a walk along the chain of a key, and what it finds.
-use Rattle.std.proofs.Common.{◌≡◌, inl, inr, ℕ, zero, suc, ◌+◌, ◌<◌, ◌≤◌, Bool, true, false, cond, List, [], ◌∷◌, ◌++◌, length, map, take, get_or, Some, slice_get}
+use Rattle.std.proofs.Common.{◌≡◌, inl, inr, ℕ, ◌+◌, ◌<◌, ◌≤◌, Bool, true, false, List, [], ◌∷◌, ◌++◌, length, map, take, get_or, Some, slice_get}
 use Rattle.std.proofs.Common.{Contains, refl, sym, ap, ◌∙◌, subst, arith, max, min}
 use Rattle.std.proofs.lemmas.Bool.{cases_order}
 use Rattle.std.proofs.lemmas.List.{map-append, take_all}
@@ -7,18 +7,19 @@ use Rattle.std.proofs.lemmas.List.Elements.{Contains-append_left, Contains-appen
 use Rattle.std.proofs.lemmas.Option.{none-some, slice_get_within, get_or_from_slice_get}
 use Rattle.esto_term.specs.declared.term.Term.{Term}
 use Rattle.esto_semantics.specs.declared.fact.Fact.{Fact}
-use Rattle.esto_term.proofs.ListLemmas.{Contains-at, Contains-head, Contains-rest, place-from_Contains, map_at}
+use Rattle.esto_term.proofs.ListLemmas.{Contains-at, place-from_Contains, map_at}
 use Rattle.esto_term.proofs.PlaceLemmas.{take-item}
 use Rattle.esto_columns.specs.Indexed.{Index, IsIndexOf, LeadsOn, AreAmongPlaces, bucket_of, mixed}
 use Rattle.esto_columns.specs.Picked.{places_where}
-use Rattle.esto_world_laws.specs.Worlds.{SaysOne}
-use Rattle.esto_world_laws.specs.declared.entry.Claim.{Claim}
-use Rattle.esto_world_laws.specs.declared.entry.Claim.TheVariants.{Fact as Stated, Same}
+use Rattle.esto_chase_laws.specs.Worlds.{SaysOne}
+use Rattle.esto_chase_laws.specs.declared.entry.Claim.{Claim}
+use Rattle.esto_chase_laws.specs.declared.entry.Claim.TheVariants.{Fact as Stated, Same}
 use Rattle.esto_known.specs.Hashes.{claim_key, first_key, second_key, pair_hash, term_hash, relation_hash}
 use Rattle.esto_known.specs.Indexes.{AreKeysOf, HasSide}
 use Rattle.esto_known.specs.Groups.{claims_of, StatesAt, LinksAt}
 use Rattle.esto_known.specs.declared.group.Group.{Group}
 use Rattle.esto_known.specs.declared.keys.Keys.{Keys}
+use Rattle.esto_columns.proofs.StoredLemmas.{where_has}
 
 -- ---- one claim more
 
@@ -116,21 +117,6 @@ linking_none groups index term other next none sought group inside says =
     omega (arith, none, under)
 
 -- ---- places of a key
-
-where_has : {X : Type 0} (test : X → Bool) (from : ℕ) (xs : List X) (place : ℕ) (x : X) → slice_get xs place ≡ Some x → test x ≡ true
-    → Contains (places_where test from xs) (from + place)
-where_has test from [] place x at passes = absurd (cc)
-where_has test from (first ∷ rest) zero x at passes =
-    let is : first ≡ x = cc in
-    let told : test first ≡ true = ap test is ∙ passes in
-    rw told (subst (Contains (from ∷ places_where test (from + 1) rest)) (omega arith) (Contains-head from (places_where test (from + 1) rest)))
-where_has test from (first ∷ rest) (suc place) x at passes =
-    by (test first) (subst (Contains (places_where test (from + 1) rest)) (omega arith) (where_has test (from + 1) rest place x at passes))
-  where
-    by : (answer : Bool) → Contains (places_where test (from + 1) rest) (from + suc place)
-        → Contains (cond answer (from ∷ places_where test (from + 1) rest) (places_where test (from + 1) rest)) (from + suc place)
-    by true inside = Contains-rest from (places_where test (from + 1) rest) (from + suc place) inside
-    by false inside = inside
 
 pub among_has : (key : List ℕ) (listed : List (List ℕ)) (places : List ℕ) (place : ℕ) → AreAmongPlaces key listed places → slice_get listed place ≡ Some key
     → Contains places place

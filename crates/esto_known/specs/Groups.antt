@@ -1,13 +1,13 @@
 -- Groups of entries by their claims.
 use Rattle.std.specs.Prelude.{◌≡◌, ◌↔◌, ◌⊎◌, ◌≤◌, ℕ, Bool, List, [], ◌∷◌, Some, map, length, Contains, slice_get}
 use Rattle.esto_term.specs.declared.term.Term.{Term}
-use Rattle.esto_semantics.specs.Sets.{Covers, Within}
+use Rattle.esto_term.specs.Sets.{Covers, Within}
 use Rattle.esto_semantics.specs.declared.fact.Fact.{Fact}
-use Rattle.esto_world_laws.specs.Claims.{AreSameClaim}
-use Rattle.esto_world_laws.specs.Worlds.{AreOfCount, SaysOne}
-use Rattle.esto_world_laws.specs.declared.entry.Claim.{Claim}
-use Rattle.esto_world_laws.specs.declared.entry.Claim.TheVariants.{Fact as Stated}
-use Rattle.esto_world_laws.specs.declared.entry.Entry.{Entry}
+use Rattle.esto_chase_laws.specs.Claims.{AreSameClaim}
+use Rattle.esto_chase_laws.specs.Worlds.{AreOfCount, SaysOne}
+use Rattle.esto_chase_laws.specs.declared.entry.Claim.{Claim}
+use Rattle.esto_chase_laws.specs.declared.entry.Claim.TheVariants.{Fact as Stated}
+use Rattle.esto_chase_laws.specs.declared.entry.Entry.{Entry}
 use Rattle.esto_known.specs.Indexes.{CoversClaim, CoversAt}
 use Rattle.esto_known.specs.declared.group.Group.{Group}
 

@@ -5,8 +5,8 @@ use Rattle.esto_term.specs.declared.term.Term.TheFolds.{fold-Term}
 use Rattle.esto_term.specs.declared.term.Term.TheOpen.{Term-F}
 use Rattle.esto_semantics.specs.declared.fact.Fact.{Fact}
 use Rattle.esto_columns.specs.Indexed.{mixed, hash_from}
-use Rattle.esto_world_laws.specs.declared.entry.Claim.{Claim}
-use Rattle.esto_world_laws.specs.declared.entry.Claim.TheVariants.{Fact as Stated, Same}
+use Rattle.esto_chase_laws.specs.declared.entry.Claim.{Claim}
+use Rattle.esto_chase_laws.specs.declared.entry.Claim.TheVariants.{Fact as Stated, Same}
 
 -- The hash of one level of a term, from the hashes of its frontier terms.
 abbrev pub level_hash : Term-F ℕ → ℕ

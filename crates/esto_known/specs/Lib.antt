@@ -1,3 +1,9 @@
 pub mod Hashes
 pub mod Indexes
 pub mod Groups
+pub mod Turns
+pub mod Live
+pub mod Told
+pub mod KeptWays
+pub mod Added
+pub mod Touching

@@ -1,8 +1,8 @@
 //! Groups found by what they claim.
 ghost use Rattle.std.specs.Prelude.{◌≡◌, ◌↔◌, Contains, Some, slice_get, IsTrue, MatchOption};
-ghost use Rattle.esto_world_laws.specs.Claims.{AreSameClaim};
-ghost use Rattle.esto_world_laws.specs.Worlds.{SaysOne};
-ghost use Rattle.esto_world_laws.specs.declared.entry.Claim.TheVariants.{Fact as Stated};
+ghost use Rattle.esto_chase_laws.specs.Claims.{AreSameClaim};
+ghost use Rattle.esto_chase_laws.specs.Worlds.{SaysOne};
+ghost use Rattle.esto_chase_laws.specs.declared.entry.Claim.TheVariants.{Fact as Stated};
 ghost use Rattle.esto_known.specs.Indexes.{AreKeysOf};
 ghost use Rattle.esto_known.specs.Groups.{claims_of, StatesAt, LinksAt};
 ghost use Rattle.esto_known.specs.declared.group.Group.{Group};
@@ -10,9 +10,9 @@ ghost use Rattle.esto_known.specs.declared.group.Group.{Group};
 use crate::group::Group;
 use crate::hashes::{fact_hash, pair_hash, term_hash};
 use crate::keys::Keys;
+use esto_chase_laws::Claim;
 use esto_semantics::Atom;
 use esto_term::{Term, equal_terms};
-use esto_world_laws::Claim;
 
 /// Whether the claim is the fact.
 fn states(claim: &Claim, fact: &Atom) -> bool

@@ -1,14 +1,14 @@
 //! Groups of entries.
 ghost use Rattle.std.specs.Prelude.{◌≡◌, ◌++◌, ◌∷◌, [], length, Some, slice_get, IsTrue, IfOk, OnOk};
-ghost use Rattle.esto_semantics.specs.Sets.{Within};
-ghost use Rattle.esto_world_laws.specs.Claims.{AreSameClaim};
-ghost use Rattle.esto_world_laws.specs.Worlds.{AreOfCount};
-ghost use Rattle.esto_world_laws.specs.declared.entry.Entry.{Entry};
+ghost use Rattle.esto_term.specs.Sets.{Within};
+ghost use Rattle.esto_chase_laws.specs.Claims.{AreSameClaim};
+ghost use Rattle.esto_chase_laws.specs.Worlds.{AreOfCount};
+ghost use Rattle.esto_chase_laws.specs.declared.entry.Entry.{Entry};
 ghost use Rattle.esto_known.specs.Groups.{IsGroup, AreLeft, IsOfOne};
 
 use esto_bits::{Products, RowBits};
+use esto_chase_laws::{Claim, Entry};
 use esto_term::{OutOfMemory, Places, Replicate, Values};
-use esto_world_laws::{Claim, Entry};
 use std::alloc::Global;
 
 /// What is known of one claim: the claim, the places of its live entries, of which no later one covers an earlier, and the

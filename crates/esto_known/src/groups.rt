@@ -3,9 +3,9 @@ ghost use Rattle.std.specs.Prelude.{◌≡◌, ◌++◌, ◌∷◌, [], ◌<◌,
 ghost use Rattle.esto_columns.specs.Indexed.{IsIndexOf, AreAmongPlaces};
 ghost use Rattle.esto_semantics.specs.declared.fact.Fact.{Fact};
 ghost use Rattle.esto_term.specs.declared.term.Term.{Term};
-ghost use Rattle.esto_world_laws.specs.Worlds.{AreOfCount, SaysOne};
-ghost use Rattle.esto_world_laws.specs.declared.entry.Claim.TheVariants.{Fact as Stated};
-ghost use Rattle.esto_world_laws.specs.declared.entry.Entry.{Entry};
+ghost use Rattle.esto_chase_laws.specs.Worlds.{AreOfCount, SaysOne};
+ghost use Rattle.esto_chase_laws.specs.declared.entry.Claim.TheVariants.{Fact as Stated};
+ghost use Rattle.esto_chase_laws.specs.declared.entry.Entry.{Entry};
 ghost use Rattle.esto_known.specs.Indexes.{AreKeysOf, HasSide};
 ghost use Rattle.esto_known.specs.Groups.{AreGroups, IsOfOne, claims_of};
 ghost use Rattle.esto_known.specs.declared.group.Group.{Group};
@@ -14,10 +14,10 @@ use crate::finding::{place_linking, place_of, place_stating};
 use crate::group::{Group, add_entry, begun};
 use crate::hashes::{relation_hash, term_hash};
 use crate::keys::Keys;
+use esto_chase_laws::Entry;
 use esto_columns::Index;
 use esto_semantics::Atom;
-use esto_term::{OutOfMemory, Places, Term, Values};
-use esto_world_laws::Entry;
+use esto_term::{OutOfMemory, Places, Term, Values, push};
 use std::alloc::Global;
 use std::marker::Model;
 
@@ -61,16 +61,6 @@ fn widen(alloc: Global, groups: &[Group], keys: &mut Keys) -> Result<(), OutOfMe
     }
     *keys = Keys::new(alloc, groups.len().saturating_mul(2).max(ROOM))?;
     keys.add_all(groups)
-}
-
-/// Puts a group at the end.
-fn push(groups: &mut Vec<Group>, group: Group) -> Result<(), OutOfMemory>
-    ensures { OnOk result (groups.new.items ≡ groups.old.items ++ group ∷ []) }
-{
-    match groups.push(group) {
-        Ok(()) => Ok(()),
-        Err(_) => Err(OutOfMemory),
-    }
 }
 
 /// Puts the group of the entry, which is at the place, at the end, and its claim into the indexes.

@@ -3,9 +3,9 @@ ghost use Rattle.std.specs.Prelude.{◌≡◌};
 ghost use Rattle.esto_columns.specs.Indexed.{mixed, hash_from};
 ghost use Rattle.esto_known.specs.Hashes.{term_hash, relation_hash, fact_hash, pair_hash, claim_key, first_key, second_key};
 
+use esto_chase_laws::Claim;
 use esto_semantics::Atom;
 use esto_term::Term;
-use esto_world_laws::Claim;
 
 /// By what a hash is multiplied before a number is added to it.
 const FACTOR: u64 = 0x9E37_79B9_7F4A_7C15;

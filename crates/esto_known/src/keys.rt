@@ -1,14 +1,14 @@
 //! Indexes of claims.
 ghost use Rattle.std.specs.Prelude.{◌++◌, ◌∷◌, [], List, IfOk, OnOk};
-ghost use Rattle.esto_world_laws.specs.declared.entry.Claim.{Claim};
+ghost use Rattle.esto_chase_laws.specs.declared.entry.Claim.{Claim};
 ghost use Rattle.esto_known.specs.Indexes.{AreKeysOf};
 ghost use Rattle.esto_known.specs.Groups.{claims_of};
 
 use crate::group::Group;
 use crate::hashes::{claim_key, first_key, second_key};
+use esto_chase_laws::Claim;
 use esto_columns::Index;
 use esto_term::OutOfMemory;
-use esto_world_laws::Claim;
 use std::alloc::Global;
 
 /// Indexes of claims, one place for each: by the claim, and twice by what else it is found by, a fact by its relation and an

@@ -1,15 +1,15 @@
 //! Entries with their groups.
 ghost use Rattle.std.specs.Prelude.{◌≡◌, ◌++◌, ◌∷◌, [], ◌↔◌, length, IsTrue, IfOk, OnOk};
-ghost use Rattle.esto_world_laws.specs.Worlds.{AreOfCount};
-ghost use Rattle.esto_world_laws.specs.declared.entry.Claim.TheVariants.{Fact as Stated, Same};
+ghost use Rattle.esto_chase_laws.specs.Worlds.{AreOfCount};
+ghost use Rattle.esto_chase_laws.specs.declared.entry.Claim.TheVariants.{Fact as Stated, Same};
 ghost use Rattle.esto_known.specs.Indexes.{CoversClaim};
 ghost use Rattle.esto_known.specs.Groups.{AreGroups};
 
 use crate::groups::Groups;
 use esto_bits::RowBits;
+use esto_chase_laws::{Claim, Entry};
 use esto_semantics::Atom;
 use esto_term::{List, OutOfMemory, Term};
-use esto_world_laws::{Claim, Entry};
 use std::alloc::Global;
 use std::marker::Model;
 
@@ -24,8 +24,8 @@ pub struct Known {
 impl Model for Known {
     ghost use Rattle.std.specs.Prelude.{List};
     ghost use Rattle.std.specs.Coded.{coded_list};
-    ghost use Rattle.esto_world_laws.specs.contracts.entry.Entry as entry;
-    ghost use Rattle.esto_world_laws.specs.declared.entry.Entry.{Entry};
+    ghost use Rattle.esto_chase_laws.specs.contracts.entry.Entry as entry;
+    ghost use Rattle.esto_chase_laws.specs.declared.entry.Entry.{Entry};
     ghost use Rattle.esto_known.specs.Groups.{AreGroups};
 
     ghost Value = { List Entry };

@@ -2,7 +2,7 @@
 use Rattle.std.specs.Prelude.{◌≡◌, ℕ, ◌+◌, Option, Some, None, List, [], ◌++◌, length, slice_get, codes}
 use Rattle.std.specs.Fmt.{decimal}
 use Rattle.esto_query.specs.declared.query.Name.{Name}
-use Rattle.esto_semantics.specs.Sets.{numbers}
+use Rattle.esto_term.specs.Sets.{numbers}
 use Rattle.esto_views.specs.declared.fragments.FragmentDef.{FragmentDef}
 use Rattle.esto_views.specs.declared.plan.PlanAtom.{PlanAtom}
 use Rattle.esto_views.specs.declared.plan.Plan.{Plan}

@@ -2,7 +2,7 @@
 ghost use Rattle.std.specs.Prelude.{◌≡◌, ◌≢◌, ◌↔◌, ◌<◌, List, Bool, Some, length, slice_get, AllPairs, IsTrue, IfOk, Contains};
 ghost use Rattle.esto_semantics.specs.Access.{IsExecutable, IsStatedOrder};
 ghost use Rattle.esto_semantics.specs.Listed.{chosen, IsWeight};
-ghost use Rattle.esto_semantics.specs.Sets.{AreInOrder};
+ghost use Rattle.esto_term.specs.Sets.{AreInOrder};
 ghost use Rattle.esto_views.specs.Fragments.{patterns_of, weights_of};
 ghost use Rattle.esto_views.specs.Plans.{plan_query};
 ghost use Rattle.esto_list.specs.Items.{HaveOrders, HaveSums, HaveWeights, IsPickOf, set_weight, sets_of};

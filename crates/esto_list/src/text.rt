@@ -3,7 +3,7 @@ ghost use Rattle.std.specs.Prelude.{◌≡◌, ◌++◌, slice_get, IfOk, OnOk};
 ghost use Rattle.esto_views.specs.Names.{nameless_of};
 ghost use Rattle.esto_list.specs.Text.{atom_line, fragment_name, item_line, list_text, pick_line, plan_lines, plan_lines_with};
 ghost use Rattle.esto_views.specs.Printing.{each_from, numbers_text};
-ghost use Rattle.esto_semantics.specs.Sets.{numbers};
+ghost use Rattle.esto_term.specs.Sets.{numbers};
 
 use crate::listing::Listed;
 use esto_bits::RowBits;

@@ -4,11 +4,10 @@ use crate::printing::{put_numbers, put_rows};
 use crate::reading::term;
 use esto_constraint::{Constraint, Rules, active, meets};
 use esto_mapping::{Catalogue, catalogues_are_sound};
-use esto_query::{
-    Facts, Found, Query, Valuation, answers, first_match, next_match, queries_are_sound,
-};
+use esto_query::{Facts, Found, Query, answers, first_match, next_match, queries_are_sound};
 use esto_read::{read_constraint, read_query};
 use esto_script::{Refused, put, put_digits};
+use esto_semantics::Valuation;
 use std::alloc::Global;
 
 /// The query that a text is over the catalogue.

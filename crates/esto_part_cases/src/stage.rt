@@ -10,12 +10,13 @@ use esto_catalog::read_catalogue;
 use esto_constraint::Rules;
 use esto_mapping::Catalogue;
 use esto_prov::Entries;
-use esto_query::{Facts, Query, Valuation};
+use esto_query::{Facts, Query};
 use esto_script::{Refused, let_go, put};
+use esto_semantics::Valuation;
 use esto_term::List;
 use esto_views::Plan;
-use std::alloc::Global;
 use std::mem;
+use std::alloc::Global;
 
 /// The catalogue, the plan, the entries of a list, the facts, the start of matches, and the rules.
 #[derive(Drop)]

@@ -14,7 +14,7 @@ use Rattle.esto_semantics.specs.Plans.{IsUniversalPlan}
 use Rattle.esto_semantics.specs.Queries.{ConjunctiveQuery, IsQuery}
 use Rattle.esto_semantics.specs.Rewritings.{IsPlanFor}
 use Rattle.esto_semantics.specs.Rules.{Rule}
-use Rattle.esto_semantics.specs.Sets.{Has}
+use Rattle.esto_term.specs.Sets.{Has}
 use Rattle.esto_semantics.specs.declared.fact.Fact.{Fact}
 use Rattle.esto_semantics.proofs.CanonicalLemmas.{Mentions-terms_of}
 use Rattle.esto_term.proofs.ListLemmas.{Contains-nil, Contains-at, Contains-head, Contains-rest, Contains-cases, Contains-map, Contains-map_from, Contains-flat}

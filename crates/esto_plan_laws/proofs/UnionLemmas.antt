@@ -14,7 +14,7 @@ use Rattle.esto_semantics.proofs.AnswerLemmas.{contained-in_mapped}
 use Rattle.esto_semantics.proofs.AnsweringLemmas.{greater-MapsTo, greater-HasCandidate, greater-IsSafe, told_by_minimal, told_executably, of_parts}
 use Rattle.esto_semantics.proofs.CandidateLemmas.{candidate-IsQuery, candidate-contains, candidate-equivalent, candidate-IsExecutableQuery}
 use Rattle.esto_semantics.proofs.CanonicalLemmas.{canonical_value, canonical_database, canonical_database-Meets, answer-from_map}
-use Rattle.esto_semantics.proofs.CoverLemmas.{minimal-cover, listed_by_is_one}
+use Rattle.esto_term.proofs.CoverLemmas.{minimal-cover, listed_by_is_one}
 use Rattle.esto_semantics.proofs.PlanLemmas.{plan_is_universal, rows_answer-from_canonical, map-from_rows_answer}
 use Rattle.esto_semantics.proofs.RewritingLemmas.{queries_map_onto}
 use Rattle.esto_plan_laws.specs.UnionLaws.{RowsReceiveUnions, ReceiveUnionsAlike, ReceivingIsUniversal, UnionsMapOntoSets, ListedCoverUnions, UnionListIsOne}

@@ -7,7 +7,7 @@ use Rattle.esto_semantics.specs.Instances.{MapsTo}
 use Rattle.esto_semantics.specs.Listed.{chosen}
 use Rattle.esto_semantics.specs.Maps.{Keeps}
 use Rattle.esto_semantics.specs.Queries.{ConjunctiveQuery}
-use Rattle.esto_semantics.specs.Sets.{Has}
+use Rattle.esto_term.specs.Sets.{Has}
 use Rattle.esto_semantics.specs.declared.fact.Fact.{Fact}
 
 -- The query that has this head over these atoms.

@@ -8,7 +8,7 @@ use Rattle.esto_semantics.specs.Plans.{IsUniversalPlan}
 use Rattle.esto_semantics.specs.Queries.{ConjunctiveQuery}
 use Rattle.esto_semantics.specs.Rewritings.{IsPlanFor, MapsOnto}
 use Rattle.esto_semantics.specs.Rules.{Rule, AreRules}
-use Rattle.esto_semantics.specs.Sets.{Within, Covers, IsMinimal, Rises, TellHolds}
+use Rattle.esto_term.specs.Sets.{Within, Covers, IsMinimal, Rises, TellHolds}
 use Rattle.esto_semantics.specs.Unions.{ReceivesUnions}
 use Rattle.esto_plan_laws.specs.UnionSets.{AnswersUnion, IsUnionRewriting, IsUnionListed, AreUnionListed, IsExecutableUnion, IsChoice, IsAnswered, HasEmptyList}
 use Rattle.esto_plan_laws.specs.UnionSets.{HasList}

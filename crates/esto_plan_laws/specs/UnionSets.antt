@@ -7,7 +7,7 @@ use Rattle.esto_semantics.specs.Plans.{IsUniversalPlan}
 use Rattle.esto_semantics.specs.Queries.{ConjunctiveQuery, IsQuery}
 use Rattle.esto_semantics.specs.Rewritings.{IsPlanFor}
 use Rattle.esto_semantics.specs.Rules.{Rule}
-use Rattle.esto_semantics.specs.Sets.{IsMinimal, AreListedBy}
+use Rattle.esto_term.specs.Sets.{IsMinimal, AreListedBy}
 use Rattle.esto_semantics.specs.Unions.{IsUnionAnswer, IsUnionFragmentAnswer, ReceivesUnions}
 use Rattle.esto_semantics.specs.Views.{IsFragmentAnswer}
 

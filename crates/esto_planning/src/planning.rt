@@ -1,6 +1,6 @@
 //! The printed plan of a query, and its list.
 ghost use Rattle.std.specs.Prelude.{IfOk};
-ghost use Rattle.esto_world_laws.specs.Steps.{AreJoined};
+ghost use Rattle.esto_chase_laws.specs.WorldSteps.{AreJoined};
 ghost use Rattle.esto_backchase.specs.Evidence.{AreEntriesOf};
 ghost use Rattle.esto_opening.specs.Answers.{Answers};
 ghost use Rattle.esto_planning.specs.Listing.{IsListOf, IsPlanned};

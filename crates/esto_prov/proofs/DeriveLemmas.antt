@@ -9,16 +9,16 @@ use Rattle.esto_term.proofs.ZipLemmas.{zip_left, zip_length, zip_right, zip_weak
 use Rattle.esto_semantics.specs.Facts.{terms_of}
 use Rattle.esto_semantics.specs.Rules.{Rule, body_of}
 use Rattle.esto_semantics.specs.declared.fact.Fact.{Fact}
-use Rattle.esto_query.specs.declared.expanded.ExpandedFact.{ExpandedFact}
-use Rattle.esto_world_laws.specs.Derived.{AreDerived, Claims, Follows, FollowsBy, IsChain, IsNamed}
-use Rattle.esto_world_laws.specs.Matches.{taken}
-use Rattle.esto_world_laws.specs.Worlds.{Linked}
-use Rattle.esto_world_laws.specs.declared.entry.Claim.{Claim}
-use Rattle.esto_world_laws.specs.declared.entry.Claim.TheVariants as claim
-use Rattle.esto_world_laws.specs.declared.entry.Entry.{Entry}
-use Rattle.esto_world_laws.specs.declared.entry.Reason.{Reason}
-use Rattle.esto_world_laws.specs.declared.entry.Reason.TheVariants as reason
-use Rattle.esto_world_laws.proofs.LinkLemmas.{Linked-more}
+use Rattle.esto_semantics.specs.declared.expanded.ExpandedFact.{ExpandedFact}
+use Rattle.esto_chase_laws.specs.Derived.{AreDerived, Claims, Follows, FollowsBy, IsChain, IsNamed}
+use Rattle.esto_chase_laws.specs.WorldMatches.{taken}
+use Rattle.esto_chase_laws.specs.Worlds.{Linked}
+use Rattle.esto_chase_laws.specs.declared.entry.Claim.{Claim}
+use Rattle.esto_chase_laws.specs.declared.entry.Claim.TheVariants as claim
+use Rattle.esto_chase_laws.specs.declared.entry.Entry.{Entry}
+use Rattle.esto_chase_laws.specs.declared.entry.Reason.{Reason}
+use Rattle.esto_chase_laws.specs.declared.entry.Reason.TheVariants as reason
+use Rattle.esto_chase_laws.proofs.LinkLemmas.{Linked-more}
 use Rattle.esto_prov.specs.Derivations.{AreChain, Derives, DerivationsDerive, FollowsFrom, HasReason, IsWhy}
 use Rattle.esto_prov.specs.Derivations.Derives.{given, by_rule, by_chain}
 use Rattle.esto_prov.specs.Derivations.IsWhy.{expanded, step, same}

@@ -5,12 +5,12 @@ use Rattle.std.proofs.lemmas.Option.{slice_get_within}
 use Rattle.esto_term.proofs.ListLemmas.{Contains-nil, Contains-head, Contains-cases, Contains-map, Contains-map_from, Contains-flat, Contains-flat_from}
 use Rattle.esto_term.proofs.ListLemmas.{place-from_Contains, thing_at, Contains-at}
 use Rattle.esto_term.proofs.PlaceLemmas.{taken_at}
-use Rattle.esto_semantics.specs.Sets.{Has}
-use Rattle.esto_world_laws.specs.Derived.{IsUnion}
-use Rattle.esto_world_laws.specs.Laws.{IsReasoned, AreReasoned}
-use Rattle.esto_world_laws.specs.declared.entry.Entry.{Entry}
-use Rattle.esto_world_laws.specs.declared.entry.Reason.{Reason}
-use Rattle.esto_world_laws.specs.declared.entry.Reason.TheVariants as reason
+use Rattle.esto_term.specs.Sets.{Has}
+use Rattle.esto_chase_laws.specs.Derived.{IsUnion}
+use Rattle.esto_chase_laws.specs.WorldLaws.{IsReasoned, AreReasoned}
+use Rattle.esto_chase_laws.specs.declared.entry.Entry.{Entry}
+use Rattle.esto_chase_laws.specs.declared.entry.Reason.{Reason}
+use Rattle.esto_chase_laws.specs.declared.entry.Reason.TheVariants as reason
 use Rattle.esto_prov.specs.Derivations.{HasReason, IsWhy, leaves_of, leaves_of_level}
 use Rattle.esto_prov.specs.Derivations.IsWhy.{expanded, step, same}
 use Rattle.esto_prov.specs.declared.why.Why.{Why, fold-roll-Why}

@@ -3,4 +3,3 @@ pub mod WhyLemmas
 pub mod ProductLemmas
 pub mod DeriveLemmas
 pub mod MeetLemmas
-pub mod ContainedLemmas

@@ -7,7 +7,7 @@ use Rattle.std.proofs.lemmas.Map.Made.{is_member-Decides}
 use Rattle.esto_term.specs.Order.{same_term}
 use Rattle.esto_term.specs.declared.term.Term.{Term}
 use Rattle.esto_semantics.proofs.TermLemmas.{same_term-Decides}
-use Rattle.esto_query.specs.Spreads.{substituted}
+use Rattle.esto_semantics.specs.Spreads.{substituted}
 
 nothing : (from : List Term) (term : Term) → substituted from [] term ≡ term
 nothing [] term = refl

@@ -4,12 +4,12 @@ use Rattle.std.proofs.lemmas.List.{take_all}
 use Rattle.std.proofs.lemmas.List.Elements.{All-nil, All-push, Contains-append_left, Contains-push, Contains-push_cases}
 use Rattle.esto_term.proofs.ListLemmas.{Contains-nil, Contains-head}
 use Rattle.esto_term.proofs.PlaceLemmas.{take-item}
-use Rattle.esto_semantics.specs.Sets.{IsMinimal, AreMinimal}
+use Rattle.esto_term.specs.Sets.{IsMinimal, AreMinimal}
 use Rattle.esto_bits.specs.Kept.{AreOver, OneMoreIsMinimal, KeptAreMinimal}
-use Rattle.esto_world_laws.specs.Claims.{AreSameClaim}
-use Rattle.esto_world_laws.specs.Laws.{AreReasoned}
-use Rattle.esto_world_laws.specs.declared.entry.Claim.{Claim}
-use Rattle.esto_world_laws.specs.declared.entry.Entry.{Entry}
+use Rattle.esto_chase_laws.specs.Claims.{AreSameClaim}
+use Rattle.esto_chase_laws.specs.WorldLaws.{AreReasoned}
+use Rattle.esto_chase_laws.specs.declared.entry.Claim.{Claim}
+use Rattle.esto_chase_laws.specs.declared.entry.Entry.{Entry}
 use Rattle.esto_prov.specs.Products.{count_of, IsProductOf, AddsProduct}
 
 pub product_count : (entries : List Entry) (entry : Entry) → AreReasoned entries → Contains entries entry → length entry.product ≡ count_of entries

@@ -4,11 +4,11 @@ use Rattle.std.proofs.lemmas.List.{take_more, length-take-le, get_or_default}
 use Rattle.std.proofs.lemmas.Option.{slice_get_within}
 use Rattle.esto_term.proofs.ListLemmas.{at_pushed}
 use Rattle.esto_term.proofs.PlaceLemmas.{item_at}
-use Rattle.esto_world_laws.specs.Derived.{IsUnion}
-use Rattle.esto_world_laws.specs.Laws.{IsReasoned, AreReasoned}
-use Rattle.esto_world_laws.specs.declared.entry.Entry.{Entry}
-use Rattle.esto_world_laws.specs.declared.entry.Reason.{Reason}
-use Rattle.esto_world_laws.specs.declared.entry.Reason.TheVariants as reason
+use Rattle.esto_chase_laws.specs.Derived.{IsUnion}
+use Rattle.esto_chase_laws.specs.WorldLaws.{IsReasoned, AreReasoned}
+use Rattle.esto_chase_laws.specs.declared.entry.Entry.{Entry}
+use Rattle.esto_chase_laws.specs.declared.entry.Reason.{Reason}
+use Rattle.esto_chase_laws.specs.declared.entry.Reason.TheVariants as reason
 use Rattle.esto_prov.specs.Derivations.{HasReason, IsWhy, AreWhys}
 use Rattle.esto_prov.specs.declared.why.Why.{Why}
 

@@ -4,15 +4,15 @@ use Rattle.std.specs.List.{flat_map}
 use Rattle.esto_term.specs.declared.term.Term.{Term}
 use Rattle.esto_semantics.specs.Rules.{Rule, body_of}
 use Rattle.esto_semantics.specs.declared.fact.Fact.{Fact}
-use Rattle.esto_query.specs.declared.expanded.ExpandedFact.{ExpandedFact}
-use Rattle.esto_world_laws.specs.Derived.{AreDerived}
-use Rattle.esto_world_laws.specs.Matches.{match_map, IsMatch}
-use Rattle.esto_world_laws.specs.Steps.{IsAsked}
-use Rattle.esto_world_laws.specs.declared.entry.Claim.{Claim}
-use Rattle.esto_world_laws.specs.declared.entry.Claim.TheVariants as claim
-use Rattle.esto_world_laws.specs.declared.entry.Entry.{Entry}
-use Rattle.esto_world_laws.specs.declared.entry.Reason.{Reason}
-use Rattle.esto_world_laws.specs.declared.entry.Reason.TheVariants as reason
+use Rattle.esto_semantics.specs.declared.expanded.ExpandedFact.{ExpandedFact}
+use Rattle.esto_chase_laws.specs.Derived.{AreDerived}
+use Rattle.esto_chase_laws.specs.WorldMatches.{match_map, IsMatch}
+use Rattle.esto_chase_laws.specs.WorldSteps.{IsAsked}
+use Rattle.esto_chase_laws.specs.declared.entry.Claim.{Claim}
+use Rattle.esto_chase_laws.specs.declared.entry.Claim.TheVariants as claim
+use Rattle.esto_chase_laws.specs.declared.entry.Entry.{Entry}
+use Rattle.esto_chase_laws.specs.declared.entry.Reason.{Reason}
+use Rattle.esto_chase_laws.specs.declared.entry.Reason.TheVariants as reason
 use Rattle.esto_prov.specs.declared.why.Why.{Why}
 use Rattle.esto_prov.specs.declared.why.Why.TheFolds.{fold-Why}
 use Rattle.esto_prov.specs.declared.why.Why.TheOpen.{Why-F}

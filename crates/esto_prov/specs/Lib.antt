@@ -1,4 +1,3 @@
 pub mod Derivations
 pub mod Products
 pub mod Taking
-pub mod Contained

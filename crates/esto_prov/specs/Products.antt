@@ -1,9 +1,9 @@
 -- The products of a claim among entries.
 use Rattle.std.specs.Prelude.{◌≡◌, ◌⊎◌, ℕ, Bool, List, [], ◌∷◌, length, Contains}
 use Rattle.esto_bits.specs.Kept.{with_set}
-use Rattle.esto_world_laws.specs.Claims.{AreSameClaim}
-use Rattle.esto_world_laws.specs.declared.entry.Claim.{Claim}
-use Rattle.esto_world_laws.specs.declared.entry.Entry.{Entry}
+use Rattle.esto_chase_laws.specs.Claims.{AreSameClaim}
+use Rattle.esto_chase_laws.specs.declared.entry.Claim.{Claim}
+use Rattle.esto_chase_laws.specs.declared.entry.Entry.{Entry}
 
 -- The count of the first entry's product, or 0 where there is no entry. All products of entries are of one count.
 abbrev pub count_of : List Entry → ℕ

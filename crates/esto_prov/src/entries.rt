@@ -1,15 +1,15 @@
 //! Entries that keep their reasons.
 ghost use Rattle.std.specs.Prelude.{◌≡◌, ◌↔◌, ◌<◌, ℕ, [], ◌∷◌, ◌++◌, List, Bool, Some, length, slice_get, Contains, IfOk, OnOk, OnErr};
-ghost use Rattle.esto_semantics.specs.Sets.{Has, IsMinimal};
-ghost use Rattle.esto_world_laws.specs.Laws.{AreReasoned};
-ghost use Rattle.esto_world_laws.specs.declared.entry.Entry.{Entry};
+ghost use Rattle.esto_term.specs.Sets.{Has, IsMinimal};
+ghost use Rattle.esto_chase_laws.specs.WorldLaws.{AreReasoned};
+ghost use Rattle.esto_chase_laws.specs.declared.entry.Entry.{Entry};
 ghost use Rattle.esto_prov.specs.Derivations.{IsWhy, DerivationsDerive, leaves_of};
 ghost use Rattle.esto_prov.specs.Products.{count_of, IsProductOf, AddsProduct};
 
 use crate::why::{Why, why_of};
 use esto_bits::{Products, kept_sets_are_minimal};
+use esto_chase_laws::{Claim, Entry};
 use esto_term::{List, OutOfMemory, Replicate};
-use esto_world_laws::{Claim, Entry};
 use std::alloc::Global;
 use std::marker::Model;
 
@@ -24,9 +24,9 @@ pub struct Entries {
 impl Model for Entries {
     ghost use Rattle.std.specs.Prelude.{List};
     ghost use Rattle.std.specs.Coded.{coded_list};
-    ghost use Rattle.esto_world_laws.specs.contracts.entry.Entry as entry;
-    ghost use Rattle.esto_world_laws.specs.declared.entry.Entry.{Entry};
-    ghost use Rattle.esto_world_laws.specs.Laws.{AreReasoned};
+    ghost use Rattle.esto_chase_laws.specs.contracts.entry.Entry as entry;
+    ghost use Rattle.esto_chase_laws.specs.declared.entry.Entry.{Entry};
+    ghost use Rattle.esto_chase_laws.specs.WorldLaws.{AreReasoned};
 
     ghost Value = { List Entry };
 

@@ -3,12 +3,10 @@
 #![tactic(auto)]
 
 mod entries;
-mod laws;
 mod taking;
 mod why;
 
 pub use entries::{Entries, derivations_derive, entries_are_reasoned};
-pub use esto_world_laws::{Chain, Claim, Entry, Reason};
-pub use laws::matched_sets_are_contained;
+pub use esto_chase_laws::{Chain, Claim, Entry, Reason};
 pub use taking::{followed, made_fact, taken_term, taken_terms, terms_of};
 pub use why::{Why, Whys};

@@ -1,9 +1,9 @@
 //! What terms meet first, and what a rule makes.
 ghost use Rattle.std.specs.Prelude.{◌≡◌, ◌++◌, map, IfOk};
 ghost use Rattle.esto_semantics.specs.Facts.{image, terms_of};
-ghost use Rattle.esto_query.specs.Spreads.{substituted};
+ghost use Rattle.esto_semantics.specs.Spreads.{substituted};
 ghost use Rattle.esto_chase_laws.specs.Making.{made_for};
-ghost use Rattle.esto_world_laws.specs.Matches.{taken};
+ghost use Rattle.esto_chase_laws.specs.WorldMatches.{taken};
 ghost use Rattle.esto_prov.specs.Taking.{made_of};
 
 use esto_semantics::Atom;

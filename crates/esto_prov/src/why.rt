@@ -1,10 +1,10 @@
 //! Derivations, written out as trees.
 ghost use Rattle.std.specs.Prelude.{ℕ, ◌<◌, ◌≤◌, length, Contains, IfOk};
-ghost use Rattle.esto_world_laws.specs.Laws.{AreReasoned};
+ghost use Rattle.esto_chase_laws.specs.WorldLaws.{AreReasoned};
 ghost use Rattle.esto_prov.specs.Derivations.{IsWhy, AreWhys};
 
+use esto_chase_laws::{Entry, Reason};
 use esto_term::{List, OutOfMemory, Replicate};
-use esto_world_laws::{Entry, Reason};
 use std::alloc::Global;
 
 /// A derivation: the tree of a reason, in which each entry that the reason names stands with its own derivation. Contracts

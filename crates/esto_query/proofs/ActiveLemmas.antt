@@ -18,13 +18,13 @@ use Rattle.esto_query.specs.Indexes.{AreCandidates}
 use Rattle.esto_query.specs.Orders.{HaveSameAtoms}
 use Rattle.esto_query.specs.Rows.{AreKnown, Decides}
 use Rattle.esto_query.specs.Trails.{Narrows, Excludes}
-use Rattle.esto_query.specs.Valuations.{Assignment, Extends, map_of}
+use Rattle.esto_semantics.specs.Valuations.{Assignment, Extends, map_of}
 use Rattle.esto_query.specs.declared.active.Conclusion.{Conclusion}
 use Rattle.esto_query.specs.declared.active.Conclusion.TheVariants.{Extends as ExtendsTo, Equals, Never}
 use Rattle.esto_query.proofs.MatchLemmas.{found_variables}
 use Rattle.esto_query.proofs.OrderLemmas.{same_mentions, same_known, same_sends}
 use Rattle.esto_query.proofs.RowLemmas.{IsRow-nil, AreKnown-next, some_value}
-use Rattle.esto_query.proofs.ValuationLemmas.{Keeps-map_of, Extends-map_of}
+use Rattle.esto_semantics.proofs.ValuationLemmas.{Keeps-map_of, Extends-map_of}
 
 -- ---- how much a search has to do at a match
 

@@ -19,7 +19,7 @@ use Rattle.esto_table.specs.Buckets.{places_at, with_place, AreRising}
 use Rattle.esto_table.specs.Marks.{is_among}
 use Rattle.esto_table.specs.Numbers.{IsNumber, key_of}
 use Rattle.esto_table.specs.Tables.{entry_of, IsTable, AreUnder}
-use Rattle.esto_query.specs.Valuations.{Assignment, Extends}
+use Rattle.esto_semantics.specs.Valuations.{Assignment, Extends}
 use Rattle.esto_query.specs.Indexes.{AddsTerms, AreInBuckets, AreListed, IsIndex, AreCandidates}
 use Rattle.esto_table.specs.declared.marks.Marks.{Marks}
 use Rattle.esto_query.specs.declared.index.Index.{Index}

@@ -14,7 +14,7 @@ use Rattle.esto_semantics.proofs.FactLemmas.{Sends-match}
 use Rattle.esto_query.specs.Active.{Holds, Tells, IsLeastActiveFrom, FindsLeast}
 use Rattle.esto_query.specs.Indexes.{AreCandidates}
 use Rattle.esto_query.specs.Trails.{with_trail, Narrows}
-use Rattle.esto_query.specs.Valuations.{Assignment, Extends}
+use Rattle.esto_semantics.specs.Valuations.{Assignment, Extends}
 use Rattle.esto_query.specs.declared.trail.Binding.{Binding}
 use Rattle.esto_query.proofs.ActiveLemmas.{HoldsAt}
 use Rattle.esto_query.proofs.PlaceLemmas.{IsAtMost-nil, IsAtMost-least}

@@ -13,7 +13,7 @@ use Rattle.esto_term.specs.declared.term.Term.TheVariants.{Const}
 use Rattle.esto_semantics.specs.Facts.{image}
 use Rattle.esto_semantics.specs.Maps.{IsFlat, AreFlat, Keeps}
 use Rattle.esto_semantics.specs.declared.fact.Fact.{Fact}
-use Rattle.esto_query.specs.Valuations.{Assignment, Extends, map_of}
+use Rattle.esto_semantics.specs.Valuations.{Assignment, Extends, map_of}
 use Rattle.esto_query.specs.Matches.{IsLeastMatch, HasNoMatch}
 use Rattle.esto_semantics.specs.Matches.{IsMatch, IsBefore, IsAtMost}
 use Rattle.esto_query.specs.Trails.{with_trail, Narrows, Excludes, Tries}
@@ -23,7 +23,7 @@ use Rattle.esto_query.specs.declared.matches.Found.{Found}
 use Rattle.esto_table.specs.Places.{IsRising}
 use Rattle.esto_query.specs.Indexes.{AreCandidates}
 use Rattle.esto_table.specs.Places.{AreFrom}
-use Rattle.esto_query.proofs.ValuationLemmas.{Keeps-map_of, Extends-map_of}
+use Rattle.esto_semantics.proofs.ValuationLemmas.{Keeps-map_of, Extends-map_of}
 use Rattle.esto_query.proofs.TrailLemmas.{Grew-same, Grew-then}
 use Rattle.esto_query.proofs.PlaceLemmas.{IsAtMost-nil, first_is_least, rest_is_at_most, IsAtMost-onto, IsAtMost-least}
 use Rattle.esto_query.proofs.MatchLemmas.{IsMatch-length, found_variables}

@@ -1,5 +1,4 @@
 pub mod MapLemmas
-pub mod ValuationLemmas
 pub mod SoundLemmas
 pub mod SchemaLemmas
 pub mod TrailLemmas
@@ -12,4 +11,3 @@ pub mod MisfitLemmas
 pub mod OrderLemmas
 pub mod ActiveLemmas
 pub mod LeastActiveLemmas
-pub mod SubstitutionLemmas

@@ -10,7 +10,7 @@ use Rattle.esto_term.specs.declared.term.Term.TheVariants.{Const, Plain, outs-Co
 use Rattle.esto_semantics.specs.Facts.{image}
 use Rattle.esto_semantics.specs.Maps.{IsFlat, Keeps}
 use Rattle.esto_semantics.specs.declared.fact.Fact.{Fact}
-use Rattle.esto_query.specs.Valuations.{Assignment, Extends}
+use Rattle.esto_semantics.specs.Valuations.{Assignment, Extends}
 
 -- ---- equal images
 

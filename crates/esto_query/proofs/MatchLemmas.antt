@@ -12,11 +12,11 @@ use Rattle.esto_semantics.specs.Facts.{image, Mentions}
 use Rattle.esto_semantics.specs.Maps.{AreFlat, Keeps, Sends}
 use Rattle.esto_semantics.specs.declared.fact.Fact.{Fact}
 use Rattle.esto_semantics.proofs.FactLemmas.{image_agree}
-use Rattle.esto_query.specs.Valuations.{Assignment, Extends, map_of}
+use Rattle.esto_semantics.specs.Valuations.{Assignment, Extends, map_of}
 use Rattle.esto_semantics.specs.Matches.{IsMatch}
 use Rattle.esto_query.specs.Trails.{Narrows}
 use Rattle.esto_query.proofs.MapLemmas.{image_values, changed, changed-here, changed-flat, Keeps-changed, Extends-changed, terms_differ}
-use Rattle.esto_query.proofs.ValuationLemmas.{Keeps-map_of, Extends-map_of}
+use Rattle.esto_semantics.proofs.ValuationLemmas.{Keeps-map_of, Extends-map_of}
 use Rattle.esto_query.proofs.SoundLemmas.{mentions_decided}
 use Rattle.esto_term.proofs.ChoiceLemmas.{Decided}
 use Rattle.esto_term.proofs.ListLemmas.{Contains-head, Contains-nil, Contains-rest}

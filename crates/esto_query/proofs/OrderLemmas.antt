@@ -12,7 +12,7 @@ use Rattle.esto_semantics.specs.Maps.{AreFlat, SendsInto}
 use Rattle.esto_semantics.specs.declared.fact.Fact.{Fact}
 use Rattle.esto_query.specs.Orders.{HaveSameAtoms}
 use Rattle.esto_query.specs.Rows.{AreKnown, IsKnown, IsRow, Adds}
-use Rattle.esto_query.specs.Valuations.{Assignment}
+use Rattle.esto_semantics.specs.Valuations.{Assignment}
 use Rattle.esto_query.proofs.RowLemmas.{Adds-same}
 
 -- ---- an atom that is taken, and put back

@@ -17,7 +17,7 @@ use Rattle.esto_semantics.specs.Maps.{IsConstant, IsFlat, Keeps, Sends}
 use Rattle.esto_semantics.specs.Queries.{ConjunctiveQuery, IsQuery, IsAnswerInto}
 use Rattle.esto_semantics.specs.declared.fact.Fact.{Fact}
 use Rattle.esto_semantics.proofs.FactLemmas.{Sends-match}
-use Rattle.esto_query.specs.Valuations.{Assignment, Extends, map_of}
+use Rattle.esto_semantics.specs.Valuations.{Assignment, Extends, map_of}
 use Rattle.esto_query.specs.Trails.{with_trail, Narrows, Excludes}
 use Rattle.esto_query.specs.Rows.{IsRow, IsKnown, AreKnown, Decides, Adds}
 use Rattle.esto_query.specs.Searches.{Searched}
@@ -25,7 +25,7 @@ use Rattle.esto_query.specs.Indexes.{AreCandidates}
 use Rattle.esto_query.specs.declared.trail.Binding.{Binding}
 use Rattle.esto_query.proofs.PlaceLemmas.{IsAtMost-nil}
 use Rattle.esto_query.proofs.MapLemmas.{image_values}
-use Rattle.esto_query.proofs.ValuationLemmas.{Keeps-map_of, Extends-map_of}
+use Rattle.esto_semantics.proofs.ValuationLemmas.{Keeps-map_of, Extends-map_of}
 use Rattle.esto_query.proofs.MatchLemmas.{known_kept, known_fixed, match-Sends}
 use Rattle.esto_term.proofs.ListLemmas.{Contains-at, Contains-cases, Contains-head, Contains-nil, Contains-rest, map_agree}
 use Rattle.esto_term.proofs.PlaceLemmas.{take-item}

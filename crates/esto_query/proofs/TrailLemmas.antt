@@ -14,10 +14,10 @@ use Rattle.esto_term.specs.declared.term.Term.TheVariants.{Plain}
 use Rattle.esto_term.proofs.PlaceLemmas.{take-item}
 use Rattle.esto_semantics.specs.Facts.{image}
 use Rattle.esto_semantics.specs.declared.fact.Fact.{Fact}
-use Rattle.esto_query.specs.Valuations.{Assignment, Extends}
+use Rattle.esto_semantics.specs.Valuations.{Assignment, Extends}
 use Rattle.esto_query.specs.Trails.{with_trail, Narrows, Excludes, Grew, Tries}
 use Rattle.esto_query.specs.declared.trail.Binding.{Binding}
-use Rattle.esto_query.proofs.ValuationLemmas.{same_key, other_key, Extends-insert}
+use Rattle.esto_semantics.proofs.ValuationLemmas.{same_key, other_key, Extends-insert}
 
 -- ---- the valuation of a trail
 

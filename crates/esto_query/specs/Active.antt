@@ -10,7 +10,7 @@ use Rattle.esto_semantics.specs.declared.fact.Fact.{Fact}
 use Rattle.esto_semantics.specs.Matches.{IsMatch, IsAtMost}
 use Rattle.esto_query.specs.Rows.{AreKnown}
 use Rattle.esto_query.specs.Trails.{with_trail}
-use Rattle.esto_query.specs.Valuations.{Assignment, Extends}
+use Rattle.esto_semantics.specs.Valuations.{Assignment, Extends}
 use Rattle.esto_query.specs.declared.active.Conclusion.{Conclusion}
 use Rattle.esto_query.specs.declared.active.Conclusion.TheVariants.{Extends as ExtendsTo, Equals, Never}
 use Rattle.esto_query.specs.declared.active.LentRule.{LentRule}

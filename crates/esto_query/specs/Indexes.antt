@@ -10,7 +10,7 @@ use Rattle.esto_table.specs.Marks.{is_among}
 use Rattle.esto_table.specs.Numbers.{AreInOrder, IsNumber, key_of}
 use Rattle.esto_table.specs.Places.{IsRising}
 use Rattle.esto_table.specs.Tables.{entry_of, IsTable}
-use Rattle.esto_query.specs.Valuations.{Assignment, Extends}
+use Rattle.esto_semantics.specs.Valuations.{Assignment, Extends}
 use Rattle.esto_table.specs.declared.marks.Marks.{Marks}
 use Rattle.esto_query.specs.declared.index.Index.{Index}
 use Rattle.esto_table.specs.declared.entry.Entry.{Entry}

@@ -1,4 +1,3 @@
-pub mod Valuations
 pub mod Schemas
 pub mod Soundness
 pub mod Making
@@ -9,5 +8,3 @@ pub mod Rows
 pub mod Indexes
 pub mod Orders
 pub mod Active
-pub mod Expanded
-pub mod Spreads

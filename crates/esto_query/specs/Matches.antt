@@ -7,7 +7,7 @@ use Rattle.esto_semantics.specs.Facts.{Mentions}
 use Rattle.esto_semantics.specs.Maps.{Keeps}
 use Rattle.esto_semantics.specs.Matches.{IsMatch, IsAtMost}
 use Rattle.esto_semantics.specs.declared.fact.Fact.{Fact}
-use Rattle.esto_query.specs.Valuations.{Assignment, Extends}
+use Rattle.esto_semantics.specs.Valuations.{Assignment, Extends}
 
 -- The found valuation is the start with a term for each variable of the body, and with no other variable; and the maps that extend it are exactly those that
 -- extend the start and send each atom to the fact at its place.

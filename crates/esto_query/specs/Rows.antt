@@ -6,7 +6,7 @@ use Rattle.esto_term.specs.declared.term.Term.TheVariants.{Const, Plain}
 use Rattle.esto_semantics.specs.Facts.{Mentions}
 use Rattle.esto_semantics.specs.Maps.{IsConstant, Keeps, Sends}
 use Rattle.esto_semantics.specs.declared.fact.Fact.{Fact}
-use Rattle.esto_query.specs.Valuations.{Assignment, Extends}
+use Rattle.esto_semantics.specs.Valuations.{Assignment, Extends}
 pub use Rattle.esto_table.specs.Rows.{row_cmp, IsAscending, Adds}
 
 -- The row is the head's image under a map that keeps constants, extends the known valuation and sends the body to facts.

@@ -4,7 +4,7 @@ use Rattle.esto_term.specs.declared.term.Term.{Term}
 use Rattle.esto_term.specs.declared.term.Term.TheVariants.{Const}
 use Rattle.esto_semantics.specs.Maps.{Keeps}
 use Rattle.esto_semantics.specs.declared.fact.Fact.{Fact}
-use Rattle.esto_query.specs.Valuations.{Assignment, Extends}
+use Rattle.esto_semantics.specs.Valuations.{Assignment, Extends}
 use Rattle.esto_query.specs.Matches.{HasNoMatch}
 use Rattle.esto_semantics.specs.Matches.{IsMatch, IsBefore, IsAtMost}
 use Rattle.esto_query.specs.Trails.{with_trail, Narrows, Grew}

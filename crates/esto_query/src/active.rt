@@ -3,15 +3,14 @@ ghost use Rattle.std.specs.Prelude.{◌≡◌, ◌∷◌, [], IfOk, OnOk};
 ghost use Rattle.esto_semantics.specs.Maps.{AreFlat};
 ghost use Rattle.esto_query.specs.Active.{rule_of, Holds, Tells, IsAimed, DecidesActive};
 ghost use Rattle.esto_query.specs.Indexes.{AreCandidates};
-ghost use Rattle.esto_query.specs.Valuations.{map_of};
+ghost use Rattle.esto_semantics.specs.Valuations.{map_of};
 ghost use Rattle.esto_query.specs.Trails.{with_trail};
 ghost use Rattle.esto_query.specs.Rows.{Decides};
 
 use crate::indexed::{IndexedFacts, bind_place};
 use crate::left::{AtomsLeft, next_atom};
 use crate::trail::{Binding, value};
-use crate::valuation::Valuation;
-use esto_semantics::Atom;
+use esto_semantics::{Atom, Valuation};
 use esto_term::{OutOfMemory, Term};
 use std::alloc::Global;
 

@@ -5,7 +5,7 @@ ghost use Rattle.esto_term.specs.declared.term.Term.TheVariants.{Const};
 ghost use Rattle.esto_semantics.specs.Maps.{Keeps};
 ghost use Rattle.esto_semantics.specs.declared.fact.Fact.{Fact};
 ghost use Rattle.esto_table.specs.Buckets.{AreRising};
-ghost use Rattle.esto_query.specs.Valuations.{Assignment, Extends};
+ghost use Rattle.esto_semantics.specs.Valuations.{Assignment, Extends};
 ghost use Rattle.esto_query.specs.Trails.{with_trail};
 ghost use Rattle.esto_table.specs.Numbers.{AreInOrder};
 ghost use Rattle.esto_table.specs.declared.entry.Entry.{Entry};
@@ -13,8 +13,7 @@ ghost use Rattle.esto_query.specs.Indexes.{AddsTerms, AreListed, AreInBuckets, I
 
 use crate::clashes::{clashes, names_of};
 use crate::trail::{Binding, value};
-use crate::valuation::Valuation;
-use esto_semantics::Atom;
+use esto_semantics::{Atom, Valuation};
 use esto_table::{Buckets, Entry, Marks, Table, count_marked, key_of, number_of, table_of};
 use esto_term::{OutOfMemory, Term};
 use std::alloc::Global;

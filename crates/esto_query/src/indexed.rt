@@ -4,14 +4,13 @@ ghost use Rattle.esto_term.specs.declared.term.Term.{Term};
 ghost use Rattle.esto_semantics.specs.Facts.{image};
 ghost use Rattle.esto_semantics.specs.Maps.{IsFlat};
 ghost use Rattle.esto_query.specs.Trails.{with_trail, Tries};
-ghost use Rattle.esto_query.specs.Valuations.{Assignment};
+ghost use Rattle.esto_semantics.specs.Valuations.{Assignment};
 ghost use Rattle.esto_query.specs.Indexes.{AreCandidates};
 
 use crate::columns::Columns;
 use crate::index::{Index, index_of, least_after, places_for, places_of};
 use crate::trail::{Binding, bind_atom};
-use crate::valuation::Valuation;
-use esto_semantics::{Atom, Facts};
+use esto_semantics::{Atom, Facts, Valuation};
 use esto_table::Marks;
 use esto_term::OutOfMemory;
 use std::alloc::Global;

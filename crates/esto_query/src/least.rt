@@ -9,8 +9,7 @@ use crate::active::{LentRule, has_active, is_active};
 use crate::indexed::{IndexedFacts, bind_place, candidates};
 use crate::matches::{Found, extended};
 use crate::trail::Binding;
-use crate::valuation::Valuation;
-use esto_semantics::Atom;
+use esto_semantics::{Atom, Valuation};
 use esto_term::{OutOfMemory, Places, Values};
 use std::alloc::Global;
 

@@ -1,13 +1,12 @@
 //! The atoms of a body that a search has left, and which of them it takes next.
 ghost use Rattle.std.specs.Prelude.{◌≡◌, ◌⊎◌, ◌≤◌, ◌<◌, [], Some, length, slice_get, remove, insert, IfOk, OnOk, MatchOption};
 ghost use Rattle.esto_query.specs.Trails.{with_trail};
-ghost use Rattle.esto_query.specs.Valuations.{Assignment};
+ghost use Rattle.esto_semantics.specs.Valuations.{Assignment};
 ghost use Rattle.esto_query.specs.Orders.{IsChoice};
 
 use crate::indexed::{IndexedFacts, all_places, candidates, ways_after};
 use crate::trail::{Binding, value};
-use crate::valuation::Valuation;
-use esto_semantics::Atom;
+use esto_semantics::{Atom, Valuation};
 use esto_term::{OutOfMemory, Term, has_term};
 use std::alloc::Global;
 use std::marker::Model;

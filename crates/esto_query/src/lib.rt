@@ -1,4 +1,4 @@
-//! Schemas, queries, valuations, matches and answers. Start from `Schema`, `make_query` and
+//! Schemas, queries, matches and answers. Start from `Schema`, `make_query` and
 //! `answers`.
 #![tactic(auto)]
 
@@ -7,7 +7,6 @@ mod answer;
 mod body;
 mod clashes;
 mod columns;
-mod expanded;
 mod index;
 mod indexed;
 mod least;
@@ -18,7 +17,6 @@ mod query;
 mod schema;
 mod search;
 mod trail;
-mod valuation;
 
 pub use active::{Conclusion, LentRule};
 pub use answer::answers;
@@ -26,10 +24,8 @@ pub use body::{first_misfit, mentions, missing_variable};
 pub use columns::Columns;
 pub use esto_semantics::{Atom, Atoms, Facts};
 pub use esto_table::in_order;
-pub use expanded::{ExpandedFact, ExpandedFacts};
 pub use indexed::IndexedFacts;
 pub use make::{MAX_ATOMS, QueryFault, make_query};
 pub use matches::{Found, first_match, matches_send, next_match};
 pub use query::{Name, Names, Query, queries_are_sound};
 pub use schema::{MAX_COLUMNS, MAX_RELATIONS, Relation, Schema, SchemaError};
-pub use valuation::{Valuation, valuations_are_maps};

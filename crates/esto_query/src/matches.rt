@@ -11,8 +11,7 @@ ghost use Rattle.esto_query.specs.Searches.{Follows};
 use crate::indexed::IndexedFacts;
 use crate::search::search;
 use crate::trail::Binding;
-use crate::valuation::Valuation;
-use esto_semantics::{Atom, Atoms, Facts};
+use esto_semantics::{Atom, Atoms, Facts, Valuation};
 use esto_term::{OutOfMemory, Places, Replicate, Values};
 use std::alloc::Global;
 

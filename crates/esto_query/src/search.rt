@@ -5,8 +5,7 @@ ghost use Rattle.esto_query.specs.Searches.{Searched, first_from, rest_from};
 
 use crate::indexed::{IndexedFacts, bind_place, candidates};
 use crate::trail::Binding;
-use crate::valuation::Valuation;
-use esto_semantics::Atom;
+use esto_semantics::{Atom, Valuation};
 use esto_table::places_from;
 use esto_term::{OutOfMemory, Places};
 

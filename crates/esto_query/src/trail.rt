@@ -7,8 +7,7 @@ ghost use Rattle.esto_semantics.specs.Facts.{image};
 ghost use Rattle.esto_semantics.specs.Maps.{IsFlat};
 ghost use Rattle.esto_query.specs.Trails.{with_trail, Tries};
 
-use crate::valuation::Valuation;
-use esto_semantics::Atom;
+use esto_semantics::{Atom, Valuation};
 use esto_term::{OutOfMemory, Term};
 
 /// A variable, and the term that it was given.

@@ -31,7 +31,7 @@ use Rattle.esto_semantics.specs.Listed.{IsEquivalentPart}
 use Rattle.esto_semantics.specs.ListedLaws.{EquivalentPartsAreOne}
 use Rattle.esto_semantics.specs.Queries.{ConjunctiveQuery, IsQuery}
 use Rattle.esto_semantics.specs.Rules.{Rule, AreRules}
-use Rattle.esto_semantics.specs.Sets.{AreListedBy}
+use Rattle.esto_term.specs.Sets.{AreListedBy}
 use Rattle.esto_universal.specs.PlannedLaws.{ClashOfRunIsOne}
 use Rattle.esto_views.specs.RenamedLaws.{RenamedPlanIsOne}
 use Rattle.esto_reasoning.specs.Contains.{SaysTold, compares}

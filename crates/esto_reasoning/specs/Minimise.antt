@@ -20,7 +20,7 @@ use Rattle.esto_query.specs.declared.query.Query.{Query}
 use Rattle.esto_semantics.specs.Listed.{IsEquivalentPart}
 use Rattle.esto_semantics.specs.Queries.{ConjunctiveQuery}
 use Rattle.esto_semantics.specs.Rules.{Rule}
-use Rattle.esto_semantics.specs.Sets.{AreListedBy}
+use Rattle.esto_term.specs.Sets.{AreListedBy}
 use Rattle.esto_reasoning.specs.Texts.{minimal_text}
 
 -- The text is that of the last facts of the query's run, with its head, and of exactly the minimal sets of these facts that are equivalent to the query, in

@@ -4,7 +4,7 @@ use Rattle.std.specs.Fmt.{decimal}
 use Rattle.esto_views.specs.Names.{met_terms}
 use Rattle.esto_views.specs.Printing.{count_line, each_from, numbers_text, terms_text}
 use Rattle.esto_query.specs.declared.query.Name.{Name}
-use Rattle.esto_semantics.specs.Sets.{numbers}
+use Rattle.esto_term.specs.Sets.{numbers}
 use Rattle.esto_semantics.specs.declared.fact.Fact.{Fact}
 use Rattle.esto_term.specs.declared.term.Term.{Term}
 

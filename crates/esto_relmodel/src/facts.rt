@@ -16,21 +16,11 @@ fn constant(alloc: Global, cell: &Text) -> Result<Term, OutOfMemory>
     Ok(Term::Const(cell.copy(alloc)?))
 }
 
-/// An empty row, with room for so many terms.
-fn row_with_room(alloc: Global, terms: usize) -> Result<Terms, OutOfMemory>
-    ensures { IfOk result (λ it. it ≡ []) }
-{
-    match Vec::with_capacity(alloc, terms) {
-        Ok(terms) => Ok(List::from_vec(terms)),
-        Err(_) => Err(OutOfMemory),
-    }
-}
-
 /// The constants of the cells, in order.
 pub fn constants(alloc: Global, cells: &[Text]) -> Result<Terms, OutOfMemory>
     ensures { IfOk result (λ it. it ≡ map Const cells.now) }
 {
-    let mut terms = row_with_room(alloc, cells.len())?;
+    let mut terms = List::with_room(alloc, cells.len())?;
     'cells: for cell in cells {
         terms.push(constant(alloc, cell)?)?;
     }
@@ -96,7 +86,7 @@ fn has_repeats(alloc: Global, rows: &[TextRow]) -> Result<bool, OutOfMemory>
 fn moved_constants(alloc: Global, row: TextRow) -> Result<Terms, OutOfMemory>
     ensures { IfOk result (λ it. it ≡ map Const row) }
 {
-    let mut terms = row_with_room(alloc, row.len())?;
+    let mut terms = List::with_room(alloc, row.len())?;
     'cells: for cell in row.into_vec() {
         terms.push(Term::Const(cell))?;
     }

@@ -1,19 +1,17 @@
 -- What accessible parts and stated orders are, where no run is needed.
-use Rattle.std.proofs.Common.{◌≡◌, ℕ, zero, suc, ◌<◌, ◌≤◌, Bool, List, []}
-use Rattle.std.proofs.Common.{Option, Some, None, slice_get, refl, sym, ap, ◌∙◌, subst, arith, inl, inr}
+use Rattle.std.proofs.Common.{◌≡◌, ℕ, zero, suc, ◌<◌, ◌≤◌, Bool, List, [], Option, Some, None, slice_get, refl, sym, ap, ◌∙◌, subst, arith, inl, inr}
 use Rattle.std.proofs.lemmas.Bool.{cases_order, cases_lt}
 use Rattle.std.proofs.lemmas.Option.{none-some, same_Some, slice_get_within, get_or_from_slice_get}
 use Rattle.esto_term.specs.declared.term.Term.{Term}
 use Rattle.esto_semantics.specs.declared.fact.Fact.{Fact}
-use Rattle.esto_semantics.specs.Sets.{Has, Within, numbers}
+use Rattle.esto_term.specs.Sets.{Has, Within, numbers}
 use Rattle.esto_semantics.specs.Access.{Patterns, IsEarlier, IsStatedOrder, HoldsExecutably, HoldsOfPart}
 use Rattle.esto_semantics.specs.AccessLaws.{NoneIsExecutable, PartIsOne, ExecutableIsOwnPart, PartRises}
 use Rattle.esto_semantics.specs.AccessLaws.{StatedOrderIsOne, NumbersAreStated, RewritingsNeedNoOrder, MinimalOfParts}
-use Rattle.esto_semantics.proofs.SetLemmas.{within_refl, within_trans, within_same, numbers_have, numbers_rise}
+use Rattle.esto_term.proofs.SetLemmas.{within_refl, within_trans, within_same, numbers_have, numbers_rise, Has-within}
 use Rattle.esto_term.proofs.ListLemmas.{Contains-at, place-from_Contains, thing_at}
 use Rattle.esto_term.proofs.PlaceLemmas.{one_place, same_places}
 use Rattle.esto_semantics.proofs.AccessLemmas.{accessible_more, none_is_order}
-use Rattle.esto_semantics.proofs.PlaceLemmas.{Has-within}
 
 -- ---- laws that need no run
 

@@ -1,19 +1,18 @@
 -- What is accessible after earlier numbers, and orders that take one number more.
 use Rattle.std.proofs.Common.{◌≡◌, ◌≢◌, ℕ, zero, suc, ◌<◌, ◌≤◌, Bool, true, false, List, [], ◌∷◌, ◌++◌, length, get_or, slice_set, replicate}
-use Rattle.std.proofs.Common.{Some, slice_get, refl, sym, ap, ◌∙◌, subst, arith, inl, inr}
-use Rattle.std.specs.Prelude.{◌⊎◌, ◌↔◌, Contains}
-use Rattle.std.proofs.lemmas.Bool.{false≢true, cases_eq}
-use Rattle.std.proofs.lemmas.List.{get_or-set_same, get_or-set_other, length-set, length-replicate}
+use Rattle.std.proofs.Common.{Some, slice_get, sym, ap, ◌∙◌, subst, arith, inl, inr}
+use Rattle.std.specs.Prelude.{Contains}
+use Rattle.std.proofs.lemmas.List.{length-set, length-replicate}
 use Rattle.std.proofs.lemmas.List.Elements.{Contains-get_or, Contains-push_cases, Contains-append_left, Contains-push}
 use Rattle.std.proofs.lemmas.List.Quantifiers.{all_pairs_push}
 use Rattle.std.proofs.lemmas.Option.{none-some, slice_get_within}
 use Rattle.esto_term.specs.declared.term.Term.{Term}
 use Rattle.esto_semantics.specs.declared.fact.Fact.{Fact}
-use Rattle.esto_semantics.specs.Sets.{Has, Within}
+use Rattle.esto_term.specs.Sets.{Has, Within}
 use Rattle.esto_semantics.specs.Access.{Patterns, IsAccessible, IsEarlier, IsOrder, IsExecutable}
 use Rattle.esto_semantics.specs.AccessSteps.{IsReady, IsStuck}
-use Rattle.esto_semantics.proofs.PlaceLemmas.{Has-within}
 use Rattle.esto_term.proofs.ListLemmas.{at_left, at_pushed, Contains-at, Contains-nil, place-from_Contains}
+use Rattle.esto_term.proofs.SetLemmas.{has_set, none_has, Has-within}
 
 -- ---- earlier numbers
 
@@ -31,38 +30,6 @@ push_earlier order x place number l h = elim (at_pushed order x h.0 number h.2) 
   | inl there ↦ (h.0, h.1, there)
   | inr last ↦ absurd (omega (arith, h.1, l, last.0))
 ]
-
--- ---- numbers that are missing from a set
-
-abbrev pub missing : List Bool → ℕ
-missing [] = 0
-missing (true ∷ part) = missing part
-missing (false ∷ part) = suc (missing part)
-
-pub missing-set : (part : List Bool) (number : ℕ) → number < length part → (Has part number → ⊥) → suc (missing (slice_set part number true)) ≡ missing part
-missing-set [] number l absent = absurd (omega (arith, l))
-missing-set (true ∷ part) zero l absent = absurd (absent refl)
-missing-set (false ∷ part) zero l absent = refl
-missing-set (true ∷ part) (suc number) l absent = missing-set part number (omega (arith, l)) absent
-missing-set (false ∷ part) (suc number) l absent = ap suc (missing-set part number (omega (arith, l)) absent)
-
-pub has_set : (part : List Bool) (number : ℕ) → number < length part → (other : ℕ)
-    → Has (slice_set part number true) other ↔ ((number ≡ other) ⊎ Has part other)
-has_set part number l other = (
-  λ h. elim (cases_eq number other) [
-    | inl e ↦ inl e
-    | inr apart ↦ inr (sym (get_or-set_other part number other true false (λ e. apart (sym e))) ∙ h)
-  ],
-  λ h. elim (cases_eq number other) [
-    | inl e ↦ subst (Has (slice_set part number true)) e (get_or-set_same part number true false l)
-    | inr apart ↦ elim h [ inl e ↦ absurd (apart e) | inr there ↦ get_or-set_other part number other true false (λ e. apart (sym e)) ∙ there ]
-  ],
-)
-
-pub none_has : (count number : ℕ) → Has (replicate count false) number → ⊥
-none_has zero number h = false≢true h
-none_has (suc count) zero h = false≢true h
-none_has (suc count) (suc number) h = none_has count number h
 
 -- ---- what is accessible
 

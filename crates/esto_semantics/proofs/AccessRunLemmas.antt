@@ -11,17 +11,17 @@ use Rattle.esto_term.specs.declared.term.Term.TheOpen.{Term-F}
 use Rattle.esto_term.specs.declared.term.Term.TheVariants.{outs-Const, rolls-Const}
 use Rattle.esto_semantics.specs.declared.fact.Fact.{Fact}
 use Rattle.esto_semantics.specs.Maps.{IsConstant}
-use Rattle.esto_semantics.specs.Sets.{Has, Within, united}
+use Rattle.esto_term.specs.Sets.{Has, Within, united}
 use Rattle.esto_semantics.specs.Access.{Patterns, IsInput, IsBound, MeetsPattern, IsAccessible, IsEarlier, IsOrder, IsExecutable, IsAccessiblePart}
 use Rattle.esto_semantics.specs.Access.{IsStatedOrder}
 use Rattle.esto_semantics.specs.AccessSteps.{IsReady, IsNext, IsStuck}
 use Rattle.esto_semantics.specs.AccessLaws.{UnionIsExecutable, PartExists, StatedOrderExists}
-use Rattle.esto_semantics.proofs.SetLemmas.{decided_has, within_refl, within_same, has_united, length-united}
+use Rattle.esto_term.proofs.SetLemmas.{decided_has, within_refl, within_same, has_united, length-united, missing, missing-set, has_set, none_has}
 use Rattle.esto_term.proofs.ChoiceLemmas.{Decided, decided_as, decided_below, decided_both, decided_either, decided_not, least_below}
 use Rattle.esto_term.proofs.DistinctLemmas.{decided_contains}
 use Rattle.esto_semantics.proofs.TermLemmas.{decided_term}
 use Rattle.esto_term.proofs.ListLemmas.{at_pushed, thing_at}
-use Rattle.esto_semantics.proofs.AccessLemmas.{earlier_contains, contains_earlier, earlier_push, push_earlier, missing, missing-set, has_set, none_has}
+use Rattle.esto_semantics.proofs.AccessLemmas.{earlier_contains, contains_earlier, earlier_push, push_earlier}
 use Rattle.esto_semantics.proofs.AccessLemmas.{accessible_more, order_grows, none_is_order, stuck_has}
 
 -- ---- the run, where all that is asked is decided

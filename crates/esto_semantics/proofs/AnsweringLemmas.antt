@@ -8,11 +8,11 @@ use Rattle.esto_semantics.specs.ListedLaws.{AnsweringRises, AnsweringIsTold, Lis
 use Rattle.esto_semantics.specs.ListedLaws.{EquivalentPartsAreOne, EquivalentPartsCover, NoPartIsListed, EquivalentPartsRise, EquivalentPartsAreTold}
 use Rattle.esto_semantics.specs.Queries.{ConjunctiveQuery}
 use Rattle.esto_semantics.specs.Rules.{Rule}
-use Rattle.esto_semantics.specs.Sets.{Covers, HaveCount, IsMinimal, Rises, TellHolds, Within}
+use Rattle.esto_term.specs.Sets.{Covers, HaveCount, IsMinimal, Rises, TellHolds, Within}
 use Rattle.esto_semantics.proofs.AccessLawLemmas.{minimal_of_parts}
 use Rattle.esto_semantics.proofs.AnswerLemmas.{IsAnswerInto-mapped, contained-in_mapped}
 use Rattle.esto_semantics.proofs.CandidateLemmas.{candidate-equivalent}
-use Rattle.esto_semantics.proofs.CoverLemmas.{listed_by_is_one, minimal-cover, minimal_tell, none_is_listed_by}
+use Rattle.esto_term.proofs.CoverLemmas.{listed_by_is_one, minimal-cover, minimal_tell, none_is_listed_by}
 use Rattle.esto_semantics.proofs.FactLemmas.{image_itself, Mentions-among}
 use Rattle.esto_semantics.proofs.ListedLemmas.{chosen_within}
 use Rattle.esto_semantics.proofs.ShownLemmas.{part_contains}

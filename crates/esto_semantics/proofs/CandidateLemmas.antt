@@ -14,11 +14,12 @@ use Rattle.esto_semantics.specs.Plans.{IsUniversalPlan}
 use Rattle.esto_semantics.specs.Queries.{ConjunctiveQuery, IsQuery, IsAnswer}
 use Rattle.esto_semantics.specs.Rewritings.{IsPlanFor}
 use Rattle.esto_semantics.specs.Rules.{Rule}
-use Rattle.esto_semantics.specs.Sets.{Has}
+use Rattle.esto_term.specs.Sets.{Has}
 use Rattle.esto_semantics.specs.Views.{IsFragmentAnswer}
 use Rattle.esto_semantics.specs.declared.fact.Fact.{Fact}
 use Rattle.esto_semantics.proofs.FactLemmas.{image_itself, Mentions-among}
-use Rattle.esto_semantics.proofs.PlaceLemmas.{Has-within, chosen-from_Has, Has-from_chosen, rank, chosen_at-rank, number_at, number_at-chosen}
+use Rattle.esto_semantics.proofs.PlaceLemmas.{chosen-from_Has, Has-from_chosen, rank, chosen_at-rank, number_at, number_at-chosen}
+use Rattle.esto_term.proofs.SetLemmas.{Has-within}
 use Rattle.esto_semantics.proofs.ScheduleLemmas.{once_each, atom_in_order, IsOrder-moved}
 use Rattle.esto_term.proofs.ListLemmas.{Contains-at, Contains-map, Contains-map_from, Contains-nil, map_itself, thing_at}
 

@@ -1,8 +1,8 @@
 -- Facts under maps: images, what maps send where, matches, and what facts mention.
-use Rattle.std.proofs.Common.{◌≡◌, ◌⊎◌, inl, inr, List, [], ◌∷◌, ◌++◌, map, length, Contains, refl, sym, ap, subst, arith, ℕ}
+use Rattle.std.proofs.Common.{◌≡◌, ◌⊎◌, inl, inr, List, [], ◌∷◌, ◌++◌, map, length, Contains, refl, sym, ap, subst, arith, ℕ, ◌∙◌}
 use Rattle.std.proofs.lemmas.Bool.{cases_eq}
 use Rattle.std.proofs.lemmas.List.Elements.{Contains-append_cases}
-use Rattle.esto_semantics.specs.Facts.{image, Mentions}
+use Rattle.esto_semantics.specs.Facts.{image, Mentions, terms_of}
 use Rattle.esto_semantics.specs.Maps.{SendsInto, Sends}
 use Rattle.esto_semantics.specs.declared.fact.Fact.{Fact}
 use Rattle.esto_semantics.specs.Matches.{IsMatch}
@@ -11,6 +11,8 @@ use Rattle.esto_term.proofs.ListLemmas.{Contains-map, Contains-map_from, map_agr
 use Rattle.esto_term.proofs.ListLemmas.{Contains-at, Contains-cases, Contains-head, Contains-nil, Contains-rest}
 use Rattle.esto_term.proofs.DistinctLemmas.{decided_contains}
 use Rattle.esto_term.specs.declared.term.Term.{Term}
+use Rattle.std.proofs.lemmas.Grind.{flat_map-append}
+use Rattle.std.proofs.lemmas.List.{append-nil}
 
 -- ---- the image of a fact
 
@@ -115,3 +117,8 @@ Sends-match m (first ∷ rest) facts (place ∷ places) match atom inside = elim
   | inl is ↦ subst (λ it. Contains facts (image m it)) is (Contains-at facts place (image m first) match.0)
   | inr later ↦ Sends-match m rest facts places match.1 atom later
 ]
+
+-- ---- terms of facts
+
+pub terms_of-push : (facts : List (Fact Term)) (fact : Fact Term) → terms_of (facts ++ fact ∷ []) ≡ terms_of facts ++ fact.terms
+terms_of-push facts fact = flat_map-append (λ (it : Fact Term). it.terms) facts (fact ∷ []) ∙ ap (λ it. terms_of facts ++ it) (append-nil fact.terms)

@@ -17,14 +17,14 @@ pub mod ScheduleLemmas
 pub mod RewritingLemmas
 pub mod PartLemmas
 pub mod SpreadLemmas
-pub mod SetLemmas
 pub mod AccessLemmas
 pub mod AccessRunLemmas
 pub mod AccessLawLemmas
-pub mod CoverLemmas
 pub mod ListedLemmas
 pub mod WeightLemmas
 pub mod PickLemmas
 pub mod AnsweringLemmas
 pub mod RuleLemmas
 pub mod ValueLemmas
+pub mod SubstitutionLemmas
+pub mod ValuationLemmas

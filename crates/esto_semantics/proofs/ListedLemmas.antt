@@ -1,18 +1,17 @@
 -- Listed sets, and the atoms that a set chooses.
-use Rattle.std.proofs.Common.{◌≢◌, Bool, true, false, List, [], ◌∷◌, length}
-use Rattle.std.proofs.Common.{sym, ◌∙◌, arith}
+use Rattle.std.proofs.Common.{◌≢◌, Bool, true, false, List, [], ◌∷◌, length, sym, ◌∙◌, arith}
 use Rattle.std.specs.Prelude.{◌↔◌, Contains, AllPairs}
 use Rattle.esto_term.specs.declared.term.Term.{Term}
 use Rattle.esto_semantics.specs.declared.fact.Fact.{Fact}
 use Rattle.esto_semantics.specs.Queries.{ConjunctiveQuery}
 use Rattle.esto_semantics.specs.Rules.{Rule}
-use Rattle.esto_semantics.specs.Sets.{Within, IsMinimal, AreMinimal, HaveCount, HaveOneCount, AreInOrder, all_sets}
+use Rattle.esto_term.specs.Sets.{Within, IsMinimal, AreMinimal, HaveCount, HaveOneCount, AreInOrder, all_sets}
 use Rattle.esto_semantics.specs.Listed.{chosen, IsRewriting, IsListed, AreListed}
 use Rattle.esto_semantics.specs.ListedLaws.{AreRewritings, TestedAreRewritings, ListedAreMinimal, ListedExist, ListedIsOne, ListedCover, NoneIsListed}
 use Rattle.esto_semantics.specs.ListedLaws.{ChosenAreNamed}
-use Rattle.esto_semantics.proofs.CoverLemmas.{minimal-cover, listed_by_is_one, none_is_listed_by}
+use Rattle.esto_term.proofs.CoverLemmas.{minimal-cover, listed_by_is_one, none_is_listed_by}
 use Rattle.esto_semantics.proofs.PlaceLemmas.{chosen-from_Has, Has-from_chosen}
-use Rattle.esto_semantics.proofs.SetLemmas.{in_order_once, minimal_exist, all_sets_are_listed}
+use Rattle.esto_term.proofs.SetLemmas.{in_order_once, minimal_exist, all_sets_are_listed}
 use Rattle.esto_term.proofs.ChoiceLemmas.{pairs_cons, pairs_head, pairs_tail}
 use Rattle.esto_term.proofs.ListLemmas.{Contains-at, Contains-filter, Contains-filter_from}
 use Rattle.esto_semantics.specs.Access.{Patterns}

@@ -6,11 +6,12 @@ use Rattle.esto_semantics.specs.Expansions.{IsOfQuery, IsExpansion, IsPartOf}
 use Rattle.esto_semantics.specs.Facts.{image}
 use Rattle.esto_semantics.specs.Listed.{chosen, candidate}
 use Rattle.esto_semantics.specs.Queries.{ConjunctiveQuery}
-use Rattle.esto_semantics.specs.Sets.{Has}
+use Rattle.esto_term.specs.Sets.{Has}
 use Rattle.esto_semantics.specs.declared.fact.Fact.{Fact}
 use Rattle.esto_semantics.proofs.CandidateLemmas.{chosen-among}
 use Rattle.esto_semantics.proofs.FactLemmas.{Mentions-among}
-use Rattle.esto_semantics.proofs.PlaceLemmas.{Has-within, rank, chosen_at-rank, number_at, number_at-rank, number_at-chosen}
+use Rattle.esto_semantics.proofs.PlaceLemmas.{rank, chosen_at-rank, number_at, number_at-rank, number_at-chosen}
+use Rattle.esto_term.proofs.SetLemmas.{Has-within}
 use Rattle.esto_term.proofs.ListLemmas.{thing_at}
 
 module _ (views : List ConjunctiveQuery) (plan : ConjunctiveQuery) (expansion : List (Fact Term)) (is_expansion : IsExpansion views plan expansion)

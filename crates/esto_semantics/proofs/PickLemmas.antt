@@ -8,7 +8,7 @@ use Rattle.esto_term.proofs.ZipLemmas.{zip_at}
 use Rattle.esto_semantics.specs.Listed.{chosen, candidate, IsWeight, IsPick}
 use Rattle.esto_semantics.specs.ListedLaws.{AreWeights, NoRewritingExists, PickExists, PickIsOne, PickWeighsLeast, PickWeighsLeastOfAll, WeightExists}
 use Rattle.esto_semantics.specs.Queries.{ConjunctiveQuery}
-use Rattle.esto_semantics.specs.Sets.{Covers}
+use Rattle.esto_term.specs.Sets.{Covers}
 use Rattle.esto_semantics.proofs.CandidateLemmas.{candidate-IsExecutableRewriting}
 use Rattle.esto_semantics.proofs.ListedLemmas.{chosen_within, listed_cover, none_is_listed}
 use Rattle.esto_semantics.proofs.RewritingLemmas.{maps_onto_rewriting}

@@ -1,36 +1,10 @@
--- Places of lists, sets of numbers, and the atoms that a set chooses.
-use Rattle.std.proofs.Common.{◌≡◌, ◌↔◌, inl, inr, zero, suc, ℕ, ◌<◌, Bool, true, false, List, [], ◌∷◌, length, slice_get, Contains, Some, refl, ap, subst}
-use Rattle.std.proofs.Common.{arith}
+-- The atoms that a set of numbers chooses, and their places.
+use Rattle.std.proofs.Common.{◌≡◌, inl, inr, zero, suc, ℕ, Bool, true, false, List, [], ◌∷◌, slice_get, Contains, Some, refl, ap, subst}
 use Rattle.esto_term.specs.declared.term.Term.{Term}
 use Rattle.esto_semantics.specs.Listed.{chosen}
-use Rattle.esto_semantics.specs.Sets.{Has}
+use Rattle.esto_term.specs.Sets.{Has}
 use Rattle.esto_semantics.specs.declared.fact.Fact.{Fact}
 use Rattle.esto_term.proofs.ListLemmas.{Contains-cases, Contains-head, Contains-nil, Contains-rest}
-
--- ---- sets of numbers
-
--- the set of the numbers below a count that pass a test
-abbrev pub passing : (ℕ → Bool) → ℕ → List Bool
-passing test zero = []
-passing test (suc count) = test 0 ∷ passing (λ number. test (suc number)) count
-
-pub length-passing : (test : ℕ → Bool) (count : ℕ) → length (passing test count) ≡ count
-length-passing test zero = refl
-length-passing test (suc count) = ap suc (length-passing (λ number. test (suc number)) count)
-
-pub passing-Has : (test : ℕ → Bool) (count number : ℕ) → Has (passing test count) number ↔ ((number < count) × (test number ≡ true))
-passing-Has test zero number = ((λ has. absurd (cc)), (λ both. absurd (omega (arith, both.0))))
-passing-Has test (suc count) zero = ((λ has. (omega arith, has)), (λ both. both.1))
-passing-Has test (suc count) (suc number) =
-    let rest = passing-Has (λ it. test (suc it)) count number in (
-      (λ has. let both = rest.0 has in (omega (arith, both.0), both.1)),
-      (λ both. rest.1 (omega (arith, both.0), both.1)),
-    )
-
-pub Has-within : (set : List Bool) (number : ℕ) → Has set number → number < length set
-Has-within [] number has = absurd (cc)
-Has-within (first ∷ rest) zero has = omega arith
-Has-within (first ∷ rest) (suc number) has = let below = Has-within rest number has in omega arith
 
 -- ---- what a set chooses
 

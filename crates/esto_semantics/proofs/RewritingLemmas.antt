@@ -16,13 +16,14 @@ use Rattle.esto_semantics.specs.PlanLaws.{QueriesMapOntoExecutableSets}
 use Rattle.esto_semantics.specs.Queries.{ConjunctiveQuery, IsQuery}
 use Rattle.esto_semantics.specs.Rewritings.{IsPlanFor, MapsOnto}
 use Rattle.esto_semantics.specs.Rules.{Rule}
-use Rattle.esto_semantics.specs.Sets.{Has}
+use Rattle.esto_term.specs.Sets.{Has}
 use Rattle.esto_semantics.specs.Views.{IsFragmentAnswer}
 use Rattle.esto_semantics.specs.declared.fact.Fact.{Fact}
 use Rattle.esto_semantics.proofs.AnswerLemmas.{contained-in_mapped}
 use Rattle.esto_semantics.proofs.CandidateLemmas.{candidate-equivalent}
 use Rattle.esto_semantics.proofs.FactLemmas.{Mentions-sent}
-use Rattle.esto_semantics.proofs.PlaceLemmas.{passing, length-passing, passing-Has, chosen-from_Has, Has-from_chosen}
+use Rattle.esto_semantics.proofs.PlaceLemmas.{chosen-from_Has, Has-from_chosen}
+use Rattle.esto_term.proofs.SetLemmas.{passing, length-passing, passing-Has}
 use Rattle.esto_semantics.proofs.ScheduleLemmas.{has_number, has_number-Decides, once_each, atom_in_order, IsOrder-moved}
 use Rattle.esto_term.proofs.ListLemmas.{Contains-at, Contains-map, Contains-map_from, place-from_Contains}
 

@@ -4,7 +4,7 @@ use Rattle.std.specs.Prelude.{◌≡◌, ◌≢◌, ◌⊎◌, ◌↔◌, ℕ, �
 use Rattle.esto_term.specs.declared.term.Term.{Term}
 use Rattle.esto_semantics.specs.Maps.{IsConstant}
 use Rattle.esto_semantics.specs.Queries.{ConjunctiveQuery}
-use Rattle.esto_semantics.specs.Sets.{Has, Within}
+use Rattle.esto_term.specs.Sets.{Has, Within}
 use Rattle.esto_semantics.specs.declared.fact.Fact.{Fact}
 
 -- The binding patterns of each fragment, by its number. A fragment has one or more, and a pattern has a truth value for each column, true for an input.

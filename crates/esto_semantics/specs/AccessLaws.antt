@@ -1,7 +1,7 @@
 -- Laws of executable sets, accessible parts and stated orders.
 use Rattle.std.specs.Prelude.{◌≡◌, ◌↔◌, ℕ, Bool, false, List, length, replicate}
 use Rattle.esto_term.specs.declared.term.Term.{Term}
-use Rattle.esto_semantics.specs.Sets.{Within, IsMinimal, numbers, united}
+use Rattle.esto_term.specs.Sets.{Within, IsMinimal, numbers, united}
 use Rattle.esto_semantics.specs.Access.{Patterns, AreOpen, IsExecutable, IsAccessiblePart, IsStatedOrder, HoldsExecutably, HoldsOfPart}
 use Rattle.esto_semantics.specs.Queries.{ConjunctiveQuery, IsAnswer}
 use Rattle.esto_semantics.specs.Rules.{Rule}

@@ -1,7 +1,7 @@
 -- Steps to an order: the numbers of a set that can be taken next.
 use Rattle.std.specs.Prelude.{◌≡◌, ℕ, ◌<◌, Bool, List, Some, length, slice_get}
 use Rattle.esto_term.specs.declared.term.Term.{Term}
-use Rattle.esto_semantics.specs.Sets.{Has}
+use Rattle.esto_term.specs.Sets.{Has}
 use Rattle.esto_semantics.specs.Access.{Patterns, IsAccessible}
 use Rattle.esto_semantics.specs.declared.fact.Fact.{Fact}
 

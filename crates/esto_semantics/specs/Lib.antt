@@ -8,7 +8,6 @@ pub mod Views
 pub mod Instances
 pub mod Followed
 pub mod Plans
-pub mod Sets
 pub mod Access
 pub mod Listed
 pub mod WellFormed
@@ -23,9 +22,11 @@ pub mod Rewritings
 pub mod ContainmentLaws
 pub mod ExpansionLaws
 pub mod WellFormedLaws
-pub mod SetLaws
 pub mod AccessSteps
 pub mod AccessLaws
 pub mod ListedLaws
 pub mod PlanLaws
 pub mod DocumentRules
+pub mod Expanded
+pub mod Spreads
+pub mod Valuations

@@ -7,7 +7,7 @@ use Rattle.esto_semantics.specs.Queries.{ConjunctiveQuery, IsQuery, IsAnswer}
 use Rattle.esto_semantics.specs.Rules.{Rule}
 use Rattle.esto_semantics.specs.Containment.{IsEquivalent}
 use Rattle.esto_semantics.specs.Views.{IsFragmentAnswer}
-use Rattle.esto_semantics.specs.Sets.{Has, IsMinimal, AreListedBy}
+use Rattle.esto_term.specs.Sets.{Has, IsMinimal, AreListedBy}
 use Rattle.esto_semantics.specs.Access.{Patterns, IsExecutable, IsExecutableQuery}
 use Rattle.esto_semantics.specs.declared.fact.Fact.{Fact}
 

@@ -4,7 +4,7 @@ use Rattle.std.specs.List.{AllZip}
 use Rattle.esto_term.specs.declared.term.Term.{Term}
 use Rattle.esto_semantics.specs.Queries.{ConjunctiveQuery}
 use Rattle.esto_semantics.specs.Rules.{Rule}
-use Rattle.esto_semantics.specs.Sets.{Has, IsMinimal, AreMinimal, AreListedBy, Covers, AreInOrder, Rises, TellHolds, all_sets}
+use Rattle.esto_term.specs.Sets.{Has, IsMinimal, AreMinimal, AreListedBy, Covers, AreInOrder, Rises, TellHolds, all_sets}
 use Rattle.esto_semantics.specs.Listed.{chosen, AnswersQuery, IsEquivalentPart, IsRewriting, IsListed, AreListed, IsExecutableRewriting, IsWeight, IsPick}
 use Rattle.esto_semantics.specs.declared.fact.Fact.{Fact}
 use Rattle.esto_semantics.specs.Access.{Patterns, HoldsExecutably, HoldsOfPart}

@@ -1,18 +1,19 @@
-//! What the words of the field mean: facts, databases, queries and their answers, rules, containment, views,
-//! universal plans, binding patterns and listed sets. The definitions stand in `specs/`; laws about them are
-//! the contracts of public functions here. Begin with `universal_instances_decide_containment`,
+//! What the words of the field mean: facts, databases, valuations, queries and their answers, rules, containment,
+//! views, expansions, universal plans, binding patterns and listed sets. The definitions stand in `specs/`; laws
+//! about them are the contracts of public functions here. Begin with `universal_instances_decide_containment`,
 //! `rewritings_map_onto_sets` and `listed_sets_are_minimal`.
 #![tactic(auto)]
 
 mod access;
 mod containment;
+mod expanded;
 mod expansions;
 mod fact;
 mod followed;
 mod listed;
 mod plans;
-mod sets;
 mod standing;
+mod valuation;
 mod well_formed;
 
 pub use access::{
@@ -25,6 +26,7 @@ pub use containment::{
     universal_instances_decide_containment, universal_instances_satisfy_queries,
     universal_instances_show_what_is_not_contained,
 };
+pub use expanded::{ExpandedFact, ExpandedFacts};
 pub use expansions::{
     an_expansion_means_the_same, an_expansion_of_a_plan_expands_its_candidates,
     queries_over_fragments_have_expansions,
@@ -40,6 +42,6 @@ pub use plans::{
     queries_contain_what_they_map_to, queries_map_onto_executable_sets, rewritings_map_onto_sets,
     rows_of_a_universal_instance_are_a_universal_plan, sets_weigh_no_more_than_what_maps_onto_them,
 };
-pub use sets::{all_sets_are_listed, minimal_sets_cover, minimal_sets_tell, sets_are_ordered};
 pub use standing::databases_stand_for_facts;
+pub use valuation::{Valuation, valuations_are_maps};
 pub use well_formed::{facts_outside_a_schema_do_not_count, well_formed_databases_suffice};

@@ -1,10 +1,10 @@
 -- Rows that are found by the places that indexes give, and rows that are all looked at.
-use Rattle.std.proofs.Common.{◌≡◌, inl, inr, ℕ, zero, suc, ◌+◌, ◌<◌, ◌≤◌, Bool, true, false, cond, List, [], ◌∷◌, map, length, take, get_or, Option, Some, None, slice_get}
+use Rattle.std.proofs.Common.{◌≡◌, inl, inr, ℕ, ◌+◌, ◌<◌, ◌≤◌, true, List, [], ◌∷◌, map, length, take, get_or, Option, Some, None}
 use Rattle.std.proofs.Common.{Vec, Global, Contains, sym, ap, ◌∙◌, subst, arith}
 use Rattle.std.specs.Prelude.{MatchOption}
 use Rattle.std.proofs.lemmas.Bool.{cases_order}
 use Rattle.std.proofs.lemmas.Option.{same_Some, get_or_from_slice_get, slice_get_within}
-use Rattle.esto_term.proofs.ListLemmas.{Contains-nil, Contains-head, Contains-rest, Contains-at, map_at, place-from_Contains}
+use Rattle.esto_term.proofs.ListLemmas.{Contains-nil, Contains-at, map_at, place-from_Contains}
 use Rattle.esto_columns.specs.Indexed.{AreAmongPlaces, key_at}
 use Rattle.esto_columns.specs.Picked.{places_where}
 use Rattle.esto_steps.specs.declared.steps.Get.{Get}
@@ -13,23 +13,9 @@ use Rattle.esto_steps.specs.declared.steps.Source.{Source}
 use Rattle.esto_steps.specs.Meaning.{code_at, IsMet, Follows}
 use Rattle.esto_steps.specs.Joined.{IsFollower, IsFollowerAt, IsKept, GainsOnly}
 use Rattle.esto_steps.specs.Probed.{HaveMet, HaveAllMet}
+use Rattle.esto_columns.proofs.StoredLemmas.{where_has}
 
 -- ---- places of a key
-
-where_has : {X : Type 0} (test : X → Bool) (from : ℕ) (xs : List X) (place : ℕ) (x : X) → slice_get xs place ≡ Some x → test x ≡ true
-    → Contains (places_where test from xs) (from + place)
-where_has test from [] place x at passes = absurd (cc)
-where_has test from (first ∷ rest) zero x at passes =
-    let is : first ≡ x = cc in
-    let told : test first ≡ true = ap test is ∙ passes in
-    rw told (subst (Contains (from ∷ places_where test (from + 1) rest)) (omega arith) (Contains-head from (places_where test (from + 1) rest)))
-where_has test from (first ∷ rest) (suc place) x at passes =
-    by (test first) (subst (Contains (places_where test (from + 1) rest)) (omega arith) (where_has test (from + 1) rest place x at passes))
-  where
-    by : (answer : Bool) → Contains (places_where test (from + 1) rest) (from + suc place)
-        → Contains (cond answer (from ∷ places_where test (from + 1) rest) (places_where test (from + 1) rest)) (from + suc place)
-    by true inside = Contains-rest from (places_where test (from + 1) rest) (from + suc place) inside
-    by false inside = inside
 
 -- the places of the code that the link's source names have all rows that meet it
 pub key_has_met : (cells : List ℕ) (rows : List (List ℕ)) (link : Link) (code : ℕ) (places : List ℕ) → code_at cells link.source ≡ Some code

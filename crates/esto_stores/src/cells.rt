@@ -39,16 +39,6 @@ pub fn all_are_texts(cells: &ByteRecord) -> bool
     true
 }
 
-/// A row of no cells, with room for so many.
-pub fn row_with_room(alloc: Global, cells: usize) -> Result<TextRow, OutOfMemory>
-    ensures { IfOk result (λ row. row ≡ []) }
-{
-    match Vec::with_capacity(alloc, cells) {
-        Ok(cells) => Ok(List::from_vec(cells)),
-        Err(_) => Err(OutOfMemory),
-    }
-}
-
 /// Puts a cell at the end of a row, if it is a text.
 pub fn push_cell(alloc: Global, row: &mut TextRow, cell: &[u8]) -> Result<(), TextError>
     ensures { PutsCell row.old cell.now row.new result }
@@ -66,7 +56,7 @@ pub fn push_cell(alloc: Global, row: &mut TextRow, cell: &[u8]) -> Result<(), Te
 pub fn text_row(alloc: Global, cells: &ByteRecord, places: &[usize]) -> Result<TextRow, TextError>
     ensures { ReadsRow (cells_at places.now (fields_of cells.now)) result }
 {
-    let Ok(mut row) = row_with_room(alloc, places.len()) else {
+    let Ok(mut row) = List::with_room(alloc, places.len()) else {
         return Err(TextError::OutOfMemory);
     };
     'places: for place in places {

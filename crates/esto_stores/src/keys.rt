@@ -5,7 +5,7 @@ ghost use Rattle.esto_lines.specs.Faults.{Gives};
 ghost use Rattle.esto_stores.specs.Rows.{ReadsRow};
 ghost use Rattle.esto_stores.specs.Keys.{tab, without_return, key_rows, key_fault};
 
-use crate::cells::{push_cell, row_with_room};
+use crate::cells::push_cell;
 use esto_lines::{cut_line, fault};
 use esto_ports::{FileError, FileKind};
 use esto_term::{List, OutOfMemory, TextError, TextRow, TextRows};
@@ -46,7 +46,7 @@ fn split_cells<'a>(alloc: Global, line: &'a [u8]) -> Result<Vec<&'a [u8]>, OutOf
 fn text_cells(alloc: Global, cells: &[&[u8]]) -> Result<TextRow, TextError>
     ensures { ReadsRow (map (λ cell. cell.now) cells.now) result }
 {
-    let Ok(mut row) = row_with_room(alloc, cells.len()) else {
+    let Ok(mut row) = List::with_room(alloc, cells.len()) else {
         return Err(TextError::OutOfMemory);
     };
     'cells: for cell in cells {

@@ -4,3 +4,5 @@ pub mod Kinds
 pub mod Nesting
 pub mod Order
 pub mod Finite
+pub mod Sets
+pub mod SetLaws

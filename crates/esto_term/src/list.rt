@@ -55,6 +55,16 @@ impl<T> List<T> {
         List { items }
     }
 
+    /// The empty list, with room for so many items.
+    pub fn with_room(alloc: Global, room: usize) -> Result<List<T>, OutOfMemory>
+        ensures { IfOk result (λ it. it ≡ []) }
+    {
+        match Vec::with_capacity(alloc, room) {
+            Ok(items) => Ok(List { items }),
+            Err(_) => Err(OutOfMemory),
+        }
+    }
+
     /// How many items the list has.
     pub fn len(&self) -> usize
         ensures { result ≡ length self.now }
@@ -169,5 +179,15 @@ impl Replicate for u64 {
 impl Replicate for usize {
     fn copy(&self, _alloc: Global) -> Result<usize, OutOfMemory> {
         Ok(*self)
+    }
+}
+
+/// Puts an item at the end of a vector.
+pub fn push<T: Drop>(items: &mut Vec<T>, item: T) -> Result<(), OutOfMemory>
+    ensures { OnOk result (items.new.items ≡ items.old.items ++ item ∷ []) }
+{
+    match items.push(item) {
+        Ok(()) => Ok(()),
+        Err(_) => Err(OutOfMemory),
     }
 }

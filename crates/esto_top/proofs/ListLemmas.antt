@@ -12,9 +12,9 @@ use Rattle.esto_semantics.specs.Access.{Patterns, IsExecutable, IsStatedOrder}
 use Rattle.esto_semantics.specs.AccessLaws.{StatedOrderExists}
 use Rattle.esto_semantics.specs.Listed.{chosen, IsWeight}
 use Rattle.esto_semantics.specs.ListedLaws.{PickExists, WeightExists}
-use Rattle.esto_semantics.specs.Sets.{Has}
+use Rattle.esto_term.specs.Sets.{Has}
 use Rattle.esto_semantics.specs.declared.fact.Fact.{Fact}
-use Rattle.esto_semantics.proofs.SetLemmas.{decided_has}
+use Rattle.esto_term.proofs.SetLemmas.{decided_has}
 use Rattle.esto_list.specs.Items.{IsPickOf, sets_of, totals_of}
 use Rattle.esto_list.specs.Text.{IsListText, list_text}
 use Rattle.esto_list.specs.declared.listing.Listed.{Listed}

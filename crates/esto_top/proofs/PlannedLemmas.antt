@@ -1,6 +1,5 @@
 -- A query over a catalogue has a printed plan, or its run clashes; a printed plan has its list.
-use Rattle.std.proofs.Common.{◌≡◌, ◌⊎◌, inl, inr, ℕ, Bool, true, false, List, length, Some, slice_get, slice_index, refl, sym, subst}
-use Rattle.std.proofs.Common.{arith}
+use Rattle.std.proofs.Common.{◌≡◌, ◌⊎◌, inl, inr, ℕ, Bool, true, false, List, length, Some, slice_get, slice_index, refl, sym, subst, arith}
 use Rattle.esto_mapping.specs.Soundness.{IsSoundCatalogue}
 use Rattle.esto_mapping.specs.declared.catalogue.Catalogue.{Catalogue}
 use Rattle.esto_constraint.proofs.RankLemmas.{depth_of, depth-small, ranks-RanksRise, ranks-small, rules-AreRules}
@@ -15,7 +14,7 @@ use Rattle.esto_query.specs.declared.query.Query.{Query}
 use Rattle.esto_semantics.specs.Listed.{AreListed}
 use Rattle.esto_semantics.specs.Queries.{ConjunctiveQuery, IsQuery}
 use Rattle.esto_semantics.specs.Rules.{Rule, AreRules}
-use Rattle.esto_semantics.specs.Sets.{AreListedBy}
+use Rattle.esto_term.specs.Sets.{AreListedBy}
 use Rattle.esto_disjuncts.specs.Members.{IsListIn}
 use Rattle.esto_union.specs.Unions.{IsRewritingIn, queries_of}
 use Rattle.esto_term.proofs.ListLemmas.{Contains-map_from, map_at-from}

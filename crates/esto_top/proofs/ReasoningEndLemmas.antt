@@ -28,11 +28,12 @@ use Rattle.esto_semantics.specs.Expansions.{IsOfQuery}
 use Rattle.esto_semantics.specs.Instances.{IsUniversalFor}
 use Rattle.esto_semantics.specs.Listed.{HasCandidate, IsEquivalentPart, IsSafe, candidate, chosen}
 use Rattle.esto_semantics.specs.Maps.{IsFixedBy, IsFlat}
-use Rattle.esto_semantics.specs.Sets.{AreListedBy}
+use Rattle.esto_term.specs.Sets.{AreListedBy}
 use Rattle.esto_semantics.specs.declared.fact.Fact.{Fact}
 use Rattle.esto_semantics.proofs.CandidateLemmas.{chosen-among}
 use Rattle.esto_semantics.proofs.FactLemmas.{Mentions-among}
-use Rattle.esto_semantics.proofs.PlaceLemmas.{chosen-from_Has, Has-within}
+use Rattle.esto_semantics.proofs.PlaceLemmas.{chosen-from_Has}
+use Rattle.esto_term.proofs.SetLemmas.{Has-within}
 use Rattle.esto_semantics.specs.Queries.{ConjunctiveQuery, IsQuery, IsAnswer}
 use Rattle.esto_semantics.specs.Rules.{Rule, AreRules}
 use Rattle.esto_constraint.specs.Constraints.{rules_of}

@@ -1,6 +1,5 @@
 -- Whether a set of a plan's atoms is a rewriting is decided: the candidate's expansion is chased to an end.
-use Rattle.std.proofs.Common.{◌≡◌, ◌↔◌, inl, inr, ℕ, ◌<◌, Bool, List, [], ◌∷◌, length, Some, slice_get, Contains, sym, ap}
-use Rattle.std.proofs.Common.{◌∙◌, subst}
+use Rattle.std.proofs.Common.{◌≡◌, ◌↔◌, inl, inr, ℕ, ◌<◌, Bool, List, [], ◌∷◌, length, Some, slice_get, Contains, sym, ap, ◌∙◌, subst}
 use Rattle.esto_term.specs.declared.term.Term.{Term}
 use Rattle.esto_term.proofs.ChoiceLemmas.{Decided, decided_as, decided_below, kept, decided_each}
 use Rattle.esto_term.proofs.DistinctLemmas.{decided_contains}
@@ -19,8 +18,8 @@ use Rattle.esto_semantics.specs.Plans.{IsUniversalPlan}
 use Rattle.esto_semantics.specs.Queries.{ConjunctiveQuery, IsQuery, IsAnswer}
 use Rattle.esto_semantics.specs.Rewritings.{IsPlanFor}
 use Rattle.esto_semantics.specs.Rules.{Rule, AreRules}
-use Rattle.esto_semantics.specs.SetLaws.{AllSetsAreListed, MinimalExist}
-use Rattle.esto_semantics.specs.Sets.{Has, AreListedBy, HaveCount, HaveOneCount, all_sets}
+use Rattle.esto_term.specs.SetLaws.{AllSetsAreListed, MinimalExist}
+use Rattle.esto_term.specs.Sets.{Has, AreListedBy, HaveCount, HaveOneCount, all_sets}
 use Rattle.esto_semantics.specs.Unions.{IsUnionAnswer}
 use Rattle.esto_semantics.specs.Views.{IsFragmentAnswer}
 use Rattle.esto_semantics.specs.declared.fact.Fact.{Fact}
@@ -28,9 +27,8 @@ use Rattle.esto_semantics.specs.declared.fact.Value.{Value}
 use Rattle.esto_plan_laws.specs.UnionSets.{AreUnionListed, IsUnionRewriting}
 use Rattle.esto_semantics.proofs.CandidateLemmas.{chosen-among}
 use Rattle.esto_semantics.proofs.FactLemmas.{Mentions-among}
-use Rattle.esto_semantics.proofs.SetLemmas.{decided_has}
+use Rattle.esto_term.proofs.SetLemmas.{decided_has, Has-within}
 use Rattle.esto_semantics.proofs.TermLemmas.{Const-apart-Plain, decided_term}
-use Rattle.esto_semantics.proofs.PlaceLemmas.{Has-within}
 use Rattle.esto_chase_laws.specs.ReceivedLaws.{StatesAreUniversal, ClashesReceiveNothing}
 use Rattle.esto_chase_laws.specs.RunLaws.{StartsHaveTheBody}
 use Rattle.esto_chase_laws.specs.Runs.{Step, IsEnd, IsRun, IsStart, start_of}

@@ -1,6 +1,5 @@
 -- The steps of `list` and of `run` come to an end or ask for a file that is not there.
-use Rattle.std.proofs.Common.{◌≡◌, ◌⊎◌, inl, inr, ℕ, ◌-◌, ◌<◌, Bool, List, [], ◌∷◌, length, Some, None, Option, Contains, refl}
-use Rattle.std.proofs.Common.{subst, arith}
+use Rattle.std.proofs.Common.{◌≡◌, ◌⊎◌, inl, inr, ℕ, ◌-◌, ◌<◌, Bool, List, [], ◌∷◌, length, Some, None, Option, Contains, refl, subst, arith}
 use Rattle.std.proofs.lemmas.Bool.{cases_order}
 use Rattle.either.specs.Either.{MatchEither}
 use Rattle.either.specs.declared.Either.{Either}
@@ -42,8 +41,7 @@ use Rattle.esto_views.specs.declared.plan.Plan.{Plan}
 use Rattle.std.proofs.lemmas.Option.{slice_get_within}
 use Rattle.esto_top.specs.Ends.{Ends, EndsOrLacks}
 use Rattle.esto_top.specs.LawsBelow.{BelowLaws}
-use Rattle.esto_top.proofs.CourseLemmas.{ends_by, ends_then, each_ends, fetches_ends, gives_ends, goes_ends, judges_accepted}
-use Rattle.esto_top.proofs.CourseLemmas.{judges_goes, judges_refuses}
+use Rattle.esto_top.proofs.CourseLemmas.{ends_by, ends_then, each_ends, fetches_ends, gives_ends, goes_ends, judges_accepted, judges_goes, judges_refuses}
 use Rattle.esto_top.proofs.FileLemmas.{answers_text, file_answers}
 use Rattle.esto_top.proofs.ListLemmas.{text_exists}
 use Rattle.esto_top.proofs.PlannedLemmas.{end_exists, list_exists}

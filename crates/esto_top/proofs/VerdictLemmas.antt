@@ -20,10 +20,10 @@ use Rattle.esto_semantics.specs.declared.fact.Fact.{Fact}
 use Rattle.esto_term.proofs.ChoiceLemmas.{Decided, decided_as, decided_both, decided_in}
 use Rattle.esto_term.proofs.ListLemmas.{Contains-head, Contains-rest}
 use Rattle.esto_term.specs.declared.term.Term.{Term}
-use Rattle.esto_world_laws.specs.Matches.{IsMatch, match_map, taken}
-use Rattle.esto_world_laws.specs.Worlds.{Linked}
-use Rattle.esto_world_laws.specs.declared.entry.Claim.{Claim}
-use Rattle.esto_world_laws.specs.declared.entry.Claim.TheVariants.{Fact as Stated}
+use Rattle.esto_chase_laws.specs.WorldMatches.{IsMatch, match_map, taken}
+use Rattle.esto_chase_laws.specs.Worlds.{Linked}
+use Rattle.esto_chase_laws.specs.declared.entry.Claim.{Claim}
+use Rattle.esto_chase_laws.specs.declared.entry.Claim.TheVariants.{Fact as Stated}
 use Rattle.esto_term.proofs.DecisionLemmas.{decided_three}
 
 -- ---- which terms are linked

@@ -19,7 +19,7 @@ use Rattle.esto_planning.specs.Planning.{plans_query}
 use Rattle.esto_ports.specs.Files.{Files}
 use Rattle.esto_query.specs.declared.query.Query.{Query}
 use Rattle.esto_term.proofs.DistinctLemmas.{decided_contains}
-use Rattle.esto_semantics.specs.Sets.{Has}
+use Rattle.esto_term.specs.Sets.{Has}
 use Rattle.esto_term.proofs.ChoiceLemmas.{Decided}
 use Rattle.esto_term.proofs.ListLemmas.{Contains-cases, Contains-nil}
 use Rattle.esto_views.proofs.ExpandedLemmas.{plan_expands}

@@ -23,7 +23,7 @@ use Rattle.esto_semantics.specs.PlanLaws.{ContainedCandidateIsEquivalent}
 use Rattle.esto_semantics.specs.Instances.{IsUniversalFor}
 use Rattle.esto_semantics.specs.Queries.{ConjunctiveQuery}
 use Rattle.esto_semantics.specs.Rules.{Rule, IsRule}
-use Rattle.esto_semantics.specs.SetLaws.{AllSetsAreListed, MinimalExist}
+use Rattle.esto_term.specs.SetLaws.{AllSetsAreListed, MinimalExist}
 use Rattle.esto_universal.specs.PlannedLaws.{PlanOfRunIsUniversal, PlanOfRunReceivesUnions}
 use Rattle.esto_views.specs.RenamedLaws.{RenamedPlanIsRenamed}
 use Rattle.esto_views.specs.Fragments.{views_of}

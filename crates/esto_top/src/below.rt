@@ -14,12 +14,12 @@ use esto_planning::{planned_plans_are_universal, planned_plans_have_their_form};
 use esto_query::queries_are_sound;
 use esto_reading_laws::readings_are_total;
 use esto_semantics::{
-    all_sets_are_listed, an_expansion_means_the_same, candidates_contain_the_query,
-    executable_sets_unite, listed_sets_are_minimal, minimal_sets_cover,
-    parts_of_an_instance_contain_the_query, picks_exist, queries_are_their_own_instances,
-    queries_over_fragments_have_expansions, rewritings_without_inputs, stated_orders_exist,
-    weights_exist,
+    an_expansion_means_the_same, candidates_contain_the_query, executable_sets_unite,
+    listed_sets_are_minimal, parts_of_an_instance_contain_the_query, picks_exist,
+    queries_are_their_own_instances, queries_over_fragments_have_expansions,
+    rewritings_without_inputs, stated_orders_exist, weights_exist,
 };
+use esto_term::{all_sets_are_listed, minimal_sets_cover};
 use esto_universal::plans_of_runs_are_universal;
 use esto_views::{plans_are_sound, plans_fit_views, renamed_plans_are_one};
 

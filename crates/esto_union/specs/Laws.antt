@@ -9,7 +9,7 @@ use Rattle.esto_semantics.specs.Facts.{Database}
 use Rattle.esto_semantics.specs.Listed.{candidate, IsListed}
 use Rattle.esto_semantics.specs.Queries.{ConjunctiveQuery}
 use Rattle.esto_semantics.specs.Rules.{Meets}
-use Rattle.esto_semantics.specs.Sets.{AreInOrder}
+use Rattle.esto_term.specs.Sets.{AreInOrder}
 use Rattle.esto_semantics.specs.Unions.{IsUnionAnswer, IsUnionFragmentAnswer}
 use Rattle.esto_semantics.specs.declared.fact.Value.{Value}
 use Rattle.esto_views.specs.Fragments.{views_of, patterns_of}

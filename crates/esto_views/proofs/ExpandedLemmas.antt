@@ -17,12 +17,12 @@ use Rattle.esto_query.specs.Making.{query_of}
 use Rattle.esto_query.specs.Soundness.{IsSound}
 use Rattle.esto_query.specs.declared.query.Query.{Query}
 use Rattle.esto_views.specs.Expanded.{placed, AreExpanded, Expands}
-use Rattle.esto_query.specs.Expanded.{facts_of}
+use Rattle.esto_semantics.specs.Expanded.{facts_of}
 use Rattle.esto_views.specs.Fragments.{views_of, IsFragment}
 use Rattle.esto_views.specs.Plans.{fact_of, plan_query, IsAtomOver, IsPlanOver}
 use Rattle.esto_views.specs.Soundness.{IsSoundPlan}
-use Rattle.esto_query.specs.Spreads.{IsSpread}
-use Rattle.esto_query.specs.declared.expanded.ExpandedFact.{ExpandedFact}
+use Rattle.esto_semantics.specs.Spreads.{IsSpread}
+use Rattle.esto_semantics.specs.declared.expanded.ExpandedFact.{ExpandedFact}
 use Rattle.esto_views.specs.declared.fragments.FragmentDef.{FragmentDef}
 use Rattle.esto_views.specs.declared.plan.PlanAtom.{PlanAtom}
 use Rattle.esto_views.specs.declared.plan.Plan.{Plan}

@@ -9,7 +9,7 @@ use Rattle.esto_semantics.specs.Expansions.{IsInner}
 use Rattle.esto_semantics.specs.Facts.{Mentions}
 use Rattle.esto_semantics.specs.Queries.{ConjunctiveQuery}
 use Rattle.esto_semantics.proofs.TermLemmas.{Const-apart-Plain}
-use Rattle.esto_query.specs.Spreads.{AreInner}
+use Rattle.esto_semantics.specs.Spreads.{AreInner}
 use Rattle.esto_term.proofs.ListLemmas.{Contains-nil}
 
 pub inner-from_parts : (view : ConjunctiveQuery) (number : ℕ) → Mentions view.body (Plain number) → (Contains view.head (Plain number) → ⊥)

@@ -11,3 +11,4 @@ pub mod RenamedLemmas
 pub mod RenamedOnceLemmas
 pub mod NamingLemmas
 pub mod PrintingLemmas
+pub mod ContainedLemmas

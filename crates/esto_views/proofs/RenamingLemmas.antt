@@ -9,7 +9,7 @@ use Rattle.esto_term.specs.declared.term.Term.TheOpen.{Term-F}
 use Rattle.esto_term.specs.declared.term.Term.TheVariants.{Const, Plain, outs-Const, outs-Plain}
 use Rattle.esto_term.specs.Order.{same_term}
 use Rattle.esto_semantics.proofs.TermLemmas.{same_term-Decides}
-use Rattle.esto_query.proofs.SubstitutionLemmas.{apart_told, cond_is}
+use Rattle.esto_semantics.proofs.SubstitutionLemmas.{apart_told, cond_is}
 use Rattle.esto_views.specs.Reading.{OccursBefore, AreFirstOccurrences}
 use Rattle.esto_views.specs.Renamings.{IsRenaming, numbered}
 use Rattle.esto_term.proofs.ListLemmas.{Contains-head, Contains-rest}

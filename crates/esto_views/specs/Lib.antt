@@ -9,3 +9,4 @@ pub mod RenamedLaws
 pub mod Renamed
 pub mod Names
 pub mod Printing
+pub mod Contained

@@ -6,17 +6,18 @@ ghost use Rattle.esto_semantics.specs.Facts.{image};
 ghost use Rattle.esto_semantics.specs.Maps.{AreFlat};
 ghost use Rattle.esto_query.specs.Making.{query_of};
 ghost use Rattle.esto_views.specs.Expanded.{placed, AreExpanded, Expands};
-ghost use Rattle.esto_query.specs.Expanded.{facts_of};
+ghost use Rattle.esto_semantics.specs.Expanded.{facts_of};
 ghost use Rattle.esto_views.specs.Fragments.{views_of};
 ghost use Rattle.esto_views.specs.Plans.{plan_query, IsAtomOver, IsPlanOver};
-ghost use Rattle.esto_query.specs.Spreads.{IsSpread, substituted};
+ghost use Rattle.esto_semantics.specs.Spreads.{IsSpread, substituted};
 ghost use Rattle.esto_views.specs.declared.fragments.FragmentDef.{FragmentDef};
 ghost use Rattle.esto_views.specs.declared.plan.Plan.{Plan};
 
 use crate::fragments::FragmentDefs;
 use crate::plan::{Plan, PlanAtom, plans_are_sound};
 use crate::spread::{Spread, spread_of};
-use esto_query::{Atom, ExpandedFact, ExpandedFacts, queries_are_sound};
+use esto_query::{Atom, queries_are_sound};
+use esto_semantics::{ExpandedFact, ExpandedFacts};
 use esto_term::{List, OutOfMemory};
 use std::alloc::Global;
 

@@ -3,7 +3,7 @@ ghost use Rattle.std.specs.Prelude.{◌↔◌, IsTrue, IfOk};
 ghost use Rattle.esto_term.specs.declared.term.Term.TheVariants.{Plain};
 ghost use Rattle.esto_semantics.specs.Expansions.{IsInner};
 ghost use Rattle.esto_query.specs.Making.{query_of};
-ghost use Rattle.esto_query.specs.Spreads.{AreInner};
+ghost use Rattle.esto_semantics.specs.Spreads.{AreInner};
 
 use esto_query::{Query, mentions, queries_are_sound};
 use esto_term::{OutOfMemory, Term, Values, has_term};

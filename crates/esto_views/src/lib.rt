@@ -3,6 +3,7 @@
 #![tactic(auto)]
 
 mod atoms;
+mod contained;
 mod expansion;
 mod fragments;
 mod index;
@@ -18,7 +19,7 @@ mod renaming;
 mod spread;
 
 pub use atoms::plan_facts;
-pub use esto_query::{ExpandedFact, ExpandedFacts};
+pub use contained::matched_sets_are_contained;
 pub use expansion::{expand, plans_fit_views};
 pub use fragments::{Access, AccessList, FragmentDef, FragmentDefs, rows_of_view};
 pub use naming::meet_terms;

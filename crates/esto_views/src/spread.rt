@@ -5,7 +5,7 @@ ghost use Rattle.esto_term.specs.declared.term.Term.TheVariants.{Plain};
 ghost use Rattle.esto_semantics.specs.Facts.{image};
 ghost use Rattle.esto_query.specs.Making.{query_of};
 ghost use Rattle.esto_views.specs.Fragments.{IsFragment};
-ghost use Rattle.esto_query.specs.Spreads.{AreInner, IsSpread, substituted};
+ghost use Rattle.esto_semantics.specs.Spreads.{AreInner, IsSpread, substituted};
 
 use crate::fragments::FragmentDef;
 use crate::inner::inner_variables;

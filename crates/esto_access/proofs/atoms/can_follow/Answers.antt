@@ -3,7 +3,7 @@ use Rattle.std.proofs.lemmas.Bool.{false≢true}
 use Rattle.std.proofs.lemmas.List.{length-map}
 use Rattle.esto_views.specs.Fragments.{patterns_of}
 use Rattle.esto_views.specs.Plans.{fact_of}
-use Rattle.esto_semantics.proofs.PlaceLemmas.{Has-within}
+use Rattle.esto_term.proofs.SetLemmas.{Has-within}
 use Rattle.esto_access.proofs.AtomLemmas.{follows}
 use Rattle.esto_access.proofs.atoms.can_follow.Goals.{then-number-len-via-then-number-len, then-number-len-via-else-number-len+then-number-count}
 use Rattle.esto_access.proofs.atoms.can_follow.Goals.{then-number-len-via-else-number-len+else-number-count+then-not-has}

@@ -1,7 +1,7 @@
 use Rattle.std.proofs.Common.{Contains, sym, ◌∙◌, refl, arith, below_more}
 use Rattle.std.proofs.lemmas.Bool.{false≢true}
-use Rattle.esto_semantics.specs.Sets.{Has}
-use Rattle.esto_semantics.proofs.PlaceLemmas.{Has-within}
+use Rattle.esto_term.specs.Sets.{Has}
+use Rattle.esto_term.proofs.SetLemmas.{Has-within}
 use Rattle.esto_access.proofs.atoms.names_all.Goals.{else-has-via-then-has+else-not-is_named, else-has-via-else-has}
 use Rattle.esto_access.proofs.atoms.names_all.Goals as goal
 

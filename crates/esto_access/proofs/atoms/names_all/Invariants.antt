@@ -1,5 +1,5 @@
 use Rattle.std.proofs.Common.{ℕ, ◌<◌, Contains}
-use Rattle.esto_semantics.specs.Sets.{Has}
+use Rattle.esto_term.specs.Sets.{Has}
 use Rattle.esto_access.proofs.atoms.names_all.Given as goal
 
 abbrev pub invariant-numbers : goal.invariant-numbers

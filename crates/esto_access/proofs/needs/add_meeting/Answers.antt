@@ -1,6 +1,6 @@
 use Rattle.std.proofs.lemmas.Result.{IfOk-weaker}
 use Rattle.esto_semantics.specs.Access.{MeetsPattern}
-use Rattle.esto_semantics.specs.Sets.{Has}
+use Rattle.esto_term.specs.Sets.{Has}
 use Rattle.esto_views.specs.Plans.{fact_of, plan_query}
 use Rattle.esto_access.specs.Supplies.{IsSupplied}
 use Rattle.esto_access.proofs.NeedLemmas.{covers_also}

@@ -1,7 +1,7 @@
 use Rattle.std.proofs.Common.{false, ap, sym, ◌∙◌, subst, length}
 use Rattle.std.proofs.lemmas.List.{length-replicate}
 use Rattle.std.proofs.lemmas.Result.{IfOk-weaker}
-use Rattle.esto_semantics.specs.Sets.{Within}
+use Rattle.esto_term.specs.Sets.{Within}
 use Rattle.esto_bits.specs.Kept.{Kept}
 use Rattle.esto_access.proofs.NeedLemmas.{none_within}
 use Rattle.esto_access.proofs.needs.every_set.Goals as goal

@@ -1,6 +1,6 @@
 use Rattle.std.proofs.Common.{◌≡◌, ◌+◌, ◌∙◌, ap, sym, subst, length, arith}
 use Rattle.std.proofs.lemmas.Bool.{false≢true}
-use Rattle.esto_semantics.specs.Sets.{Covers}
+use Rattle.esto_term.specs.Sets.{Covers}
 use Rattle.esto_bits.specs.Kept.{Kept}
 use Rattle.esto_access.proofs.NeedLemmas.{sets_there}
 use Rattle.esto_backchase.proofs.CompleteLemmas.{AreCompletedBelow, completed_start, completed_grows, completed_stays, completed_end}

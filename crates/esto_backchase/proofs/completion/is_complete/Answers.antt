@@ -1,5 +1,5 @@
 use Rattle.std.proofs.Common.{arith, below_more}
-use Rattle.esto_semantics.proofs.PlaceLemmas.{Has-within}
+use Rattle.esto_term.proofs.SetLemmas.{Has-within}
 use Rattle.esto_backchase.proofs.completion.is_complete.Goals as goal
 
 pub numbers-preserved : goal.numbers-preserved

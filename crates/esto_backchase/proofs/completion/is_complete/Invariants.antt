@@ -1,5 +1,5 @@
 use Rattle.std.proofs.Common.{ℕ, ◌<◌}
-use Rattle.esto_semantics.specs.Sets.{Has}
+use Rattle.esto_term.specs.Sets.{Has}
 use Rattle.esto_access.specs.Supplies.{IsSupplied}
 use Rattle.esto_backchase.proofs.completion.is_complete.Given as goal
 

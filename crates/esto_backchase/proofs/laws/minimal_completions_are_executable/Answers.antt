@@ -1,5 +1,5 @@
 use Rattle.std.proofs.Common.{IsTrue}
-use Rattle.esto_semantics.specs.Sets.{Covers}
+use Rattle.esto_term.specs.Sets.{Covers}
 use Rattle.esto_backchase.proofs.CompletionLemmas.{minimal_completions}
 use Rattle.esto_backchase.proofs.laws.minimal_completions_are_executable.Goals as goal
 

@@ -3,7 +3,7 @@ use Rattle.std.proofs.lemmas.List.{length-map}
 use Rattle.esto_constraint.specs.Constraints.{rules_of}
 use Rattle.esto_query.specs.Making.{query_of}
 use Rattle.esto_semantics.specs.Rewritings.{IsPlanFor}
-use Rattle.esto_semantics.specs.Sets.{Rises}
+use Rattle.esto_term.specs.Sets.{Rises}
 use Rattle.esto_views.specs.Fragments.{views_of}
 use Rattle.esto_views.specs.Plans.{fact_of, plan_query}
 use Rattle.esto_views.proofs.FlatLemmas.{plan_atoms-flat}

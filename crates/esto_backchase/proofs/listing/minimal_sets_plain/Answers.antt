@@ -1,8 +1,8 @@
 use Rattle.std.proofs.Common.{length}
 use Rattle.esto_semantics.specs.Listed.{IsRewriting, AnswersQuery}
 use Rattle.esto_semantics.specs.Rewritings.{IsPlanFor}
-use Rattle.esto_semantics.specs.Sets.{TellHolds}
-use Rattle.esto_semantics.proofs.CoverLemmas.{minimal-cover}
+use Rattle.esto_term.specs.Sets.{TellHolds}
+use Rattle.esto_term.proofs.CoverLemmas.{minimal-cover}
 use Rattle.esto_constraint.specs.Constraints.{rules_of}
 use Rattle.esto_query.specs.Making.{query_of}
 use Rattle.esto_views.specs.Fragments.{views_of, patterns_of}

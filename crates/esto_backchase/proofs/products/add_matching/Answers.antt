@@ -1,7 +1,7 @@
 use Rattle.std.proofs.Common.{sym, subst}
 use Rattle.std.proofs.lemmas.Result.{on_ok_weaker}
 use Rattle.esto_backchase.specs.Evidence.{MatchesIn}
-use Rattle.esto_world_laws.specs.Steps.{AreJoined}
+use Rattle.esto_chase_laws.specs.WorldSteps.{AreJoined}
 use Rattle.esto_backchase.proofs.FoundLemmas.{handed_over, matching_added}
 use Rattle.esto_backchase.proofs.products.add_matching.Goals as goal
 

@@ -2,7 +2,7 @@ use Rattle.std.proofs.Common.{◌<◌, sym, subst}
 use Rattle.esto_constraint.specs.Graphs.{AreRanks, IsWithin}
 use Rattle.esto_constraint.specs.Relations.{IsEdge}
 use Rattle.esto_constraint.specs.Constraints.{rules_of}
-use Rattle.esto_world_laws.specs.Worlds.{AreOfCount}
+use Rattle.esto_chase_laws.specs.Worlds.{AreOfCount}
 use Rattle.esto_backchase.proofs.products.entries_of.Goals as goal
 
 pub chase_with_products-requires-clause-atoms : goal.chase_with_products-requires-clause-atoms

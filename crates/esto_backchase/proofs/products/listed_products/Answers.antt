@@ -1,7 +1,7 @@
 use Rattle.std.proofs.Common.{length, subst, sym}
 use Rattle.std.proofs.lemmas.List.{length-map}
 use Rattle.esto_semantics.specs.Listed.{AnswersQuery}
-use Rattle.esto_semantics.specs.Sets.{TellHolds}
+use Rattle.esto_term.specs.Sets.{TellHolds}
 use Rattle.esto_constraint.specs.Constraints.{rules_of}
 use Rattle.esto_query.specs.Making.{query_of}
 use Rattle.esto_views.specs.Fragments.{views_of, patterns_of}

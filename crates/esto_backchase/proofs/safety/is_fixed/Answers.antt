@@ -1,6 +1,6 @@
 use Rattle.std.proofs.Common.{Contains, refl, subst, sym, ◌∙◌, inl, inr}
 use Rattle.std.proofs.lemmas.Bool.{false≢true}
-use Rattle.esto_semantics.specs.Sets.{Has}
+use Rattle.esto_term.specs.Sets.{Has}
 use Rattle.esto_backchase.proofs.SafetyLemmas.{bound-here, bound-from}
 use Rattle.esto_backchase.proofs.safety.is_fixed.Goals.{else-has-via-then-has+else-has_term, else-has-via-else-has}
 use Rattle.esto_backchase.proofs.safety.is_fixed.Goals as goal

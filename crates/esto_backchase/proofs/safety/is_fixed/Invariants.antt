@@ -1,5 +1,5 @@
 use Rattle.std.proofs.Common.{Contains}
-use Rattle.esto_semantics.specs.Sets.{Has}
+use Rattle.esto_term.specs.Sets.{Has}
 use Rattle.esto_backchase.proofs.safety.is_fixed.Given as goal
 use Rattle.esto_term.proofs.ListLemmas.{HoldsBelow}
 

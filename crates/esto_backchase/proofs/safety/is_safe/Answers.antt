@@ -1,7 +1,7 @@
 use Rattle.std.proofs.Common.{map, Contains, refl, sym, subst, ◌∙◌}
 use Rattle.std.proofs.lemmas.Bool.{false≢true}
 use Rattle.esto_semantics.specs.Access.{IsBound}
-use Rattle.esto_semantics.specs.Sets.{Has}
+use Rattle.esto_term.specs.Sets.{Has}
 use Rattle.esto_views.specs.Plans.{fact_of}
 use Rattle.esto_backchase.proofs.SafetyLemmas.{bound-fixed}
 use Rattle.esto_backchase.proofs.safety.is_safe.Goals as goal

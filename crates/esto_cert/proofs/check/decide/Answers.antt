@@ -1,6 +1,6 @@
 use Rattle.std.proofs.Common.{List, ℕ, ◌<◌, Contains, length, map, subst, sym, ap, ◌∙◌}
 use Rattle.esto_query.specs.Making.{query_of}
-use Rattle.esto_query.specs.declared.expanded.ExpandedFact.{ExpandedFact}
+use Rattle.esto_semantics.specs.declared.expanded.ExpandedFact.{ExpandedFact}
 use Rattle.esto_cert.proofs.ExpansionLemmas.{place_below}
 use Rattle.esto_cert.proofs.VerdictLemmas.{decided, same_case}
 use Rattle.esto_cert.proofs.check.decide.Goals as goal

@@ -1,5 +1,5 @@
 use Rattle.std.proofs.Common.{◌+◌, ◌-◌, List, length, drop, map, inl, inr, refl, subst, ap, ◌∙◌, arith}
-use Rattle.esto_world_laws.specs.declared.entry.Claim.{Claim}
+use Rattle.esto_chase_laws.specs.declared.entry.Claim.{Claim}
 use Rattle.std.proofs.lemmas.List.{length-drop, take_all}
 use Rattle.esto_cert.specs.Judging.{after_end, case_of, Verdict}
 use Rattle.esto_cert.proofs.VerdictLemmas.{claims_on, ends_at, refused_at, last_at, no_parts}

@@ -1,7 +1,7 @@
 use Rattle.std.proofs.Common.{ap, sym, ◌∙◌, arith}
 use Rattle.std.proofs.lemmas.Result.{IfOk-weaker}
 use Rattle.esto_constraint.specs.Constraints.{rule_of}
-use Rattle.esto_world_laws.specs.Matches.{taken}
+use Rattle.esto_chase_laws.specs.WorldMatches.{taken}
 use Rattle.esto_cert.specs.Certificates.{made_at}
 use Rattle.esto_cert.proofs.BeyondLemmas.{near_is, none_made}
 use Rattle.esto_cert.proofs.judging.made_near.Goals as goal

@@ -1,6 +1,6 @@
 use Rattle.std.proofs.Common.{◌↔◌, drop}
 use Rattle.std.specs.List.{AllZip}
-use Rattle.esto_world_laws.specs.Matches.{IsLike}
+use Rattle.esto_chase_laws.specs.WorldMatches.{IsLike}
 use Rattle.esto_cert.proofs.matching.are_like.Given as goal
 
 abbrev pub invariant-atoms : goal.invariant-atoms

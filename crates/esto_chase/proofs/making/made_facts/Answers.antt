@@ -1,6 +1,6 @@
 use Rattle.std.proofs.Common.{◌≡◌, map}
 use Rattle.esto_semantics.specs.Facts.{image}
-use Rattle.esto_query.specs.Valuations.{map_of}
+use Rattle.esto_semantics.specs.Valuations.{map_of}
 use Rattle.esto_chase_laws.specs.Making.{frontier}
 use Rattle.esto_chase.specs.Made.{made_by}
 use Rattle.std.proofs.Common.{ap, ◌∙◌}

@@ -1,5 +1,5 @@
 use Rattle.std.proofs.Common.{◌≡◌, map, take}
-use Rattle.esto_query.specs.Valuations.{map_of}
+use Rattle.esto_semantics.specs.Valuations.{map_of}
 use Rattle.esto_chase.proofs.making.values_of.Given as goal
 
 abbrev pub invariant-terms : goal.invariant-terms

@@ -2,9 +2,9 @@ use Rattle.std.proofs.Common.{◌⊎◌, Bool, List, length, sym, subst}
 use Rattle.std.specs.Prelude.{slice_index}
 use Rattle.esto_constraint.specs.Constraints.{rules_of}
 use Rattle.esto_constraint.proofs.RankLemmas.{rules-AreRules, ranks-RanksRise}
-use Rattle.esto_world_laws.specs.Laws.{IsSound, IsReceivedNowhere, IsDatabase, AreNestedWithin}
-use Rattle.esto_world_laws.specs.Steps.{AreJoined}
-use Rattle.esto_world_laws.specs.Worlds.{InWorld, IsClosed, IsBroken, IsDenied}
+use Rattle.esto_chase_laws.specs.WorldLaws.{IsSound, IsReceivedNowhere, IsDatabase, AreNestedWithin}
+use Rattle.esto_chase_laws.specs.WorldSteps.{AreJoined}
+use Rattle.esto_chase_laws.specs.Worlds.{InWorld, IsClosed, IsBroken, IsDenied}
 use Rattle.esto_condchase.proofs.chase.chase_with_products.Goals as goal
 
 pub from_list-requires : goal.from_list-requires

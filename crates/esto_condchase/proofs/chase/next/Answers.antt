@@ -1,11 +1,12 @@
 use Rattle.std.proofs.Common.{◌++◌, Contains, sym, subst}
 use Rattle.std.proofs.lemmas.Result.{on_ok_weaker}
 use Rattle.esto_constraint.specs.Constraints.{rules_of}
-use Rattle.esto_world_laws.specs.Steps.{IsCovered}
-use Rattle.esto_world_laws.specs.Worlds.{InWorld}
-use Rattle.esto_world_laws.specs.declared.entry.Claim.TheVariants.{Same}
-use Rattle.esto_world_laws.specs.declared.entry.Entry.{Entry}
-use Rattle.esto_condchase.proofs.CoverLemmas.{asked_follows_on, covered_grown}
+use Rattle.esto_chase_laws.specs.WorldSteps.{IsCovered}
+use Rattle.esto_chase_laws.specs.Worlds.{InWorld}
+use Rattle.esto_chase_laws.specs.declared.entry.Claim.TheVariants.{Same}
+use Rattle.esto_chase_laws.specs.declared.entry.Entry.{Entry}
+use Rattle.esto_condchase.proofs.AskLemmas.{asked_follows_on}
+use Rattle.esto_known.proofs.CoverLemmas.{covered_grown}
 use Rattle.esto_condchase.proofs.chase.next.Goals as goal
 
 pub add_all-requires-clause-asked : goal.add_all-requires-clause-asked

@@ -2,9 +2,9 @@ use Rattle.std.proofs.Common.{length, sym, ◌∙◌, ap, arith, subst, Contains
 use Rattle.std.specs.Prelude.{slice_index}
 use Rattle.esto_constraint.specs.Constraints.{rules_of}
 use Rattle.esto_constraint.proofs.RankLemmas.{rules-AreRules, ranks-RanksRise, depth_of, ranks-small, depth-small}
-use Rattle.esto_world_laws.specs.Derived.{AreDerived}
-use Rattle.esto_world_laws.specs.Laws.{AreGiven}
-use Rattle.esto_world_laws.specs.Steps.{AreAnswered, AreJoined}
+use Rattle.esto_chase_laws.specs.Derived.{AreDerived}
+use Rattle.esto_chase_laws.specs.WorldLaws.{AreGiven}
+use Rattle.esto_chase_laws.specs.WorldSteps.{AreAnswered, AreJoined}
 use Rattle.esto_condchase.proofs.LoopLemmas.{answered_same, grown_same, turn_given, turn_falls, turn_same, end_answered, end_joined}
 use Rattle.esto_condchase.proofs.NewsLemmas.{before_same, none_answered, turn_answered, none_joined, turn_joined}
 use Rattle.esto_condchase.proofs.chase.rounds.Goals as goal

@@ -1,12 +1,12 @@
 use Rattle.std.proofs.Common.{◌-◌, length, take}
 use Rattle.esto_constraint.specs.Constraints.{rules_of}
 use Rattle.esto_constraint.proofs.RankLemmas.{depth_of}
-use Rattle.esto_query.specs.Expanded.{facts_of}
-use Rattle.esto_world_laws.specs.Bounds.{most_entries}
-use Rattle.esto_world_laws.specs.Derived.{AreDerived}
-use Rattle.esto_world_laws.specs.Laws.{AreGiven}
-use Rattle.esto_world_laws.specs.Steps.{AreAnswered, AreJoined}
-use Rattle.esto_world_laws.specs.Worlds.{AreOfCount}
+use Rattle.esto_semantics.specs.Expanded.{facts_of}
+use Rattle.esto_chase_laws.specs.WorldBounds.{most_entries}
+use Rattle.esto_chase_laws.specs.Derived.{AreDerived}
+use Rattle.esto_chase_laws.specs.WorldLaws.{AreGiven}
+use Rattle.esto_chase_laws.specs.WorldSteps.{AreAnswered, AreJoined}
+use Rattle.esto_chase_laws.specs.Worlds.{AreOfCount}
 use Rattle.esto_condchase.proofs.chase.rounds.Given as goal
 
 abbrev pub invariant-rounds : goal.invariant-rounds

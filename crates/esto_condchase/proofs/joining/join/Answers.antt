@@ -1,6 +1,6 @@
 use Rattle.std.proofs.Common.{◌++◌, take, sym, subst}
 use Rattle.std.proofs.lemmas.Result.{on_ok_weaker}
-use Rattle.esto_world_laws.specs.Steps.{AreJoined}
+use Rattle.esto_chase_laws.specs.WorldSteps.{AreJoined}
 use Rattle.esto_condchase.proofs.joining.join.Goals as goal
 
 pub join_groups-requires-clause-before : goal.join_groups-requires-clause-before

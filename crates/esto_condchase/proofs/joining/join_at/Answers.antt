@@ -1,6 +1,8 @@
 use Rattle.std.proofs.Common.{◌≡◌, ◌++◌, [], Some, slice_get, inl, sym, subst, ◌∙◌}
-use Rattle.esto_condchase.specs.Rounds.{AreOld, IsSideMet}
-use Rattle.esto_condchase.proofs.CoverLemmas.{read_at, AsksMore-then}
+use Rattle.esto_condchase.specs.Rounds.{IsSideMet}
+use Rattle.esto_known.specs.Live.{AreOld}
+use Rattle.esto_condchase.proofs.AskLemmas.{AsksMore-then}
+use Rattle.esto_known.proofs.CoverLemmas.{read_at}
 use Rattle.esto_condchase.proofs.JoinLemmas.{side_met, side_none}
 use Rattle.esto_condchase.proofs.joining.join_at.Goals as goal
 

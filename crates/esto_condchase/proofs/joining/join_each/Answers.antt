@@ -1,7 +1,7 @@
 use Rattle.std.proofs.Common.{[], Contains, refl, sym, subst, ◌∙◌}
 use Rattle.std.proofs.lemmas.List.{get_or_default, take_all}
 use Rattle.esto_term.proofs.ListLemmas.{Contains-nil, Contains-read}
-use Rattle.esto_condchase.proofs.CoverLemmas.{AsksMore-none}
+use Rattle.esto_condchase.proofs.AskLemmas.{AsksMore-none}
 use Rattle.esto_condchase.proofs.JoinLemmas.{asks_on, each_turn}
 use Rattle.esto_condchase.proofs.joining.join_each.Goals as goal
 

@@ -1,6 +1,6 @@
 use Rattle.std.proofs.Common.{[], inl, inr, subst}
-use Rattle.esto_condchase.specs.Rounds.{AreOld}
-use Rattle.esto_condchase.proofs.CoverLemmas.{AsksMore-then}
+use Rattle.esto_known.specs.Live.{AreOld}
+use Rattle.esto_condchase.proofs.AskLemmas.{AsksMore-then}
 use Rattle.esto_condchase.proofs.JoinLemmas.{group_met}
 use Rattle.esto_condchase.proofs.joining.join_group.Goals as goal
 

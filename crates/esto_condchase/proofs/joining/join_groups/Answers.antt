@@ -1,5 +1,5 @@
 use Rattle.std.proofs.Common.{◌≤◌, [], length, subst, arith}
-use Rattle.esto_condchase.proofs.CoverLemmas.{AsksMore-none, AsksMore-then}
+use Rattle.esto_condchase.proofs.AskLemmas.{AsksMore-none, AsksMore-then}
 use Rattle.esto_condchase.proofs.JoinLemmas.{met_before_turn, all_joined}
 use Rattle.esto_condchase.proofs.joining.join_groups.Goals as goal
 

@@ -1,6 +1,7 @@
 use Rattle.std.proofs.Common.{inl, inr, Contains, sym, subst}
 use Rattle.std.proofs.lemmas.Result.{on_ok_weaker}
-use Rattle.esto_condchase.specs.Rounds.{AreOld, AreOpen}
+use Rattle.esto_condchase.specs.Rounds.{AreOpen}
+use Rattle.esto_known.specs.Live.{AreOld}
 use Rattle.esto_condchase.proofs.JoinLemmas.{groups_met, places_meet, touching_later}
 use Rattle.esto_condchase.proofs.joining.join_open.Goals as goal
 

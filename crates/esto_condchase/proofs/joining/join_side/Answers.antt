@@ -1,6 +1,6 @@
 use Rattle.std.proofs.Common.{[], Contains, sym, subst, ◌∙◌}
 use Rattle.std.proofs.lemmas.List.{get_or_default, take_all}
-use Rattle.esto_condchase.proofs.CoverLemmas.{AsksMore-then}
+use Rattle.esto_condchase.proofs.AskLemmas.{AsksMore-then}
 use Rattle.esto_condchase.proofs.JoinLemmas.{side_turn}
 use Rattle.esto_condchase.proofs.joining.join_side.Goals as goal
 

@@ -1,7 +1,8 @@
 use Rattle.std.proofs.Common.{◌++◌, length, ap, subst, ◌∙◌}
 use Rattle.std.proofs.lemmas.Result.{on_ok_weaker}
-use Rattle.esto_semantics.specs.Sets.{Covers}
-use Rattle.esto_condchase.proofs.CoverLemmas.{read_at, pushed_asks}
+use Rattle.esto_term.specs.Sets.{Covers}
+use Rattle.esto_condchase.proofs.AskLemmas.{pushed_asks}
+use Rattle.esto_known.proofs.CoverLemmas.{read_at}
 use Rattle.esto_condchase.proofs.JoinLemmas.{union_count, union_following, union_met, tell_same, tell_more, covers_itself}
 use Rattle.esto_condchase.proofs.joining.join_two.Goals as goal
 

@@ -1,6 +1,6 @@
 use Rattle.std.proofs.Common.{◌++◌, Contains, ap, sym, subst, ◌∙◌}
 use Rattle.std.proofs.lemmas.List.Elements.{Contains-append_right}
-use Rattle.esto_condchase.specs.Ways.{AreCounted}
+use Rattle.esto_known.specs.KeptWays.{AreCounted}
 use Rattle.esto_condchase.proofs.WayLemmas.{found_lengths}
 use Rattle.esto_condchase.proofs.FoundLemmas.{anew_last}
 use Rattle.esto_condchase.proofs.news.anew.Goals as goal

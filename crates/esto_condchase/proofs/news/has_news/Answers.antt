@@ -1,5 +1,5 @@
 use Rattle.std.proofs.Common.{arith, subst, sym}
-use Rattle.esto_world_laws.specs.declared.entry.Entry.{Entry}
+use Rattle.esto_chase_laws.specs.declared.entry.Entry.{Entry}
 use Rattle.esto_condchase.specs.News.{IsApart}
 use Rattle.esto_condchase.proofs.NewsLemmas.{apart_next, settled}
 use Rattle.esto_condchase.proofs.news.has_news.Goals as goal

@@ -1,8 +1,8 @@
 use Rattle.std.proofs.Common.{inl, inr, ap, length, refl, sym, subst, ◌∙◌}
-use Rattle.esto_semantics.specs.Sets.{Within}
-use Rattle.esto_semantics.proofs.SetLemmas.{length-united}
+use Rattle.esto_term.specs.Sets.{Within}
+use Rattle.esto_term.proofs.SetLemmas.{length-united}
 use Rattle.esto_term.proofs.ListLemmas.{Contains-at}
-use Rattle.esto_world_laws.specs.Worlds.{AreOfCount}
+use Rattle.esto_chase_laws.specs.Worlds.{AreOfCount}
 use Rattle.esto_condchase.specs.Ways.{IsLonger}
 use Rattle.esto_condchase.proofs.WayLemmas.{within_united}
 use Rattle.esto_condchase.proofs.StepLemmas.{grown_same, told_wider, added_grown, added_goes, counted_union}

@@ -2,8 +2,9 @@ use Rattle.std.proofs.Common.{◌++◌, take, sym, subst}
 use Rattle.std.proofs.lemmas.List.{take_all}
 use Rattle.esto_term.proofs.ListLemmas.{Contains-read}
 use Rattle.esto_term.proofs.PlaceLemmas.{take-item}
-use Rattle.esto_world_laws.specs.Worlds.{AreOfCount}
-use Rattle.esto_condchase.specs.Ways.{AreCounted, IsTold}
+use Rattle.esto_chase_laws.specs.Worlds.{AreOfCount}
+use Rattle.esto_condchase.specs.Ways.{IsTold}
+use Rattle.esto_known.specs.KeptWays.{AreCounted}
 use Rattle.esto_condchase.proofs.StepLemmas.{LongerSoFar, longer_none, longer_turn, longer_end}
 use Rattle.esto_condchase.proofs.passing.all_longer.Goals as goal
 

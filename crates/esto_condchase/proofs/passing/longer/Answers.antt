@@ -1,10 +1,10 @@
 use Rattle.std.proofs.Common.{◌≡◌, ◌≤◌, ◌⊎◌, ◌++◌, inl, inr, ℕ, List, Bool, Some, refl, slice_get}
 use Rattle.std.proofs.lemmas.List.{get_or_default}
 use Rattle.std.proofs.lemmas.Result.{on_ok_weaker}
-use Rattle.esto_semantics.specs.Sets.{Within}
+use Rattle.esto_term.specs.Sets.{Within}
 use Rattle.esto_term.proofs.ListLemmas.{Contains-nil, each_more, each_seen}
-use Rattle.esto_world_laws.specs.Worlds.{SaysOne}
-use Rattle.esto_world_laws.specs.declared.entry.Entry.{Entry}
+use Rattle.esto_chase_laws.specs.Worlds.{SaysOne}
+use Rattle.esto_chase_laws.specs.declared.entry.Entry.{Entry}
 use Rattle.esto_condchase.specs.Ways.{IsTold, HasSupport, IsLonger}
 use Rattle.esto_condchase.specs.declared.passing.Support.{Support}
 use Rattle.esto_condchase.proofs.StepLemmas.{grown_same, grown_then, support_kept, links_end, free_goes}

@@ -1,7 +1,7 @@
 use Rattle.std.proofs.Common.{◌≡◌, ◌≤◌, ◌⊎◌, ◌++◌, ℕ, List, Bool, Some, take, Contains, slice_get}
-use Rattle.esto_semantics.specs.Sets.{Within}
-use Rattle.esto_world_laws.specs.Worlds.{SaysOne}
-use Rattle.esto_world_laws.specs.declared.entry.Entry.{Entry}
+use Rattle.esto_term.specs.Sets.{Within}
+use Rattle.esto_chase_laws.specs.Worlds.{SaysOne}
+use Rattle.esto_chase_laws.specs.declared.entry.Entry.{Entry}
 use Rattle.esto_condchase.specs.Ways.{Grown, IsTold, HasSupport, IsLonger}
 use Rattle.esto_condchase.proofs.passing.longer.Given as goal
 

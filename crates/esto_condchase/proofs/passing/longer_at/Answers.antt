@@ -1,8 +1,8 @@
 use Rattle.std.proofs.Common.{sym, subst, ◌∙◌}
 use Rattle.std.proofs.lemmas.Result.{on_ok_weaker}
 use Rattle.std.proofs.lemmas.Option.{same_Some}
-use Rattle.esto_semantics.specs.Sets.{Within}
-use Rattle.esto_world_laws.specs.declared.entry.Entry.{Entry}
+use Rattle.esto_term.specs.Sets.{Within}
+use Rattle.esto_chase_laws.specs.declared.entry.Entry.{Entry}
 use Rattle.esto_condchase.proofs.passing.longer_at.Goals as goal
 
 pub returns-in-Some-clause-grown : goal.returns-in-Some-clause-grown

@@ -1,7 +1,7 @@
 use Rattle.std.proofs.Common.{List}
 use Rattle.esto_known.specs.Groups.{AreGroups}
-use Rattle.esto_world_laws.specs.Steps.{AreJoined}
-use Rattle.esto_world_laws.specs.declared.entry.Entry.{Entry}
+use Rattle.esto_chase_laws.specs.WorldSteps.{AreJoined}
+use Rattle.esto_chase_laws.specs.declared.entry.Entry.{Entry}
 use Rattle.esto_condchase.specs.Products.{AreReachedOf}
 use Rattle.esto_condchase.proofs.ReachLemmas.{LedSoFar}
 use Rattle.esto_condchase.proofs.products.products_among.Given as goal

@@ -1,9 +1,9 @@
 use Rattle.std.proofs.Common.{◌∙◌, subst, sym}
 use Rattle.std.proofs.lemmas.Result.{IfOk-weaker}
 use Rattle.std.specs.List.{AllZip}
-use Rattle.esto_semantics.specs.Sets.{Has}
-use Rattle.esto_semantics.proofs.AccessLemmas.{none_has}
-use Rattle.esto_condchase.specs.Products.{AreTouching}
+use Rattle.esto_term.specs.Sets.{Has}
+use Rattle.esto_term.proofs.SetLemmas.{none_has}
+use Rattle.esto_known.specs.Touching.{AreTouching}
 use Rattle.esto_condchase.proofs.products.touched.Goals as goal
 
 pub returns-clause-covers : goal.returns-clause-covers

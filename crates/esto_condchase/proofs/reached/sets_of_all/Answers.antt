@@ -1,5 +1,5 @@
 use Rattle.std.proofs.Common.{List, Bool, sym, ◌∙◌}
-use Rattle.esto_semantics.specs.Sets.{Covers}
+use Rattle.esto_term.specs.Sets.{Covers}
 use Rattle.esto_term.proofs.ListLemmas.{Contains-read}
 use Rattle.esto_condchase.proofs.SumLemmas.{gathers_more, gathers_all}
 use Rattle.esto_condchase.specs.declared.reached.Reached.{Reached}

@@ -1,5 +1,5 @@
 use Rattle.std.proofs.Common.{◌≡◌, List, Bool}
-use Rattle.esto_semantics.specs.Sets.{Covers}
+use Rattle.esto_term.specs.Sets.{Covers}
 use Rattle.esto_condchase.proofs.SumLemmas.{Gathers}
 use Rattle.esto_condchase.specs.declared.reached.Reached.{Reached}
 use Rattle.esto_condchase.proofs.reached.sets_of_all.Given as goal

@@ -2,8 +2,8 @@ use Rattle.std.proofs.Common.{◌≡◌, ◌++◌, sym, subst, ◌∙◌}
 use Rattle.esto_semantics.specs.Rules.{equality}
 use Rattle.esto_semantics.specs.Facts.{terms_of}
 use Rattle.esto_constraint.specs.Constraints.{rules_of}
-use Rattle.esto_world_laws.specs.declared.entry.Claim.TheVariants.{Same}
-use Rattle.esto_condchase.specs.Rounds.{IsThere}
+use Rattle.esto_chase_laws.specs.declared.entry.Claim.TheVariants.{Same}
+use Rattle.esto_known.specs.Added.{IsThere}
 use Rattle.esto_condchase.proofs.RoundLemmas.{side_is, asked_asks, asked_there}
 use Rattle.esto_condchase.proofs.rounds.answer_equality.Goals as goal
 

@@ -1,7 +1,7 @@
 use Rattle.std.proofs.Common.{◌++◌, sym, subst}
 use Rattle.esto_constraint.specs.Constraints.{rule_of, rules_of}
 use Rattle.esto_condchase.specs.Rounds.{IsRuleAnswered}
-use Rattle.esto_condchase.proofs.CoverLemmas.{AsksMore-none}
+use Rattle.esto_condchase.proofs.AskLemmas.{AsksMore-none}
 use Rattle.esto_condchase.proofs.RoundLemmas.{IsRuleAnswered-denial}
 use Rattle.esto_condchase.proofs.rounds.answer_rule.Goals as goal
 

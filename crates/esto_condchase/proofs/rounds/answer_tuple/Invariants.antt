@@ -3,10 +3,11 @@ use Rattle.esto_term.specs.declared.term.Term.{Term}
 use Rattle.esto_semantics.specs.Facts.{image, terms_of}
 use Rattle.esto_semantics.specs.declared.fact.Fact.{Fact}
 use Rattle.esto_constraint.specs.Constraints.{rules_of}
-use Rattle.esto_world_laws.specs.Matches.{taken}
+use Rattle.esto_chase_laws.specs.WorldMatches.{taken}
 use Rattle.esto_chase_laws.specs.Making.{extended}
-use Rattle.esto_world_laws.specs.declared.entry.Claim.TheVariants.{Fact as Stated}
-use Rattle.esto_condchase.specs.Rounds.{AsksMore, IsThere}
+use Rattle.esto_chase_laws.specs.declared.entry.Claim.TheVariants.{Fact as Stated}
+use Rattle.esto_condchase.specs.Rounds.{AsksMore}
+use Rattle.esto_known.specs.Added.{IsThere}
 use Rattle.esto_condchase.proofs.rounds.answer_tuple.Given as goal
 
 abbrev pub invariant-head : goal.invariant-head

@@ -1,12 +1,11 @@
 use Rattle.std.proofs.Common.{◌++◌, take, Contains}
 use Rattle.esto_semantics.specs.Rules.{tuple}
 use Rattle.esto_constraint.specs.Constraints.{rules_of}
-use Rattle.esto_condchase.specs.declared.ways.Way.{Way}
-use Rattle.esto_condchase.specs.Rounds.{AsksMore, IsAnswered}
+use Rattle.esto_known.specs.declared.way.Way.{Way}
+use Rattle.esto_condchase.specs.Rounds.{IsAnswered}
 use Rattle.esto_condchase.proofs.rounds.answer_tuples.Given as goal
+use Rattle.esto_condchase.proofs.RoundLemmas.{AreAnsweredSoFar}
 
 abbrev pub invariant-found : goal.invariant-found
-invariant-found l = record {
-  grows : AsksMore (rules_of l.rules) l.count l.entries l.fn.more l.more;
-  answered : (way : Way) → Contains (take l.way-index l.way-items) way → IsAnswered (l.entries ++ l.more) l.number (tuple l.rule.body l.rule.head) way;
-}
+invariant-found l = AreAnsweredSoFar (rules_of l.rules) l.count l.entries l.fn.more l.more
+    ((way : Way) → Contains (take l.way-index l.way-items) way → IsAnswered (l.entries ++ l.more) l.number (tuple l.rule.body l.rule.head) way)

@@ -1,6 +1,6 @@
 use Rattle.std.proofs.Common.{◌++◌, ◌∷◌, [], inl, inr, refl, ◌∙◌}
 use Rattle.std.proofs.lemmas.Result.{on_ok_weaker}
-use Rattle.esto_world_laws.specs.declared.entry.Reason.TheVariants.{Step}
+use Rattle.esto_chase_laws.specs.declared.entry.Reason.TheVariants.{Step}
 use Rattle.esto_condchase.proofs.rounds.ask.Goals as goal
 
 pub returns-then-is_covered : goal.returns-then-is_covered

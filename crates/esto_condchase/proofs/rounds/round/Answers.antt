@@ -1,6 +1,6 @@
 use Rattle.std.proofs.Common.{[]}
 use Rattle.esto_constraint.specs.Constraints.{rules_of}
-use Rattle.esto_condchase.proofs.CoverLemmas.{AsksMore-then}
+use Rattle.esto_condchase.proofs.AskLemmas.{AsksMore-then}
 use Rattle.esto_condchase.proofs.RoundLemmas.{AreAnswered-grows}
 use Rattle.esto_condchase.proofs.rounds.round.Goals as goal
 

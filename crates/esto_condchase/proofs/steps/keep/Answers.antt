@@ -1,7 +1,7 @@
 use Rattle.std.proofs.Common.{◌++◌, inl, ap, ◌∙◌, sym, refl, subst}
 use Rattle.std.proofs.lemmas.Result.{on_ok_weaker}
 use Rattle.esto_condchase.specs.Ways.{IsTold}
-use Rattle.esto_condchase.specs.declared.ways.Way.{Way}
+use Rattle.esto_known.specs.declared.way.Way.{Way}
 use Rattle.esto_condchase.proofs.StepLemmas.{grown_same, grown_push, way_pushed}
 use Rattle.esto_condchase.proofs.steps.keep.Goals as goal
 

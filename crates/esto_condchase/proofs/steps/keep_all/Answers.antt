@@ -1,9 +1,10 @@
 use Rattle.std.proofs.Common.{◌≡◌, ◌++◌, Contains, refl, sym, ap, subst, length, ◌∙◌}
 use Rattle.esto_term.proofs.ListLemmas.{Contains-nil, Contains-read, each_more, each_seen}
-use Rattle.esto_world_laws.specs.Worlds.{AreOfCount}
-use Rattle.esto_condchase.specs.Ways.{AreCounted, IsTold, extended}
+use Rattle.esto_chase_laws.specs.Worlds.{AreOfCount}
+use Rattle.esto_condchase.specs.Ways.{IsTold, extended}
+use Rattle.esto_known.specs.KeptWays.{AreCounted}
 use Rattle.esto_condchase.specs.declared.passing.Support.{Support}
-use Rattle.esto_condchase.specs.declared.ways.Way.{Way}
+use Rattle.esto_known.specs.declared.way.Way.{Way}
 use Rattle.esto_condchase.proofs.StepLemmas.{grown_same, grown_then, grown_weaker, told_kept, counted_grown}
 use Rattle.esto_condchase.proofs.steps.keep_all.Goals as goal
 

@@ -1,7 +1,8 @@
 use Rattle.std.proofs.Common.{◌≡◌, ◌++◌, take, Contains}
-use Rattle.esto_condchase.specs.Ways.{AreCounted, Grown, IsTold, extended}
+use Rattle.esto_condchase.specs.Ways.{Grown, IsTold, extended}
+use Rattle.esto_known.specs.KeptWays.{AreCounted}
 use Rattle.esto_condchase.specs.declared.passing.Support.{Support}
-use Rattle.esto_condchase.specs.declared.ways.Way.{Way}
+use Rattle.esto_known.specs.declared.way.Way.{Way}
 use Rattle.esto_condchase.proofs.steps.keep_all.Given as goal
 
 abbrev pub invariant-supports : goal.invariant-supports

@@ -1,7 +1,7 @@
 use Rattle.std.proofs.Common.{Contains, refl}
 use Rattle.esto_term.proofs.ListLemmas.{Contains-nil, Contains-read, each_more, each_seen}
 use Rattle.esto_condchase.specs.Ways.{Comes, GoesOn}
-use Rattle.esto_condchase.specs.declared.ways.Way.{Way}
+use Rattle.esto_known.specs.declared.way.Way.{Way}
 use Rattle.esto_condchase.proofs.StepLemmas.{grown_same, grown_then, grown_weaker, goes_kept}
 use Rattle.esto_condchase.proofs.steps.match_all.Goals as goal
 

@@ -1,6 +1,7 @@
 use Rattle.std.proofs.Common.{take, Contains}
-use Rattle.esto_condchase.specs.Ways.{AreCounted, Grown, Comes, GoesOn}
-use Rattle.esto_condchase.specs.declared.ways.Way.{Way}
+use Rattle.esto_condchase.specs.Ways.{Grown, Comes, GoesOn}
+use Rattle.esto_known.specs.KeptWays.{AreCounted}
+use Rattle.esto_known.specs.declared.way.Way.{Way}
 use Rattle.esto_condchase.proofs.steps.match_all.Given as goal
 
 abbrev pub invariant-given : goal.invariant-given

@@ -1,5 +1,6 @@
 use Rattle.std.proofs.Common.{ℕ, take, Contains}
-use Rattle.esto_condchase.specs.Ways.{AreCounted, Grown, Comes}
+use Rattle.esto_condchase.specs.Ways.{Grown, Comes}
+use Rattle.esto_known.specs.KeptWays.{AreCounted}
 use Rattle.esto_condchase.proofs.StepLemmas.{GoesSince}
 use Rattle.esto_condchase.proofs.steps.match_way.Given as goal
 

@@ -1,5 +1,5 @@
 use Rattle.std.proofs.Common.{◌++◌, Contains, length, refl, sym, ap, subst, ◌∙◌}
-use Rattle.esto_semantics.specs.Sets.{Within}
+use Rattle.esto_term.specs.Sets.{Within}
 use Rattle.esto_condchase.specs.Ways.{meets}
 use Rattle.esto_condchase.specs.declared.passing.Support.{Support}
 use Rattle.esto_condchase.proofs.StepLemmas.{kept_come, kept_there, counted_come}

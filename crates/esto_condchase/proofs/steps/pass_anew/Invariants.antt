@@ -1,5 +1,6 @@
 use Rattle.std.proofs.Common.{◌++◌, ◌<◌, ℕ}
-use Rattle.esto_condchase.specs.Ways.{AreCounted, Grown, IsTold, ComesBy, IsPassedAt, meets}
+use Rattle.esto_condchase.specs.Ways.{Grown, IsTold, ComesBy, IsPassedAt, meets}
+use Rattle.esto_known.specs.KeptWays.{AreCounted}
 use Rattle.esto_condchase.proofs.steps.pass_anew.Given as goal
 
 abbrev pub invariant-row : goal.invariant-row

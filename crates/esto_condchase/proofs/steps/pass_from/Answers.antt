@@ -1,9 +1,10 @@
 use Rattle.std.proofs.Common.{◌++◌, inl, inr, sym, subst, arith, ◌∙◌}
 use Rattle.std.proofs.lemmas.Bool.Decides.{nat_tests}
-use Rattle.esto_semantics.specs.Sets.{Within}
+use Rattle.esto_term.specs.Sets.{Within}
 use Rattle.esto_term.proofs.ListLemmas.{Contains-at}
-use Rattle.esto_world_laws.specs.Worlds.{AreOfCount}
-use Rattle.esto_condchase.specs.Ways.{AreCounted, IsTold, meets}
+use Rattle.esto_chase_laws.specs.Worlds.{AreOfCount}
+use Rattle.esto_condchase.specs.Ways.{IsTold, meets}
+use Rattle.esto_known.specs.KeptWays.{AreCounted}
 use Rattle.esto_condchase.proofs.WayLemmas.{within_united}
 use Rattle.esto_condchase.proofs.StepLemmas.{told_wider, counted_union, union_count, passes_all, anew_end, floor_goes}
 use Rattle.esto_condchase.proofs.steps.pass_from.Goals as goal

@@ -1,5 +1,5 @@
 use Rattle.std.proofs.Common.{Contains, sym, subst, ◌∙◌}
-use Rattle.esto_condchase.specs.Ways.{AreCounted}
+use Rattle.esto_known.specs.KeptWays.{AreCounted}
 use Rattle.esto_condchase.proofs.FoundLemmas.{next_items}
 use Rattle.esto_condchase.proofs.ways.go_on.Goals as goal
 

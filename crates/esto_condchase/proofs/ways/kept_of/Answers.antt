@@ -1,6 +1,7 @@
 use Rattle.std.proofs.Common.{Contains, sym, subst}
 use Rattle.esto_term.proofs.ListLemmas.{Contains-nil}
-use Rattle.esto_condchase.specs.Ways.{AreCounted, GoesOn}
+use Rattle.esto_condchase.specs.Ways.{GoesOn}
+use Rattle.esto_known.specs.KeptWays.{AreCounted}
 use Rattle.esto_condchase.proofs.StepLemmas.{grown_all}
 use Rattle.esto_condchase.proofs.ways.kept_of.Goals as goal
 

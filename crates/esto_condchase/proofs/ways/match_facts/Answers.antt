@@ -1,6 +1,6 @@
 use Rattle.std.proofs.Common.{sym, subst}
-use Rattle.esto_condchase.specs.Ways.{AreAllFacts}
-use Rattle.esto_condchase.proofs.LiveLemmas.{fresh_items}
+use Rattle.esto_known.specs.Live.{AreAllFacts}
+use Rattle.esto_known.proofs.LiveLemmas.{fresh_items}
 use Rattle.esto_condchase.proofs.ways.match_facts.Goals as goal
 
 pub match_all-requires-clause-facts : goal.match_all-requires-clause-facts

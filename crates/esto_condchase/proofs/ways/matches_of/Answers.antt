@@ -2,7 +2,7 @@ use Rattle.std.proofs.Common.{◌++◌, List, false, refl, ap}
 use Rattle.std.proofs.lemmas.List.{length-replicate}
 use Rattle.esto_semantics.specs.Facts.{terms_of}
 use Rattle.esto_semantics.specs.declared.fact.Fact.{Fact}
-use Rattle.esto_semantics.proofs.AccessLemmas.{none_has}
+use Rattle.esto_term.proofs.SetLemmas.{none_has}
 use Rattle.esto_term.specs.declared.term.Term.{Term}
 use Rattle.esto_condchase.specs.Ways.{empty_way}
 use Rattle.esto_condchase.proofs.WayLemmas.{found_none, found_lengths, body_all, rest_after, from_turn, counted_one}

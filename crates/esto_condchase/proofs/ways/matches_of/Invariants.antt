@@ -1,6 +1,7 @@
 use Rattle.std.proofs.Common.{◌≡◌, ◌++◌, take, drop}
 use Rattle.esto_semantics.specs.Facts.{terms_of}
-use Rattle.esto_condchase.specs.Ways.{AreCounted, AreFound}
+use Rattle.esto_condchase.specs.Ways.{AreFound}
+use Rattle.esto_known.specs.KeptWays.{AreCounted}
 use Rattle.esto_condchase.proofs.ways.matches_of.Given as goal
 
 abbrev pub invariant-atoms : goal.invariant-atoms

@@ -1,5 +1,5 @@
-use Rattle.esto_query.specs.Valuations.{map_of}
-use Rattle.esto_query.proofs.ValuationLemmas.{Keeps-map_of, Extends-map_of}
+use Rattle.esto_semantics.specs.Valuations.{map_of}
+use Rattle.esto_semantics.proofs.ValuationLemmas.{Keeps-map_of, Extends-map_of}
 use Rattle.esto_constraint.proofs.meeting.least_active_matches_are_least.Goals as goal
 
 pub returns : goal.returns

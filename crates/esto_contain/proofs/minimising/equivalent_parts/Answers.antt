@@ -3,13 +3,13 @@ use Rattle.esto_constraint.specs.Constraints.{rules_of}
 use Rattle.esto_bits.specs.Kept.{AreOver}
 use Rattle.esto_plan_laws.specs.Cores.{with_head}
 use Rattle.esto_query.specs.Making.{query_of}
-use Rattle.esto_semantics.specs.Sets.{Covers}
+use Rattle.esto_term.specs.Sets.{Covers}
 use Rattle.esto_semantics.specs.declared.fact.Fact.{Fact}
 use Rattle.esto_term.specs.declared.term.Term.{Term}
-use Rattle.esto_world_laws.specs.Laws.{HasMatch}
-use Rattle.esto_world_laws.specs.Steps.{AreJoined}
-use Rattle.esto_world_laws.specs.Worlds.{InWorld}
-use Rattle.esto_world_laws.specs.declared.entry.Entry.{Entry}
+use Rattle.esto_chase_laws.specs.WorldLaws.{HasMatch}
+use Rattle.esto_chase_laws.specs.WorldSteps.{AreJoined}
+use Rattle.esto_chase_laws.specs.Worlds.{InWorld}
+use Rattle.esto_chase_laws.specs.declared.entry.Entry.{Entry}
 use Rattle.esto_constraint.proofs.RuleLemmas.{are_rules}
 use Rattle.esto_contain.proofs.MinimisedLemmas.{head_length}
 use Rattle.esto_contain.proofs.NumberedLemmas.{numbered_below, numbered_flat}

@@ -1,9 +1,9 @@
 use Rattle.std.proofs.Common.{List, ◌++◌, sym, subst, ◌∙◌}
 use Rattle.esto_term.specs.declared.term.Term.{Term}
 use Rattle.esto_semantics.specs.Facts.{terms_of}
-use Rattle.esto_world_laws.specs.Derived.{IsNamed}
-use Rattle.esto_world_laws.specs.Matches.{Fits}
-use Rattle.esto_world_laws.specs.Worlds.{InWorld, Linked}
+use Rattle.esto_chase_laws.specs.Derived.{IsNamed}
+use Rattle.esto_chase_laws.specs.WorldMatches.{Fits}
+use Rattle.esto_chase_laws.specs.Worlds.{InWorld, Linked}
 use Rattle.esto_derive.proofs.certificate.links_for.Goals as goal
 
 pub links_of-requires-clause-fits : goal.links_of-requires-clause-fits

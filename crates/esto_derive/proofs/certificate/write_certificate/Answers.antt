@@ -4,11 +4,11 @@ use Rattle.esto_constraint.specs.Constraints.{rules_of}
 use Rattle.esto_constraint.specs.declared.rule.Constraint.{Constraint}
 use Rattle.esto_query.specs.Making.{query_of}
 use Rattle.esto_views.specs.Plans.{fact_of}
-use Rattle.esto_world_laws.specs.Derived.{AreDerived}
-use Rattle.esto_world_laws.specs.Laws.{HasMatch}
-use Rattle.esto_world_laws.specs.Steps.{AreJoined}
-use Rattle.esto_world_laws.specs.Worlds.{AreOfCount, InWorld}
-use Rattle.esto_world_laws.specs.declared.entry.Entry.{Entry}
+use Rattle.esto_chase_laws.specs.Derived.{AreDerived}
+use Rattle.esto_chase_laws.specs.WorldLaws.{HasMatch}
+use Rattle.esto_chase_laws.specs.WorldSteps.{AreJoined}
+use Rattle.esto_chase_laws.specs.Worlds.{AreOfCount, InWorld}
+use Rattle.esto_chase_laws.specs.declared.entry.Entry.{Entry}
 use Rattle.esto_derive.proofs.AcceptLemmas.{accepted, as_read}
 use Rattle.esto_derive.proofs.FlatLemmas.{flat}
 use Rattle.esto_derive.proofs.certificate.write_certificate.Goals as goal

@@ -3,7 +3,7 @@ use Rattle.std.proofs.lemmas.Result.{IfOk-weaker}
 use Rattle.esto_term.specs.declared.term.Term.{Term}
 use Rattle.esto_semantics.specs.Facts.{terms_of}
 use Rattle.esto_semantics.specs.declared.fact.Fact.{Fact}
-use Rattle.esto_world_laws.specs.Worlds.{InWorld}
+use Rattle.esto_chase_laws.specs.Worlds.{InWorld}
 use Rattle.esto_derive.specs.Marking.{AreUsed}
 use Rattle.esto_derive.specs.Searching.{IsFound}
 use Rattle.esto_derive.specs.Writing.{terms_at, WritesMatch}

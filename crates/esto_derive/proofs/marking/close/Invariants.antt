@@ -1,6 +1,6 @@
 use Rattle.std.proofs.Common.{◌≡◌, ◌⊎◌, ◌≤◌, ℕ, List, Bool, Some, length, slice_get, Contains}
-use Rattle.esto_semantics.specs.Sets.{Has}
-use Rattle.esto_world_laws.specs.declared.entry.Entry.{Entry}
+use Rattle.esto_term.specs.Sets.{Has}
+use Rattle.esto_chase_laws.specs.declared.entry.Entry.{Entry}
 use Rattle.esto_derive.specs.Marking.{named_by, AreUsedWithin, IsNamedByUsed}
 use Rattle.esto_derive.proofs.marking.close.Given as goal
 

@@ -1,5 +1,5 @@
 use Rattle.std.proofs.Common.{ℕ, List, Contains, subst, sym}
-use Rattle.esto_world_laws.specs.declared.entry.Reason.{Reason}
+use Rattle.esto_chase_laws.specs.declared.entry.Reason.{Reason}
 use Rattle.esto_derive.specs.Marking.{named_by}
 use Rattle.esto_derive.proofs.marking.put_named.Goals as goal
 

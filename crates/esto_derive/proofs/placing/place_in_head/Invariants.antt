@@ -1,6 +1,6 @@
 use Rattle.std.proofs.Common.{ℕ, ◌+◌, ◌<◌}
 use Rattle.esto_constraint.specs.Constraints.{rule_of}
-use Rattle.esto_world_laws.specs.Matches.{taken}
+use Rattle.esto_chase_laws.specs.WorldMatches.{taken}
 use Rattle.esto_derive.specs.Placing.{Makes}
 use Rattle.esto_derive.proofs.placing.place_in_head.Given as goal
 

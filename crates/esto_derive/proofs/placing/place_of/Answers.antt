@@ -2,8 +2,8 @@ use Rattle.std.proofs.Common.{◌≡◌, ℕ, ◌+◌, ◌<◌, Some, sym, subst
 use Rattle.std.proofs.lemmas.Result.{IfOk-weaker}
 use Rattle.esto_constraint.specs.Constraints.{rule_of}
 use Rattle.esto_constraint.specs.declared.rule.Constraint.{Constraint}
-use Rattle.esto_world_laws.specs.Matches.{taken}
-use Rattle.esto_world_laws.specs.Steps.{IsAsked}
+use Rattle.esto_chase_laws.specs.WorldMatches.{taken}
+use Rattle.esto_chase_laws.specs.WorldSteps.{IsAsked}
 use Rattle.esto_cert.specs.Certificates.{made_at}
 use Rattle.esto_derive.specs.Placing.{Makes}
 use Rattle.esto_derive.proofs.PlaceLemmas.{asked_at, made_exactly}

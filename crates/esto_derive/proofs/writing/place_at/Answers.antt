@@ -3,8 +3,8 @@ use Rattle.esto_term.specs.declared.term.Term.{Term}
 use Rattle.esto_constraint.specs.Constraints.{rule_of}
 use Rattle.esto_semantics.specs.Facts.{terms_of}
 use Rattle.esto_semantics.specs.Rules.{body_of}
-use Rattle.esto_world_laws.specs.Matches.{taken}
-use Rattle.esto_world_laws.specs.Steps.{IsAsked}
+use Rattle.esto_chase_laws.specs.WorldMatches.{taken}
+use Rattle.esto_chase_laws.specs.WorldSteps.{IsAsked}
 use Rattle.esto_cert.specs.Certificates.{made_at}
 use Rattle.esto_derive.proofs.writing.place_at.Goals as goal
 

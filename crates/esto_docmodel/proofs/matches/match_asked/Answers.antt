@@ -1,6 +1,6 @@
 use Rattle.std.proofs.Common.{ℕ, List, map, suc, length, Contains, AllPairs, ap, sym, ◌∙◌, subst}
 use Rattle.esto_term.specs.declared.term.Term.{Term}
-use Rattle.esto_query.specs.Valuations.{Assignment}
+use Rattle.esto_semantics.specs.Valuations.{Assignment}
 use Rattle.esto_docmodel.specs.Matching.{AreRows, valuation_of}
 use Rattle.esto_docmodel.specs.Shapes.{shape, entries_of}
 use Rattle.esto_docmodel.specs.Valuations.{AreMatches, BindsVariables, GivesTexts, ComesBefore}

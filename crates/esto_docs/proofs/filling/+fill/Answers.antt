@@ -12,7 +12,8 @@ use Rattle.esto_docs.specs.declared.filling.Pending.{Pending}
 use Rattle.esto_docs.specs.Filling.{value_node, cells_of, AreReady, Fills, FillsSome, tasks_of, with_path, value_text}
 use Rattle.esto_docs.proofs.FillingLemmas.{entry_some, weight, cells_count, weight_in, fills_items, fills_member, fills_value, fills_textless, fills_groupless, fills_group, ready_step, ready_group, some_goes, value_end, group_end, group_weight}
 use Rattle.esto_docs.proofs.HoldingLemmas.{textless, textful}
-use Rattle.esto_docs.proofs.FillingTurns.{popped_ready, popped_fills, popped_weight, pushed_ready, pushed_fills, all_done, entry_ready, entry_fills, entry_lighter, rest_fills, none_left, items_more}
+use Rattle.esto_docs.proofs.FillingTurns.{popped_ready, popped_fills, popped_weight, pushed_ready, pushed_fills, all_done, entry_ready, entry_fills, entry_lighter, rest_fills, items_more}
+use Rattle.std.proofs.lemmas.List.{nil_from_length}
 use Rattle.esto_docs.proofs.filling.+fill.Goals as goal
 
 pub fill-returns-in_default-clause-fills : goal.fill-returns-in_default-clause-fills
@@ -38,7 +39,7 @@ fill-returns-clause-fills t c =
 pub fill_pending-returns-in_default-clause-fills : goal.fill_pending-returns-in_default-clause-fills
 fill_pending-returns-in_default-clause-fills t c =
     on_ok_weaker c.fill.result
-    (rest_fills (length c.args.cells.now) c.args.todo.now.items c.args.pending (none_left c.args.pending.entries.now c.in_default.ensures.cases)
+    (rest_fills (length c.args.cells.now) c.args.todo.now.items c.args.pending (nil_from_length c.args.pending.entries.now c.in_default.ensures.cases)
     (cells_of c.args.cells.now) (cells_of c.fill.new.cells) c.args.rows.now c.fill.new.rows) c.fill.ensures.fills
 
 pub fill_pending-follow-requires : goal.fill_pending-follow-requires

@@ -1,5 +1,5 @@
 use Rattle.std.proofs.Common.{◌≡◌, ◌++◌, map, drop}
-use Rattle.esto_query.specs.Valuations.{map_of}
+use Rattle.esto_semantics.specs.Valuations.{map_of}
 use Rattle.esto_fill.specs.Records.{cell_of}
 use Rattle.esto_fill.proofs.record.cells_of.Given as goal
 

@@ -2,7 +2,7 @@ use Rattle.std.proofs.Common.{◌≡◌, ◌+◌, ◌-◌, ◌∷◌, [], ap, sy
 use Rattle.std.specs.Prelude.{slice_index_or}
 use Rattle.std.proofs.lemmas.Bool.{false≢true}
 use Rattle.esto_columns.specs.Indexed.{bucket_of}
-use Rattle.esto_world_laws.specs.declared.entry.Claim.TheVariants.{Same}
+use Rattle.esto_chase_laws.specs.declared.entry.Claim.TheVariants.{Same}
 use Rattle.esto_known.specs.Hashes.{claim_key, pair_hash}
 use Rattle.esto_known.proofs.IndexLemmas.{seek_start, seek_more, linking_none}
 use Rattle.esto_known.proofs.finding.place_linking.Goals as goal

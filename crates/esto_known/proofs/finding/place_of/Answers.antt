@@ -1,6 +1,6 @@
 use Rattle.std.proofs.Common.{subst}
-use Rattle.esto_world_laws.specs.Claims.{AreSameClaim}
-use Rattle.esto_world_laws.proofs.ClaimLemmas.{same_stated, same_says}
+use Rattle.esto_chase_laws.specs.Claims.{AreSameClaim}
+use Rattle.esto_chase_laws.proofs.ClaimLemmas.{same_stated, same_says}
 use Rattle.esto_known.proofs.GroupLemmas.{match_weaker, place_same, place_linked}
 use Rattle.esto_known.proofs.finding.place_of.Goals as goal
 

@@ -1,5 +1,5 @@
 use Rattle.std.proofs.Common.{map}
-use Rattle.esto_world_laws.specs.declared.entry.Claim.TheVariants.{Fact as Stated}
+use Rattle.esto_chase_laws.specs.declared.entry.Claim.TheVariants.{Fact as Stated}
 use Rattle.esto_known.specs.Hashes.{claim_key}
 use Rattle.esto_known.specs.Groups.{claims_of, StatesAt}
 use Rattle.esto_known.proofs.IndexLemmas.{Sought}

@@ -1,6 +1,6 @@
 use Rattle.std.proofs.Common.{◌<◌, ◌++◌, ◌∷◌, [], Contains, refl, sym, subst}
 use Rattle.std.proofs.lemmas.Option.{slice_get_within}
-use Rattle.esto_world_laws.specs.Claims.{AreSameClaim}
+use Rattle.esto_chase_laws.specs.Claims.{AreSameClaim}
 use Rattle.std.proofs.lemmas.Result.{on_ok_weaker}
 use Rattle.esto_known.specs.Indexes.{AreKeysOf}
 use Rattle.esto_known.specs.Groups.{AreGroups}

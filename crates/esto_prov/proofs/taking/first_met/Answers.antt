@@ -1,7 +1,7 @@
 use Rattle.std.proofs.Common.{sym, ◌∙◌, arith}
 use Rattle.esto_term.proofs.ListLemmas.{thing_at}
 use Rattle.esto_term.proofs.PlaceLemmas.{item_at}
-use Rattle.esto_query.proofs.SubstitutionLemmas.{substituted_later}
+use Rattle.esto_semantics.proofs.SubstitutionLemmas.{substituted_later}
 use Rattle.esto_prov.proofs.MeetLemmas.{nothing_left}
 use Rattle.esto_prov.proofs.taking.first_met.Goals as goal
 

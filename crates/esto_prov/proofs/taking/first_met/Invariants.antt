@@ -1,5 +1,5 @@
 use Rattle.std.proofs.Common.{◌≡◌, drop}
-use Rattle.esto_query.specs.Spreads.{substituted}
+use Rattle.esto_semantics.specs.Spreads.{substituted}
 use Rattle.esto_prov.proofs.taking.first_met.Given as goal
 
 abbrev pub invariant-places : goal.invariant-places

@@ -1,6 +1,6 @@
 use Rattle.std.proofs.Common.{cond, sym, ap, ◌∙◌}
 use Rattle.std.proofs.lemmas.Result.{IfOk-weaker}
-use Rattle.esto_world_laws.specs.Matches.{taken}
+use Rattle.esto_chase_laws.specs.WorldMatches.{taken}
 use Rattle.esto_chase_laws.specs.Making.{made_for}
 use Rattle.esto_prov.proofs.MeetLemmas.{member_is}
 use Rattle.esto_prov.proofs.taking.made_term.Goals as goal

@@ -1,6 +1,6 @@
 use Rattle.std.proofs.Common.{[], ◌∷◌, ◌++◌, ◌∙◌, ap, map, sym}
 use Rattle.std.proofs.lemmas.List.{map_more, take_all}
-use Rattle.esto_world_laws.specs.Matches.{taken}
+use Rattle.esto_chase_laws.specs.WorldMatches.{taken}
 use Rattle.esto_prov.proofs.taking.taken_terms.Goals as goal
 
 pub terms-preserved : goal.terms-preserved

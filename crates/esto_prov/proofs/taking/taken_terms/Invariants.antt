@@ -1,5 +1,5 @@
 use Rattle.std.proofs.Common.{◌≡◌, map, take}
-use Rattle.esto_world_laws.specs.Matches.{taken}
+use Rattle.esto_chase_laws.specs.WorldMatches.{taken}
 use Rattle.esto_prov.proofs.taking.taken_terms.Given as goal
 
 abbrev pub invariant-terms : goal.invariant-terms

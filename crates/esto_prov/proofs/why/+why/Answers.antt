@@ -1,6 +1,6 @@
 use Rattle.std.proofs.Common.{ap, ◌∙◌, subst, arith}
-use Rattle.esto_world_laws.specs.declared.entry.Entry.{Entry}
-use Rattle.esto_world_laws.specs.declared.entry.Reason.TheVariants as reason
+use Rattle.esto_chase_laws.specs.declared.entry.Entry.{Entry}
+use Rattle.esto_chase_laws.specs.declared.entry.Reason.TheVariants as reason
 use Rattle.esto_prov.specs.Derivations.{AreWhys}
 use Rattle.esto_prov.specs.Derivations.IsWhy.{expanded, step, same}
 use Rattle.esto_prov.proofs.WhyLemmas.{below_step, below_chain, has_reason, whys_more, place_below}

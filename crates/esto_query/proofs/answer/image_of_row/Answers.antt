@@ -1,6 +1,6 @@
 use Rattle.std.proofs.Common.{map, ap, ◌∙◌}
 use Rattle.std.proofs.lemmas.List.{take_all}
-use Rattle.esto_query.specs.Valuations.{map_of}
+use Rattle.esto_semantics.specs.Valuations.{map_of}
 use Rattle.esto_query.specs.Trails.{with_trail}
 use Rattle.esto_query.proofs.RowLemmas.{images_more}
 use Rattle.esto_query.proofs.answer.image_of_row.Goals as goal

@@ -1,5 +1,5 @@
 use Rattle.std.proofs.Common.{◌≡◌, map, take}
-use Rattle.esto_query.specs.Valuations.{map_of}
+use Rattle.esto_semantics.specs.Valuations.{map_of}
 use Rattle.esto_query.specs.Trails.{with_trail}
 use Rattle.esto_query.proofs.answer.image_of_row.Given as goal
 

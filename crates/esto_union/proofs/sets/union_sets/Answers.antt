@@ -3,8 +3,8 @@ use Rattle.std.proofs.lemmas.List.{length-map}
 use Rattle.esto_term.proofs.ListLemmas.{Contains-map}
 use Rattle.esto_constraint.specs.Constraints.{rules_of}
 use Rattle.esto_query.specs.Making.{query_of}
-use Rattle.esto_semantics.specs.Sets.{TellHolds}
-use Rattle.esto_semantics.proofs.CoverLemmas.{minimal-cover}
+use Rattle.esto_term.specs.Sets.{TellHolds}
+use Rattle.esto_term.proofs.CoverLemmas.{minimal-cover}
 use Rattle.esto_views.specs.Fragments.{views_of, patterns_of}
 use Rattle.esto_views.specs.Plans.{fact_of, plan_query}
 use Rattle.esto_union.specs.Unions.{AnswersPart, IsRewritingIn, queries_of}

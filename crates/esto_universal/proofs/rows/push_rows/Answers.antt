@@ -1,6 +1,6 @@
 use Rattle.std.proofs.Common.{◌++◌, ◌∷◌, [], map, take, refl, ap, ◌∙◌}
 use Rattle.std.proofs.lemmas.List.{append_assoc}
-use Rattle.esto_query.proofs.SubstitutionLemmas.{map_more}
+use Rattle.esto_semantics.proofs.SubstitutionLemmas.{map_more}
 use Rattle.esto_universal.specs.Rows.{over}
 use Rattle.esto_universal.proofs.rows.push_rows.Goals as goal
 

@@ -1,7 +1,7 @@
 use Rattle.std.proofs.Common.{◌++◌, ◌∷◌, [], map, ap, ◌∙◌}
 use Rattle.std.proofs.lemmas.List.{take_all}
 use Rattle.esto_views.specs.Plans.{fact_of}
-use Rattle.esto_query.proofs.SubstitutionLemmas.{map_more}
+use Rattle.esto_semantics.proofs.SubstitutionLemmas.{map_more}
 use Rattle.esto_views.proofs.atoms.plan_facts.Goals as goal
 
 pub atoms-init : goal.atoms-init

@@ -1,5 +1,5 @@
 use Rattle.std.proofs.lemmas.Option.{slice_get_within}
-use Rattle.esto_query.specs.Spreads.{substituted}
+use Rattle.esto_semantics.specs.Spreads.{substituted}
 use Rattle.esto_views.proofs.ExpandedLemmas.{fragment_is}
 use Rattle.esto_views.proofs.expansion.expand_atom.Goals as goal
 

@@ -1,6 +1,6 @@
 use Rattle.std.proofs.Common.{◌++◌, List, length, drop}
 use Rattle.esto_views.specs.Expanded.{AreExpanded}
-use Rattle.esto_query.specs.declared.expanded.ExpandedFact.{ExpandedFact}
+use Rattle.esto_semantics.specs.declared.expanded.ExpandedFact.{ExpandedFact}
 use Rattle.esto_views.proofs.expansion.expanded_facts.Given as goal
 
 abbrev pub invariant-atoms : goal.invariant-atoms

@@ -1,7 +1,7 @@
 use Rattle.std.proofs.Common.{◌≡◌, ◌++◌, map, drop}
 use Rattle.esto_semantics.specs.Facts.{image}
 use Rattle.esto_views.specs.Expanded.{placed}
-use Rattle.esto_query.specs.Spreads.{substituted}
+use Rattle.esto_semantics.specs.Spreads.{substituted}
 use Rattle.esto_views.proofs.expansion.push_facts.Given as goal
 
 abbrev pub invariant-parts : goal.invariant-parts

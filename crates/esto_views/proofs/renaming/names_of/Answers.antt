@@ -1,6 +1,6 @@
 use Rattle.std.proofs.Common.{◌++◌, ◌∷◌, [], map, ap, ◌∙◌}
 use Rattle.std.proofs.lemmas.List.{take_all}
-use Rattle.esto_query.proofs.SubstitutionLemmas.{map_more}
+use Rattle.esto_semantics.proofs.SubstitutionLemmas.{map_more}
 use Rattle.esto_views.specs.Renamings.{name_of}
 use Rattle.esto_views.proofs.renaming.names_of.Goals as goal
 

@@ -1,6 +1,6 @@
 use Rattle.std.proofs.Common.{◌++◌, ◌∷◌, [], map, ap, ◌∙◌}
 use Rattle.std.proofs.lemmas.List.{take_all}
-use Rattle.esto_query.proofs.SubstitutionLemmas.{map_more}
+use Rattle.esto_semantics.proofs.SubstitutionLemmas.{map_more}
 use Rattle.esto_views.specs.Renamings.{numbered, renamed_atom}
 use Rattle.esto_views.proofs.renaming.rename_rows.Goals as goal
 

@@ -1,5 +1,5 @@
 use Rattle.std.proofs.Common.{refl, arith}
-use Rattle.esto_query.proofs.SubstitutionLemmas.{spread_none, spread_more, spread_end}
+use Rattle.esto_semantics.proofs.SubstitutionLemmas.{spread_none, spread_more, spread_end}
 use Rattle.esto_views.proofs.spread.push_inner.Goals as goal
 
 pub inner-init : goal.inner-init

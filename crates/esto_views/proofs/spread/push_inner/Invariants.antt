@@ -1,4 +1,4 @@
-use Rattle.esto_query.proofs.SubstitutionLemmas.{IsSpreadSoFar}
+use Rattle.esto_semantics.proofs.SubstitutionLemmas.{IsSpreadSoFar}
 use Rattle.esto_views.proofs.spread.push_inner.Given as goal
 
 abbrev pub invariant-inner : goal.invariant-inner

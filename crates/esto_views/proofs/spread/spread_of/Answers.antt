@@ -2,7 +2,7 @@ use Rattle.std.proofs.Common.{◌+◌, ◌++◌, ap, ◌∙◌, length, map}
 use Rattle.std.specs.List.{range_with_len}
 use Rattle.esto_term.specs.declared.term.Term.TheVariants.{Plain}
 use Rattle.esto_query.specs.Making.{query_of}
-use Rattle.esto_query.proofs.SubstitutionLemmas.{spread_done}
+use Rattle.esto_semantics.proofs.SubstitutionLemmas.{spread_done}
 use Rattle.esto_views.proofs.spread.spread_of.Goals as goal
 
 pub returns : goal.returns

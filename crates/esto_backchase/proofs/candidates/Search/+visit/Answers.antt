@@ -2,7 +2,7 @@ use Rattle.std.proofs.Common.{◌+◌, ◌<◌, true, inl, inr, ap, length, get_
 use Rattle.std.proofs.lemmas.List.{length-set}
 use Rattle.std.proofs.lemmas.List.Elements.{Contains-get_or}
 use Rattle.std.proofs.lemmas.Result.{on_ok_weaker}
-use Rattle.esto_semantics.specs.Sets.{Has}
+use Rattle.esto_term.specs.Sets.{Has}
 use Rattle.esto_backchase.specs.Candidates.{Answers}
 use Rattle.esto_backchase.specs.Searching.{HasOneOf, IsBetween}
 use Rattle.esto_backchase.proofs.VisitLemmas.{AreEarlier, HasOneBelow, between-more, earlier-more, earlier-none, fails-there, fails-within, further-lacks}

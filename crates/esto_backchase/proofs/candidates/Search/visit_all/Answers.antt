@@ -3,7 +3,7 @@ use Rattle.std.proofs.lemmas.Bool.{false≢true}
 use Rattle.std.proofs.lemmas.List.{length-replicate}
 use Rattle.std.proofs.lemmas.Result.{on_ok_weaker}
 use Rattle.esto_access.proofs.NeedLemmas.{none_within}
-use Rattle.esto_semantics.specs.Sets.{Has}
+use Rattle.esto_term.specs.Sets.{Has}
 use Rattle.esto_backchase.specs.Candidates.{Answers}
 use Rattle.esto_backchase.specs.Searching.{AreFailing, IsBetween}
 use Rattle.esto_backchase.proofs.VisitLemmas.{all-between, failing-none, visited-as}

@@ -1,6 +1,6 @@
 use Rattle.std.proofs.Common.{◌≡◌, ◌∙◌, ap, refl, subst, sym}
 use Rattle.std.proofs.lemmas.Bool.{false≢true}
-use Rattle.esto_semantics.specs.Sets.{Covers}
+use Rattle.esto_term.specs.Sets.{Covers}
 use Rattle.esto_bits.specs.Kept.{AreOver, CoversAlso, IsAntichain, Kept, with_set}
 use Rattle.esto_bits.proofs.FamilyLemmas.{covered-with_set, with_set-covered}
 use Rattle.esto_bits.proofs.ProductLemmas.{added, below_count, covers_row}

@@ -1,5 +1,5 @@
 use Rattle.std.proofs.Common.{◌∙◌, ap, arith}
-use Rattle.esto_semantics.specs.Sets.{united}
+use Rattle.esto_term.specs.Sets.{united}
 use Rattle.esto_bits.specs.Kept.{with_set}
 use Rattle.esto_bits.proofs.JoinLemmas.{united_next, united_there}
 use Rattle.esto_bits.proofs.products.Products.add_united.Goals as goal

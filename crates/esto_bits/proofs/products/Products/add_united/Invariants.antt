@@ -1,5 +1,5 @@
 use Rattle.std.proofs.Common.{◌≡◌, map, take}
-use Rattle.esto_semantics.specs.Sets.{united}
+use Rattle.esto_term.specs.Sets.{united}
 use Rattle.esto_bits.specs.Kept.{with_sets}
 use Rattle.esto_bits.proofs.products.Products.add_united.Given as goal
 

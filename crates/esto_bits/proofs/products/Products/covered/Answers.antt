@@ -1,5 +1,5 @@
 use Rattle.std.proofs.Common.{◌↔◌, ◌∙◌, IsTrue, ap, subst, sym}
-use Rattle.esto_semantics.specs.Sets.{Covers}
+use Rattle.esto_term.specs.Sets.{Covers}
 use Rattle.esto_bits.specs.Kept.{Kept}
 use Rattle.esto_bits.proofs.ProductLemmas.{covers_row}
 use Rattle.esto_bits.proofs.products.Products.covered.Goals as goal

@@ -1,4 +1,4 @@
-use Rattle.esto_semantics.specs.Sets.{Covers}
+use Rattle.esto_term.specs.Sets.{Covers}
 use Rattle.esto_term.proofs.ListLemmas.{HoldsBelow}
 use Rattle.esto_bits.proofs.products.Products.covers_all.Given as goal
 

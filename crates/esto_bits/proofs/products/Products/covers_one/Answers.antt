@@ -1,6 +1,6 @@
 use Rattle.std.proofs.Common.{◌≡◌, ◌∙◌, IfSome, IsTrue, Some, ap, slice_get, subst, sym}
 use Rattle.std.specs.Prelude.{◌↔◌}
-use Rattle.esto_semantics.specs.Sets.{Covers}
+use Rattle.esto_term.specs.Sets.{Covers}
 use Rattle.esto_bits.specs.Kept.{Kept}
 use Rattle.esto_bits.specs.Words.{AreWordsBelow, set_of}
 use Rattle.esto_bits.proofs.products.Products.covers_one.Goals as goal

@@ -1,5 +1,5 @@
 use Rattle.std.proofs.Common.{inl, inr, ap, subst, ◌∙◌}
-use Rattle.esto_semantics.specs.Sets.{Covers}
+use Rattle.esto_term.specs.Sets.{Covers}
 use Rattle.esto_bits.specs.Kept.{with_set}
 use Rattle.esto_bits.proofs.JoinLemmas.{covers_none}
 use Rattle.esto_bits.proofs.products.Products.only.Goals as goal

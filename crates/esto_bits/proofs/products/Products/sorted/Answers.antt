@@ -1,6 +1,6 @@
 use Rattle.std.proofs.Common.{◌↔◌, Contains, rules, subst, sym}
 use Rattle.std.specs.List.Sorted.{IsPermutation}
-use Rattle.esto_semantics.specs.Sets.{AreInOrder}
+use Rattle.esto_term.specs.Sets.{AreInOrder}
 use Rattle.esto_bits.proofs.SortLemmas.{in_order_from_sort_by, sorted_members}
 use Rattle.esto_bits.proofs.products.Products.sorted.Goals as goal
 

@@ -1,7 +1,7 @@
 use Rattle.std.proofs.Common.{◌≡◌, length}
 use Rattle.std.specs.Cmp.Lexicographic.{slice_cmp}
 use Rattle.std.specs.Ordering.{nat_cmp}
-use Rattle.esto_semantics.specs.Sets.{set_cmp}
+use Rattle.esto_term.specs.Sets.{set_cmp}
 use Rattle.esto_bits.proofs.NumberLemmas.{later_numbers}
 use Rattle.esto_bits.proofs.row_bits.RowBits.compare.Given as goal
 

@@ -1,6 +1,6 @@
 use Rattle.std.proofs.Common.{◌≡◌, ◌<◌, ◌/◌, sym, subst}
 use Rattle.std.specs.Prelude.{◌↔◌, ◌⊎◌}
-use Rattle.esto_semantics.specs.Sets.{Has}
+use Rattle.esto_term.specs.Sets.{Has}
 use Rattle.esto_bits.proofs.SetLemmas.{Has-set}
 use Rattle.esto_bits.proofs.WordLemmas.{word_within, keep-changed}
 use Rattle.esto_bits.proofs.row_bits.RowBits.insert.Goals as goal

@@ -2,7 +2,7 @@ use Rattle.std.proofs.Common.{◌↔◌, ◌⊎◌, ◌<◌, ℕ, inl, inr, leng
 use Rattle.std.proofs.lemmas.List.{length-set, take_all}
 use Rattle.std.proofs.lemmas.List.Elements.{All-get_or}
 use Rattle.esto_term.proofs.ListLemmas.{Contains-nil}
-use Rattle.esto_semantics.specs.Sets.{Has}
+use Rattle.esto_term.specs.Sets.{Has}
 use Rattle.esto_bits.proofs.SetLemmas.{inserted_more}
 use Rattle.esto_bits.proofs.row_bits.RowBits.insert_all.Goals as goal
 

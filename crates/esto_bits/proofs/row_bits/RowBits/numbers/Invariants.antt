@@ -1,5 +1,5 @@
 use Rattle.std.proofs.Common.{◌≡◌, ◌++◌}
-use Rattle.esto_semantics.specs.Sets.{numbers}
+use Rattle.esto_term.specs.Sets.{numbers}
 use Rattle.esto_bits.proofs.NumberLemmas.{later_numbers}
 use Rattle.esto_bits.proofs.row_bits.RowBits.numbers.Given as goal
 

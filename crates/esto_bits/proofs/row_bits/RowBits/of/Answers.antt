@@ -1,7 +1,7 @@
 use Rattle.std.proofs.Common.{◌<◌, All, false, inl, inr, length, ap, sym, subst, ◌∙◌}
 use Rattle.std.proofs.lemmas.List.{length-replicate}
-use Rattle.esto_semantics.specs.Sets.{Has}
-use Rattle.esto_semantics.proofs.AccessLemmas.{none_has}
+use Rattle.esto_term.specs.Sets.{Has}
+use Rattle.esto_term.proofs.SetLemmas.{none_has}
 use Rattle.esto_bits.proofs.row_bits.RowBits.of.Goals as goal
 
 pub insert_all-requires : goal.insert_all-requires

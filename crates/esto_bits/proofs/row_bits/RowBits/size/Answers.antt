@@ -1,5 +1,5 @@
 use Rattle.std.proofs.Common.{ℕ, ◌≡◌, ◌<◌, ◌^◌, ◌∙◌, length, slice_index_or, count_ones, sum_by, ap, subst, arith}
-use Rattle.esto_semantics.specs.Sets.{numbers}
+use Rattle.esto_term.specs.Sets.{numbers}
 use Rattle.esto_bits.proofs.CountLemmas.{few, size_is}
 use Rattle.esto_bits.proofs.WordLemmas.{Keep, count_is}
 use Rattle.esto_bits.proofs.row_bits.RowBits.size.Goals as goal

@@ -1,7 +1,7 @@
 use Rattle.std.proofs.Common.{◌≡◌, ◌∙◌, sym, ap, subst}
 use Rattle.std.specs.Prelude.{◌↔◌, ◌⊎◌}
-use Rattle.esto_semantics.specs.Sets.{Has, united}
-use Rattle.esto_semantics.proofs.SetLemmas.{has_united}
+use Rattle.esto_term.specs.Sets.{Has, united}
+use Rattle.esto_term.proofs.SetLemmas.{has_united}
 use Rattle.esto_bits.specs.Words.{AreWordsBelow, set_of}
 use Rattle.esto_bits.proofs.row_bits.RowBits.union.Goals as goal
 

@@ -1,6 +1,6 @@
 use Rattle.std.proofs.Common.{◌∙◌, ap, refl, sym, length}
-use Rattle.esto_semantics.specs.Sets.{united}
-use Rattle.esto_semantics.proofs.SetLemmas.{length-united}
+use Rattle.esto_term.specs.Sets.{united}
+use Rattle.esto_term.proofs.SetLemmas.{length-united}
 use Rattle.esto_bits.specs.Words.{set_of}
 use Rattle.esto_bits.proofs.WordLemmas.{Keep, same_length, length-set_of, keep-joined}
 use Rattle.esto_bits.proofs.row_bits.RowBits.union_words.Goals as goal

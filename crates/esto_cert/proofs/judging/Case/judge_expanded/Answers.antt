@@ -1,6 +1,6 @@
 use Rattle.std.proofs.Common.{ap, arith}
 use Rattle.esto_term.proofs.ListLemmas.{Contains-nil, Contains-read}
-use Rattle.esto_world_laws.specs.declared.entry.Claim.TheVariants.{Fact as Stated}
+use Rattle.esto_chase_laws.specs.declared.entry.Claim.TheVariants.{Fact as Stated}
 use Rattle.esto_cert.specs.Certificates.{IsNamed}
 use Rattle.esto_cert.proofs.JudgeLemmas.{none_more, none_all}
 use Rattle.esto_cert.proofs.judging.Case.judge_expanded.Goals as goal

@@ -1,5 +1,5 @@
 use Rattle.std.proofs.Common.{Contains, take}
-use Rattle.esto_query.specs.declared.expanded.ExpandedFact.{ExpandedFact}
+use Rattle.esto_semantics.specs.declared.expanded.ExpandedFact.{ExpandedFact}
 use Rattle.esto_cert.specs.Certificates.{IsNamed}
 use Rattle.esto_cert.proofs.judging.Case.judge_expanded.Given as goal
 

@@ -1,5 +1,5 @@
 use Rattle.std.proofs.Common.{map, ap, ◌∙◌}
-use Rattle.esto_world_laws.specs.Matches.{taken}
+use Rattle.esto_chase_laws.specs.WorldMatches.{taken}
 use Rattle.esto_cert.proofs.JudgeLemmas.{no_end, may_end, may_not_end}
 use Rattle.esto_cert.proofs.judging.Case.judge_match.Goals as goal
 

@@ -1,7 +1,7 @@
 use Rattle.std.proofs.Common.{◌-◌, List, option_map, ap, sym, ◌∙◌}
 use Rattle.esto_term.specs.declared.term.Term.{Term}
 use Rattle.esto_constraint.specs.Constraints.{rule_of, rules_of}
-use Rattle.esto_world_laws.specs.Matches.{taken}
+use Rattle.esto_chase_laws.specs.WorldMatches.{taken}
 use Rattle.esto_cert.specs.Certificates.{made_at}
 use Rattle.esto_cert.proofs.JudgeLemmas.{makes_nothing, numbered_rule}
 use Rattle.esto_cert.proofs.judging.Case.judge_step.Goals as goal

@@ -5,9 +5,9 @@ use Rattle.std.proofs.lemmas.Result.{IfOk-weaker}
 use Rattle.esto_term.proofs.ListLemmas.{each_more, each_seen}
 use Rattle.esto_term.specs.declared.term.Term.{Term}
 use Rattle.esto_semantics.specs.declared.fact.Fact.{Fact}
-use Rattle.esto_world_laws.specs.Matches.{Fits, taken}
-use Rattle.esto_world_laws.specs.Worlds.{InWorld, Linked}
-use Rattle.esto_world_laws.specs.declared.entry.Entry.{Entry}
+use Rattle.esto_chase_laws.specs.WorldMatches.{Fits, taken}
+use Rattle.esto_chase_laws.specs.Worlds.{InWorld, Linked}
+use Rattle.esto_chase_laws.specs.declared.entry.Entry.{Entry}
 use Rattle.esto_derive.specs.Searching.{IsFound, IsFoundBy}
 use Rattle.esto_derive.proofs.FoundLemmas.{found_after, found_by, found_none, found_nothing, fits_row, row_of, unfit}
 use Rattle.esto_derive.proofs.searching.World.+find.Goals as goal

@@ -1,4 +1,4 @@
-use Rattle.esto_world_laws.specs.Worlds.{InWorld, Linked}
+use Rattle.esto_chase_laws.specs.Worlds.{InWorld, Linked}
 use Rattle.esto_derive.proofs.FoundLemmas.{RelatedBelow}
 use Rattle.esto_derive.proofs.searching.World.are_one.Given as goal
 

@@ -1,5 +1,5 @@
 use Rattle.std.proofs.Common.{refl, subst}
-use Rattle.esto_world_laws.specs.Worlds.{InWorld, Linked, here}
+use Rattle.esto_chase_laws.specs.Worlds.{InWorld, Linked, here}
 use Rattle.esto_derive.proofs.FoundLemmas.{told}
 use Rattle.esto_derive.proofs.searching.World.is_one.Goals as goal
 

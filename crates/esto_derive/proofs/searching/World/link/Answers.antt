@@ -1,9 +1,9 @@
 use Rattle.std.proofs.Common.{length, refl, arith}
 use Rattle.std.proofs.lemmas.Option.{slice_get_read}
 use Rattle.esto_term.proofs.ListLemmas.{each_more, each_seen}
-use Rattle.esto_semantics.specs.Sets.{Within}
-use Rattle.esto_world_laws.specs.declared.entry.Entry.{Entry}
-use Rattle.esto_world_laws.specs.Worlds.{SaysOne}
+use Rattle.esto_term.specs.Sets.{Within}
+use Rattle.esto_chase_laws.specs.declared.entry.Entry.{Entry}
+use Rattle.esto_chase_laws.specs.Worlds.{SaysOne}
 use Rattle.esto_derive.proofs.FoundLemmas.{unsaid}
 use Rattle.esto_derive.proofs.searching.World.link.Goals.{else-within-via-then-within+else-says_one, else-within-via-else-within}
 use Rattle.esto_derive.proofs.searching.World.link.Goals as goal

@@ -1,7 +1,7 @@
 use Rattle.std.proofs.Common.{Contains, take}
-use Rattle.esto_semantics.specs.Sets.{Within}
-use Rattle.esto_world_laws.specs.declared.entry.Entry.{Entry}
-use Rattle.esto_world_laws.specs.Worlds.{SaysOne}
+use Rattle.esto_term.specs.Sets.{Within}
+use Rattle.esto_chase_laws.specs.declared.entry.Entry.{Entry}
+use Rattle.esto_chase_laws.specs.Worlds.{SaysOne}
 use Rattle.esto_derive.proofs.searching.World.link.Given as goal
 
 abbrev pub invariant-entries : goal.invariant-entries

@@ -2,8 +2,8 @@ use Rattle.std.proofs.Common.{length, Contains, refl, subst, arith}
 use Rattle.std.proofs.lemmas.Option.{slice_get_read}
 use Rattle.esto_term.proofs.ListLemmas.{Contains-nil}
 use Rattle.esto_term.proofs.ZipLemmas.{zip_length}
-use Rattle.esto_world_laws.specs.Derived.{IsNamed}
-use Rattle.esto_world_laws.specs.Worlds.{InWorld, Linked}
+use Rattle.esto_chase_laws.specs.Derived.{IsNamed}
+use Rattle.esto_chase_laws.specs.Worlds.{InWorld, Linked}
 use Rattle.esto_derive.proofs.FoundLemmas.{related_more, related_all, named_more}
 use Rattle.esto_derive.proofs.searching.World.links_between.Goals as goal
 

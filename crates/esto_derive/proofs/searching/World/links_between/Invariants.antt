@@ -1,5 +1,5 @@
-use Rattle.esto_world_laws.specs.Derived.{IsNamed}
-use Rattle.esto_world_laws.specs.Worlds.{Linked}
+use Rattle.esto_chase_laws.specs.Derived.{IsNamed}
+use Rattle.esto_chase_laws.specs.Worlds.{Linked}
 use Rattle.esto_derive.specs.Searching.{AreLinks}
 use Rattle.esto_derive.proofs.FoundLemmas.{RelatedBelow}
 use Rattle.esto_derive.proofs.searching.World.links_between.Given as goal

@@ -1,5 +1,5 @@
 use Rattle.std.proofs.Common.{Contains, sym, subst, ◌∙◌}
-use Rattle.esto_world_laws.specs.Worlds.{SaysOne}
+use Rattle.esto_chase_laws.specs.Worlds.{SaysOne}
 use Rattle.esto_known.proofs.IndexLemmas.{found_group}
 use Rattle.esto_known.proofs.groups.Groups.linking.Goals as goal
 

@@ -1,6 +1,6 @@
 use Rattle.std.proofs.Common.{subst}
-use Rattle.esto_world_laws.specs.declared.entry.Claim.TheVariants.{Same}
-use Rattle.esto_world_laws.proofs.ClaimLemmas.{says_same, same_says}
+use Rattle.esto_chase_laws.specs.declared.entry.Claim.TheVariants.{Same}
+use Rattle.esto_chase_laws.proofs.ClaimLemmas.{says_same, same_says}
 use Rattle.esto_known.specs.Groups.{AreGroups}
 use Rattle.esto_known.proofs.GroupLemmas.{group_counts, group_tells, none_tells}
 use Rattle.esto_known.proofs.known.Known.says_one.Goals as goal

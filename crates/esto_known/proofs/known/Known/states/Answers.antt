@@ -1,6 +1,6 @@
 use Rattle.std.proofs.Common.{subst}
-use Rattle.esto_world_laws.specs.declared.entry.Claim.TheVariants.{Fact as Stated}
-use Rattle.esto_world_laws.proofs.ClaimLemmas.{stated_same, same_stated}
+use Rattle.esto_chase_laws.specs.declared.entry.Claim.TheVariants.{Fact as Stated}
+use Rattle.esto_chase_laws.proofs.ClaimLemmas.{stated_same, same_stated}
 use Rattle.esto_known.specs.Groups.{AreGroups}
 use Rattle.esto_known.proofs.GroupLemmas.{group_counts, group_tells, none_tells}
 use Rattle.esto_known.proofs.known.Known.states.Goals as goal

@@ -1,5 +1,5 @@
 use Rattle.std.proofs.Common.{◌↔◌, ◌∙◌, Contains, sym, subst}
-use Rattle.esto_semantics.specs.Sets.{AreInOrder}
+use Rattle.esto_term.specs.Sets.{AreInOrder}
 use Rattle.esto_list.proofs.listing.Listing.of.Goals as goal
 
 pub items_of-requires : goal.items_of-requires

@@ -1,5 +1,5 @@
 use Rattle.std.proofs.Common.{◌↔◌, Bool, List, Contains, subst, ◌∙◌}
-use Rattle.esto_semantics.specs.Sets.{IsMinimal}
+use Rattle.esto_term.specs.Sets.{IsMinimal}
 use Rattle.esto_prov.specs.Products.{IsProductOf}
 use Rattle.esto_prov.proofs.entries.Entries.products_of.Goals as goal
 

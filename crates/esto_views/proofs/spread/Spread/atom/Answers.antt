@@ -1,5 +1,5 @@
-use Rattle.esto_query.specs.Spreads.{substituted}
-use Rattle.esto_query.proofs.SubstitutionLemmas.{map_more}
+use Rattle.esto_semantics.specs.Spreads.{substituted}
+use Rattle.esto_semantics.proofs.SubstitutionLemmas.{map_more}
 use Rattle.esto_views.proofs.spread.Spread.atom.Goals as goal
 
 pub terms-preserved : goal.terms-preserved

@@ -1,5 +1,5 @@
 use Rattle.std.proofs.Common.{◌≡◌, map, take}
-use Rattle.esto_query.specs.Spreads.{substituted}
+use Rattle.esto_semantics.specs.Spreads.{substituted}
 use Rattle.esto_views.proofs.spread.Spread.atom.Given as goal
 
 abbrev pub invariant-terms : goal.invariant-terms

@@ -1,6 +1,6 @@
 use Rattle.std.proofs.Common.{sym, ◌∙◌, arith}
 use Rattle.std.proofs.lemmas.Result.{IfOk-weaker}
-use Rattle.esto_query.proofs.SubstitutionLemmas.{substituted_here, substituted_later}
+use Rattle.esto_semantics.proofs.SubstitutionLemmas.{substituted_here, substituted_later}
 use Rattle.esto_views.proofs.spread.Spread.term.Goals as goal
 use Rattle.esto_term.proofs.ListLemmas.{thing_at}
 

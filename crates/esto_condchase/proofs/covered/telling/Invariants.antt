@@ -1,6 +1,0 @@
-use Rattle.std.proofs.Common.{take}
-use Rattle.esto_condchase.specs.Ways.{Tell}
-use Rattle.esto_condchase.proofs.covered.telling.Given as goal
-
-abbrev pub invariant-terms : goal.invariant-terms
-invariant-terms l = Tell l.from (take l.term-index l.terms) l.these

@@ -1,5 +1,0 @@
-use Rattle.std.proofs.Common.{◌≡◌, ◌++◌, take}
-use Rattle.esto_condchase.proofs.live.put_all.Given as goal
-
-abbrev pub invariant-more : goal.invariant-more
-invariant-more l = l.places ≡ l.fn.places ++ take l.place-index l.more

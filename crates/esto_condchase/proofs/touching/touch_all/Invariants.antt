@@ -1,9 +1,0 @@
-use Rattle.std.proofs.Common.{◌≡◌}
-use Rattle.esto_condchase.proofs.KnownLemmas.{TouchSoFar}
-use Rattle.esto_condchase.proofs.touching.touch_all.Given as goal
-
-abbrev pub invariant-terms : goal.invariant-terms
-invariant-terms l = record {
-  count : l.sets.count ≡ l.count;
-  touch : TouchSoFar l.groups l.terms l.others l.start.sets l.place l.sets.sets;
-}

@@ -1,5 +1,0 @@
-use Rattle.esto_condchase.proofs.TurnLemmas.{turns_moved}
-use Rattle.esto_condchase.proofs.turns.turns_of.Goals as goal
-
-pub returns : goal.returns
-returns c = turns_moved _ c.in_ok-turns.turns.items c.sort_by.new.self.items c.in_ok-sort_by.ensures.permutation c.in_ok-turns.ensures

@@ -1,5 +1,0 @@
-use Rattle.esto_semantics.proofs.SetLemmas as lemmas
-use Rattle.esto_semantics.proofs.sets.all_sets_are_listed.Goals as goal
-
-pub returns : goal.returns
-returns c = lemmas.all_sets_are_listed

@@ -1,6 +1,0 @@
-use Rattle.std.proofs.Common.{IsTrue}
-use Rattle.esto_semantics.proofs.CoverLemmas.{minimal_tell}
-use Rattle.esto_semantics.proofs.sets.minimal_sets_tell.Goals as goal
-
-pub returns : goal.returns
-returns c count test = minimal_tell (λ set. IsTrue (test set)) count

@@ -1,5 +1,0 @@
-use Rattle.esto_world_laws.proofs.MatchLemmas.{are_reasoned}
-use Rattle.esto_world_laws.proofs.laws.derived_entries_are_reasoned.Goals as goal
-
-pub returns : goal.returns
-returns c = are_reasoned

@@ -1,8 +1,0 @@
-use Rattle.esto_world_laws.proofs.SoundLemmas.{are_sound, are_nowhere}
-use Rattle.esto_world_laws.proofs.laws.derived_entries_are_sound.Goals as goal
-
-pub returns-clause-sound : goal.returns-clause-sound
-returns-clause-sound c = are_sound
-
-pub returns-clause-nowhere : goal.returns-clause-nowhere
-returns-clause-nowhere c = are_nowhere

@@ -1,5 +1,0 @@
-use Rattle.esto_world_laws.proofs.MatchRestLemmas.{matches_rest}
-use Rattle.esto_world_laws.proofs.laws.matches_rest_on_atoms.Goals as goal
-
-pub returns : goal.returns
-returns c = matches_rest
