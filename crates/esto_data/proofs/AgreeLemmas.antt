@@ -33,13 +33,13 @@ use Rattle.esto_views.specs.Fragments.{views_of}
 use Rattle.esto_opening.specs.Alike.{AreSameQueries}
 use Rattle.esto_opening.specs.Answers.{IsCaused}
 use Rattle.esto_opening.specs.Calm.{AgreeCalmly, IsOne}
-use Rattle.esto_fragments.specs.Fragments.{Stored, IsStoredAt, opens_fragments}
-use Rattle.esto_fragments.specs.Texts.{union_rows_text}
+use Rattle.esto_opening.specs.Fragments.{Stored, IsStoredAt, opens_fragments}
+use Rattle.esto_opening.specs.Texts.{union_rows_text}
 use Rattle.esto_opening.specs.declared.reply.Reply.TheVariants.{Done}
 use Rattle.esto_opening.specs.declared.status.Status.{Status}
 use Rattle.esto_opening.specs.declared.status.Status.TheVariants as status
 use Rattle.esto_opening.proofs.Steps.{never_wanting}
-use Rattle.esto_fragments.proofs.StoreLemmas.{same_stored}
+use Rattle.esto_opening.proofs.StoreLemmas.{same_stored}
 use Rattle.esto_constraint.proofs.RuleLemmas.{are_rules}
 use Rattle.esto_data.specs.Answer.{IsUnionAnswerOfFacts, answer_course, answers_union, lists_texts}
 use Rattle.esto_data.specs.Audit.{AuditsFiles, all_fragments, audit_course, audit_text, audits_catalogue, audits_facts, compares, judges_views}

@@ -31,8 +31,8 @@ use Rattle.esto_term.proofs.ListLemmas.{map_at, map_at-from}
 use Rattle.esto_term.specs.declared.term.Term.{Term}
 use Rattle.esto_views.specs.declared.fragments.FragmentDef.{FragmentDef}
 use Rattle.esto_views.specs.Fragments.{views_of}
-use Rattle.esto_fragments.specs.Fragments.{Stored, IsStoredAt}
-use Rattle.esto_fragments.proofs.StoreLemmas.{same_at}
+use Rattle.esto_opening.specs.Fragments.{Stored, IsStoredAt}
+use Rattle.esto_opening.proofs.StoreLemmas.{same_at}
 use Rattle.esto_data.specs.Audit.{audit_text}
 use Rattle.esto_data.specs.Fill.{IsFirstOf, names_of}
 

@@ -26,10 +26,10 @@ use Rattle.esto_term.specs.declared.term.Term.{Term}
 use Rattle.esto_opening.specs.Alike.{AreSameQueries}
 use Rattle.esto_opening.specs.Calm.{Leads}
 use Rattle.esto_opening.specs.Fetch.{fetches}
-use Rattle.esto_fragments.specs.Fragments.{IsReadableFragment, opens_fragment}
+use Rattle.esto_opening.specs.Fragments.{IsReadableFragment, opens_fragment}
 use Rattle.esto_opening.specs.Opening.{opens_union}
 use Rattle.esto_opening.specs.Unions.{UnionsOfOneAreQueries}
-use Rattle.esto_fragments.specs.Texts.{union_rows_text}
+use Rattle.esto_opening.specs.Texts.{union_rows_text}
 use Rattle.esto_opening.specs.declared.reply.Reply.TheVariants.{Done}
 use Rattle.esto_opening.proofs.LeadLemmas.{then-leads, leads-more, gives-leads, agreed_leads}
 use Rattle.esto_data.specs.Answer.{IsAnswerOfFacts, IsUnionAnswerOfFacts, answer_course, answers_union, lists_texts}

@@ -4,10 +4,10 @@ use Rattle.esto_mapping.specs.declared.catalogue.Catalogue.{Catalogue}
 use Rattle.esto_mapping.specs.declared.dataset.Dataset.{Dataset}
 use Rattle.esto_constraint.specs.Constraints.{rules_of}
 use Rattle.esto_course.specs.Course.{judges}
-use Rattle.esto_fill.specs.CodedParts.{Stays}
-use Rattle.esto_fill.specs.Coding.{IsCoded, IsCodedOf}
+use Rattle.esto_data.specs.CodedParts.{Stays}
+use Rattle.esto_data.specs.Coding.{IsCoded, IsCodedOf}
 use Rattle.esto_fill.specs.Trials.{IsEnoughFor, IsTrialOf}
-use Rattle.esto_fill.specs.declared.coded_data.CodedData.{CodedData}
+use Rattle.esto_data.specs.declared.coded_data.CodedData.{CodedData}
 use Rattle.esto_fill.specs.declared.datasets.DatasetBytes.{DatasetBytes}
 use Rattle.esto_fill.specs.declared.loaded.Loaded.{Loaded}
 use Rattle.esto_fill.specs.declared.trial.Trial.{Trial}

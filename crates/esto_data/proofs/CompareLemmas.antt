@@ -8,7 +8,7 @@ use Rattle.esto_columns.specs.CodedRows.{CodedRows}
 use Rattle.esto_columns.specs.Interned.{AreCodedRows, AreCodesOf, Grows}
 use Rattle.esto_columns.proofs.CodingLemmas.{rows_grow}
 use Rattle.esto_constraint.specs.Constraints.{rules_of}
-use Rattle.esto_fill.specs.Coding.{AreCodedLists}
+use Rattle.esto_data.specs.Coding.{AreCodedLists}
 use Rattle.esto_fill.specs.Databases.{database_of}
 use Rattle.esto_fill.specs.Files.{AreFactsFrom, IsLoadedFrom, nodes_in}
 use Rattle.esto_fill.specs.Laws.{FactsAreOne}

@@ -12,11 +12,11 @@ use Rattle.esto_course.specs.Course.Point.{underway}
 use Rattle.esto_course.specs.Course.Stops.{refused}
 use Rattle.esto_course.proofs.Asking.{first_way_asks, quiet_demands, quiet_judges, quiet_then}
 use Rattle.esto_course.proofs.Steps.{Leads, first_stops, then_stops, then_goes, gives_goes, caused_more, each_next, each_stops, each_goes}
-use Rattle.esto_fill.specs.Coding.{IsCodedFrom}
+use Rattle.esto_data.specs.Coding.{IsCodedFrom}
 use Rattle.esto_fill.specs.Files.{AreReadable, FindsFault, dataset_fault}
 use Rattle.esto_fill.proofs.FileLemmas.{facts_flat}
 use Rattle.esto_fill.proofs.LawfulLemmas.{documents_are_lawful}
-use Rattle.esto_fill.specs.declared.coded_data.CodedData.{CodedData}
+use Rattle.esto_data.specs.declared.coded_data.CodedData.{CodedData}
 use Rattle.esto_fill.specs.declared.datasets.DatasetBytes.{DatasetBytes}
 use Rattle.esto_fill.specs.declared.wanted.Wanted.{Wanted}
 use Rattle.esto_ports.specs.Files.{Files}

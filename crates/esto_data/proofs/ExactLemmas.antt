@@ -37,11 +37,11 @@ use Rattle.esto_opening.specs.Answers.{IsCaused}
 use Rattle.esto_opening.specs.Calm.{Leads, SaysAlways}
 use Rattle.esto_opening.specs.Fetch.{fetches, FetchStops}
 use Rattle.esto_opening.specs.Fetch.FetchStops.{fails, is_longer}
-use Rattle.esto_fragments.specs.Fragments.{Stored, IsStoredAt, opens_fragments}
+use Rattle.esto_opening.specs.Fragments.{Stored, IsStoredAt, opens_fragments}
 use Rattle.esto_opening.specs.Line.{line_of}
 use Rattle.esto_opening.specs.Opening.{FilesSayCatalogue, FilesSayQuery, FilesSayUnion, opens_catalogue, opens_query, opens_union, reads_catalogue, reads_query}
 use Rattle.esto_opening.specs.Unions.{SaidUnionsOpen, UnionsOfOneAreQueries}
-use Rattle.esto_fragments.specs.Texts.{union_rows_text}
+use Rattle.esto_opening.specs.Texts.{union_rows_text}
 use Rattle.esto_opening.specs.declared.opening.TheConstants.{CATALOGUE_LIMIT, DATA_LIMIT, QUERY_LIMIT}
 use Rattle.esto_opening.specs.declared.reply.Reply.{Reply}
 use Rattle.esto_opening.specs.declared.reply.Reply.TheVariants.{Done}

@@ -10,12 +10,12 @@ use Rattle.esto_run.specs.Stores.{IsFileRow, IsRowIn}
 use Rattle.esto_semantics.specs.declared.fact.Fact.{Fact}
 use Rattle.esto_opening.specs.Answers.{IsCaused}
 use Rattle.esto_opening.specs.Calm.{Leads}
-use Rattle.esto_fragments.specs.Fragments.{Stored, IsReadableFragment, IsStoredAt, reads_content, opens_stored, opens_fragment, opens_next, opens_fragments}
-use Rattle.esto_fragments.specs.Fragments.{no_contents, with_content}
+use Rattle.esto_opening.specs.Fragments.{Stored, IsReadableFragment, IsStoredAt, reads_content, opens_stored, opens_fragment, opens_next, opens_fragments}
+use Rattle.esto_opening.specs.Fragments.{no_contents, with_content}
 use Rattle.esto_opening.specs.declared.opening.TheConstants.{DATA_LIMIT}
 use Rattle.esto_opening.specs.declared.status.Status.{Status}
 use Rattle.esto_opening.proofs.LeadLemmas.{then-leads, leads-more, gives-leads, judges-leads, fetches-leads}
-use Rattle.esto_fragments.proofs.FragmentLemmas.{content_there}
+use Rattle.esto_opening.proofs.FragmentLemmas.{content_there}
 use Rattle.esto_data.specs.Audit.{all_fragments}
 use Rattle.esto_data.specs.Exact.{AreReadableFragments}
 use Rattle.esto_data.proofs.LeadLemmas.{holds-leads}

@@ -1,3 +1,7 @@
+pub mod CodedAuditLemmas
+pub mod CodedLoadLemmas
+pub mod CodedRowLemmas
+pub mod CodedViewLemmas
 pub mod StepLemmas
 pub mod DatasetLemmas
 pub mod WantedLemmas

@@ -26,14 +26,14 @@ use Rattle.esto_stores.specs.Rows.{Row}
 use Rattle.esto_term.specs.declared.term.Term.{Term}
 use Rattle.esto_views.specs.Fragments.{views_of}
 use Rattle.esto_opening.specs.Alike.{AreSameQueries}
-use Rattle.esto_fragments.specs.Alike.{StoresHaveOneContent, StoresHaveOneFault, StoresHaveOneFile}
+use Rattle.esto_opening.specs.FragmentsAlike.{StoresHaveOneContent, StoresHaveOneFault, StoresHaveOneFile}
 use Rattle.esto_opening.specs.Fetch.{HasWithin}
-use Rattle.esto_fragments.specs.Fragments.{Stored, IsStoredAt, content_fault}
-use Rattle.esto_fragments.specs.Texts.{union_rows_text}
+use Rattle.esto_opening.specs.Fragments.{Stored, IsStoredAt, content_fault}
+use Rattle.esto_opening.specs.Texts.{union_rows_text}
 use Rattle.esto_opening.specs.declared.opening.TheConstants.{DATA_LIMIT}
 use Rattle.esto_opening.specs.declared.status.Status.{Status}
 use Rattle.esto_opening.specs.declared.status.Status.TheVariants as status
-use Rattle.esto_fragments.proofs.StoreLemmas.{same_stored}
+use Rattle.esto_opening.proofs.StoreLemmas.{same_stored}
 use Rattle.esto_data.specs.Answer.{IsUnionAnswerOfFacts}
 use Rattle.esto_data.specs.Audit.{AuditsFiles}
 use Rattle.esto_data.specs.Datasets.{IsAny, Names, OneNames}

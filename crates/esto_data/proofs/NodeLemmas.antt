@@ -8,7 +8,7 @@ use Rattle.esto_opening.specs.Answers.{IsCaused}
 use Rattle.esto_opening.specs.Calm.{Leads}
 use Rattle.esto_opening.specs.Fetch.{fetches, FetchStops}
 use Rattle.esto_opening.specs.Fetch.FetchStops.{fails, is_longer}
-use Rattle.esto_fragments.specs.Fragments.{no_contents, opens_fragment, opens_fragments, opens_next, with_content}
+use Rattle.esto_opening.specs.Fragments.{no_contents, opens_fragment, opens_fragments, opens_next, with_content}
 use Rattle.esto_opening.specs.declared.opening.TheConstants.{DATA_LIMIT}
 use Rattle.esto_opening.specs.declared.status.Status.{Status}
 use Rattle.esto_opening.specs.declared.status.Status.TheVariants as status

@@ -8,7 +8,7 @@ use Rattle.esto_opening.specs.declared.reply.Reply.TheVariants.{Done}
 use Rattle.esto_opening.specs.declared.status.Status.{Status}
 use Rattle.esto_opening.specs.declared.status.Status.TheVariants as status
 use Rattle.esto_opening.proofs.RefusalLemmas.{Refuses, catalogue_refuses, each_refuses, fetch_refuses, gives_refuses, judges_refuses}
-use Rattle.esto_fragments.proofs.RefusalLemmas.{fragments_refuse}
+use Rattle.esto_opening.proofs.FragmentRefusalLemmas.{fragments_refuse}
 use Rattle.esto_opening.proofs.RefusalLemmas.{then_refuses}
 use Rattle.esto_data.specs.Audit.{all_fragments, audit_course, audit_text}
 use Rattle.esto_data.specs.Datasets.{IsAny, demands_file, loads, loads_next, opens_dataset}

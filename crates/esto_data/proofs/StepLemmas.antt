@@ -2,7 +2,7 @@
 use Rattle.std.proofs.Common.{◌≡◌, ◌<◌, ℕ, List, length, slice_get, Option, Some, None, Result, Ok, Err, refl, subst, arith}
 use Rattle.std.specs.Prelude.{IfSome}
 use Rattle.esto_mapping.specs.declared.catalogue.Catalogue.{Catalogue}
-use Rattle.esto_fragments.specs.Fragments.{Stored, IsStoredAt}
+use Rattle.esto_opening.specs.Fragments.{Stored, IsStoredAt}
 use Rattle.esto_course.specs.Course.{Course, Stops, judges, gives, and_then}
 use Rattle.esto_course.specs.Course.Stops.{is_free, refused}
 use Rattle.esto_course.proofs.Asking.{quiet_gives, quiet_judges}

@@ -20,8 +20,8 @@ use Rattle.esto_fill.specs.declared.trial.Trial.{Trial}
 use Rattle.esto_fill.specs.declared.wanted.Wanted.{Wanted}
 use Rattle.esto_fill.specs.declared.wanted.Wanted.TheVariants.{Asked}
 use Rattle.esto_opening.specs.Answers.{Answers}
-use Rattle.esto_fragments.specs.Fragments.{Stored}
-use Rattle.esto_fragments.specs.Texts.{union_rows_text}
+use Rattle.esto_opening.specs.Fragments.{Stored}
+use Rattle.esto_opening.specs.Texts.{union_rows_text}
 use Rattle.esto_opening.specs.declared.reply.Reply.{Reply}
 use Rattle.esto_opening.specs.declared.reply.Reply.TheVariants.{Done}
 use Rattle.esto_opening.specs.declared.status.Status.{Status}

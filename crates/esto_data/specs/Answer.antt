@@ -15,7 +15,7 @@ use Rattle.esto_stores.specs.Rows.{Row}
 use Rattle.esto_term.specs.declared.term.Term.{Term}
 use Rattle.esto_data.specs.Datasets.{OneNames, loads}
 use Rattle.esto_opening.specs.Opening.{opens_catalogue, opens_union}
-use Rattle.esto_fragments.specs.Texts.{union_rows_text}
+use Rattle.esto_opening.specs.Texts.{union_rows_text}
 use Rattle.esto_opening.specs.declared.reply.Reply.{Reply}
 use Rattle.esto_opening.specs.declared.reply.Reply.TheVariants.{Done}
 use Rattle.esto_opening.specs.declared.status.Status.{Status}

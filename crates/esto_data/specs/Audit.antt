@@ -5,18 +5,18 @@ use Rattle.std.specs.List.{range_with_len}
 use Rattle.esto_mapping.specs.declared.catalogue.Catalogue.{Catalogue}
 use Rattle.esto_mapping.specs.declared.catalogue.Shape.{Shape}
 use Rattle.esto_mapping.specs.declared.catalogue.Store.{Store}
-use Rattle.esto_fragments.specs.Fragments.{opens_fragment, opens_fragments}
+use Rattle.esto_opening.specs.Fragments.{opens_fragment, opens_fragments}
 use Rattle.esto_constraint.specs.Constraints.{rules_of}
 use Rattle.esto_constraint.specs.EncodingRules.{written}
 use Rattle.esto_columns.specs.CodedRows.{CodedRows}
 use Rattle.esto_columns.specs.Interned.{AreCodedRows}
 use Rattle.esto_course.specs.Course.{Course, Names, Stops, judges, gives, and_then}
-use Rattle.esto_fill.specs.Coding.{AddsList, AreCodedLists}
+use Rattle.esto_data.specs.Coding.{AddsList, AreCodedLists}
 use Rattle.esto_fill.specs.Databases.{database_of}
 use Rattle.esto_fill.specs.Differences.{Audits}
 use Rattle.esto_fill.specs.Files.{AreReadable}
 use Rattle.esto_fill.specs.Texts.{AreTextViews, IsFirstNodeView}
-use Rattle.esto_fill.specs.declared.coded_data.CodedData.{CodedData}
+use Rattle.esto_data.specs.declared.coded_data.CodedData.{CodedData}
 use Rattle.esto_fill.specs.declared.datasets.DatasetBytes.{DatasetBytes}
 use Rattle.esto_fill.specs.declared.wanted.Wanted.{Wanted}
 use Rattle.esto_ports.specs.declared.difference.Difference.{Difference}

@@ -4,9 +4,9 @@ use Rattle.std.specs.Prelude.{◌≡◌, ◌↔◌, ◌⊎◌, ℕ, ◌+◌, ◌
 use Rattle.esto_mapping.specs.Datasets.{relation_count}
 use Rattle.esto_mapping.specs.declared.dataset.Dataset.{Dataset}
 use Rattle.esto_course.specs.Course.{Course, Stops, judges, demands, gives, and_then, each}
-use Rattle.esto_fill.specs.Coding.{IsCodedFrom, IsCodedOf}
+use Rattle.esto_data.specs.Coding.{IsCodedFrom, IsCodedOf}
 use Rattle.esto_fill.specs.Files.{AreFactsFrom, AreReadable, dataset_fault}
-use Rattle.esto_fill.specs.declared.coded_data.CodedData.{CodedData}
+use Rattle.esto_data.specs.declared.coded_data.CodedData.{CodedData}
 use Rattle.esto_fill.specs.declared.datasets.DatasetBytes.{DatasetBytes}
 use Rattle.esto_semantics.specs.Rules.{AreMet}
 use Rattle.esto_fill.specs.Lawful.{AreLaws}

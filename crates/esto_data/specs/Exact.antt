@@ -23,8 +23,8 @@ use Rattle.esto_stores.specs.Rows.{Row}
 use Rattle.esto_term.specs.declared.term.Term.{Term}
 use Rattle.esto_views.specs.Fragments.{views_of}
 use Rattle.esto_opening.specs.Fetch.{HasWithin}
-use Rattle.esto_fragments.specs.Fragments.{Stored, IsReadableFragment, IsStoredAt}
-use Rattle.esto_fragments.specs.Texts.{union_rows_text}
+use Rattle.esto_opening.specs.Fragments.{Stored, IsReadableFragment, IsStoredAt}
+use Rattle.esto_opening.specs.Texts.{union_rows_text}
 use Rattle.esto_opening.specs.declared.status.Status.{Status}
 use Rattle.esto_opening.specs.declared.status.Status.TheVariants as status
 use Rattle.esto_data.specs.Answer.{IsAnswerOfFacts, IsUnionAnswerOfFacts}

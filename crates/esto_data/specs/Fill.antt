@@ -1,7 +1,7 @@
 -- The command `fill`.
 use Rattle.std.specs.Prelude.{◌≡◌, ◌≢◌, ℕ, ◌<◌, List, map, slice_get, Contains, Option, Some, Ok, Err, length}
 use Rattle.esto_mapping.specs.declared.catalogue.Catalogue.{Catalogue}
-use Rattle.esto_fragments.specs.Fragments.{Stored, IsStoredAt}
+use Rattle.esto_opening.specs.Fragments.{Stored, IsStoredAt}
 use Rattle.esto_course.specs.Course.{Course, judges, gives, and_then}
 use Rattle.esto_fill.specs.Databases.{database_of}
 use Rattle.esto_fill.specs.Filled.{Fills, IsOpenedAs}

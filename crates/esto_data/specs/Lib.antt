@@ -1,3 +1,5 @@
+pub mod Coding
+pub mod CodedParts
 pub mod Datasets
 pub mod Fill
 pub mod Answer

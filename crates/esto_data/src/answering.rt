@@ -1,18 +1,19 @@
 //! The command `answer`.
 ghost use Rattle.std.specs.Prelude.{◌≡◌, ◌≤◌};
 ghost use Rattle.esto_ports.specs.Faults.{Rises};
-ghost use Rattle.esto_fill.specs.Coding.{IsCoded, IsCodedOf};
+ghost use Rattle.esto_data.specs.Coding.{IsCoded, IsCodedOf};
 ghost use Rattle.esto_fill.specs.declared.loaded.Loaded.{Loaded};
 ghost use Rattle.esto_data.specs.Answer.{IsUnionAnswerOfFacts, answer_course, answers_facts, answers_read, answers_union, lists_texts};
 ghost use Rattle.esto_opening.specs.Answers.{Answers};
 ghost use Rattle.esto_opening.specs.Asked.{AsksIn};
 ghost use Rattle.esto_opening.specs.Unions.{FormUnion};
 
+use crate::coded_answering::answer_union_coded;
+use crate::coded_data::CodedData;
 use crate::unions::load_union;
-use esto_fill::{AnswerError, CodedData, answer_union_coded, answers_rest_on_wanted_facts};
-use esto_fragments::union_rows_text;
+use esto_fill::{AnswerError, answers_rest_on_wanted_facts};
 use esto_mapping::Catalogue;
-use esto_opening::{Queries, Reply, Status, open_catalogue, open_union};
+use esto_opening::{Queries, Reply, Status, open_catalogue, open_union, union_rows_text};
 use esto_ports::Shelf;
 use esto_term::{Text, TextRows};
 use std::alloc::Global;

@@ -1,8 +1,8 @@
 //! The command `audit`.
 ghost use Rattle.std.specs.Prelude.{◌≡◌, ◌≤◌, ℕ, List, IfOk};
 ghost use Rattle.esto_ports.specs.Faults.{Rises};
-ghost use Rattle.esto_fill.specs.CodedParts.{Stays};
-ghost use Rattle.esto_fill.specs.Coding.{IsCoded, IsCodedOf};
+ghost use Rattle.esto_data.specs.CodedParts.{Stays};
+ghost use Rattle.esto_data.specs.Coding.{IsCoded, IsCodedOf};
 ghost use Rattle.esto_fill.specs.Trials.{IsTrialOf};
 ghost use Rattle.esto_fill.specs.declared.loaded.Loaded.{Loaded};
 ghost use Rattle.esto_semantics.specs.declared.fact.Fact.{Fact};
@@ -12,12 +12,13 @@ ghost use Rattle.esto_opening.specs.Asked.{AsksIn};
 ghost use Rattle.esto_data.specs.Audit.{HoldContents, HoldsAudit, audit_course, audit_text, audits_catalogue, audits_facts, audits_rows, judges_views, tells};
 ghost use Rattle.esto_data.specs.Datasets.{HoldsFiles};
 
+use crate::coded_audit::CodedRowsList;
+use crate::coded_data::{CodedData, no_data};
+use crate::coded_views::audit_views_coded;
 use crate::comparing::compare;
 use crate::kept::load_all;
 use crate::opened::open_all_rows;
-use esto_fill::{
-    AnswerError, CodedData, CodedRowsList, LoadList, Trial, audit_views_coded, no_data, trial_of,
-};
+use esto_fill::{AnswerError, LoadList, Trial, trial_of};
 use esto_mapping::Catalogue;
 use esto_opening::{Reply, Status, open_catalogue};
 use esto_ports::Shelf;

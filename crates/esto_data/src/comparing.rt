@@ -2,7 +2,7 @@
 ghost use Rattle.std.specs.Prelude.{◌≡◌, ◌++◌, ◌∷◌, [], ◌↔◌, ℕ, List, length, Contains, IfOk, OnOk};
 ghost use Rattle.esto_constraint.specs.Constraints.{rules_of};
 ghost use Rattle.esto_columns.specs.Interned.{AreCodedRows};
-ghost use Rattle.esto_fill.specs.Coding.{AreCodedLists};
+ghost use Rattle.esto_data.specs.Coding.{AreCodedLists};
 ghost use Rattle.esto_fill.specs.Databases.{database_of};
 ghost use Rattle.esto_fill.specs.Texts.{AreTextViews};
 ghost use Rattle.esto_fill.specs.Trials.{IsEnoughFor, IsTrialOf};
@@ -13,11 +13,12 @@ ghost use Rattle.esto_views.specs.Fragments.{views_of};
 ghost use Rattle.esto_opening.specs.Answers.{Answers};
 ghost use Rattle.esto_data.specs.Audit.{AddsTexts, AreFactsToAudit, AreRowsOfFiles, HoldContents, HoldSameRows, HoldsAudit, compares};
 
+use crate::coded_audit::{CodedRowsList, agree_coded};
+use crate::coded_data::CodedData;
 use crate::kept::load_again;
 use esto_columns::Rows;
 use esto_fill::{
-    CodedData, CodedRowsList, LoadList, Loaded, TextRowsList, Trial, agree_coded, audit_tried,
-    audits_are_over_files, outcomes_are_one,
+    LoadList, Loaded, TextRowsList, Trial, audit_tried, audits_are_over_files, outcomes_are_one,
 };
 use esto_mapping::Catalogue;
 use esto_opening::Status;

@@ -5,12 +5,14 @@ ghost use Rattle.esto_mapping.specs.declared.dataset.Dataset.{Dataset};
 ghost use Rattle.esto_ports.specs.Faults.{Rises};
 ghost use Rattle.esto_opening.specs.Answers.{Answers};
 ghost use Rattle.esto_opening.specs.Asked.{AsksIn};
-ghost use Rattle.esto_fill.specs.Coding.{IsOver};
+ghost use Rattle.esto_data.specs.Coding.{IsOver};
 ghost use Rattle.esto_fill.specs.declared.wanted.Wanted.TheVariants.{Asked};
 ghost use Rattle.esto_data.specs.Datasets.{AddsNeeded, AreNeeded, HasRelation, HoldsLeft, IsSourceAt, Loads, LoadsAsking, LoadsFiles, LoadsMore, Names};
 ghost use Rattle.esto_data.specs.Datasets.{Source, demands_file, demands_files, loads, opens_dataset, reads_data};
 
-use esto_fill::{CodedData, Wanted, load_coded, no_data, wanted_by_body};
+use crate::coded_data::{CodedData, no_data};
+use crate::coded_load::load_coded;
+use esto_fill::{Wanted, wanted_by_body};
 use esto_mapping::{Catalogue, Dataset, Datasets, relation_count};
 use esto_opening::{DATA_LIMIT, Status, fetch};
 use esto_ports::{FileError, Shelf};

@@ -5,9 +5,8 @@ ghost use Rattle.esto_data.specs.Laws.{MakesAreOne, RepliesAreAudited, UnionAnsw
 
 use esto_constraint::rules_are_sound;
 use esto_fill::{answers_rest_on_their_datasets, outcomes_are_one};
-use esto_fragments::fragment_files_are_one;
 use esto_mapping::catalogues_are_sound;
-use esto_opening::{opened_unions_are_queries, openings_are_one};
+use esto_opening::{fragment_files_are_one, opened_unions_are_queries, openings_are_one};
 
 // The laws by which the commands on data are determined, together.
 fn data_laws_hold()

@@ -1,9 +1,18 @@
 //! The commands on data: `fill` writes the file of a fragment, `answer` answers a union of queries, and `audit` compares,
-//! each over the facts of the datasets' files. Start from `fill`, `answer` and `audit`.
+//! each over the facts of the datasets' files, which are loaded as rows of codes. Start from `fill`, `answer` and `audit`.
 #![tactic(auto)]
 
 mod answering;
 mod auditing;
+mod coded_answering;
+mod coded_audit;
+mod coded_data;
+mod coded_documents;
+mod coded_filled;
+mod coded_load;
+mod coded_nodes;
+mod coded_store;
+mod coded_views;
 mod comparing;
 mod datasets;
 mod filling;

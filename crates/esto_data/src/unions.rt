@@ -4,8 +4,9 @@ ghost use Rattle.esto_ports.specs.Faults.{Rises};
 ghost use Rattle.esto_query.specs.Making.{query_of};
 ghost use Rattle.esto_data.specs.Datasets.{AddsNeeded, AreNeeded, HoldsLeft, Loads, LoadsAsking, OneNames, loads, named_by};
 
+use crate::coded_data::CodedData;
 use crate::datasets::{demand_files, load_files, names};
-use esto_fill::{CodedData, wanted_by_queries};
+use esto_fill::wanted_by_queries;
 use esto_mapping::{Catalogue, Dataset, Datasets};
 use esto_opening::{Queries, Status};
 use esto_ports::Shelf;

@@ -15,7 +15,3 @@ pub mod MovedLemmas
 pub mod LawfulLemmas
 pub mod TriedLemmas
 pub mod TrialLemmas
-pub mod CodedRowLemmas
-pub mod CodedViewLemmas
-pub mod CodedAuditLemmas
-pub mod CodedLoadLemmas

@@ -2,8 +2,6 @@ pub mod Databases
 pub mod Wanted
 pub mod Texts
 pub mod Files
-pub mod Coding
-pub mod CodedParts
 pub mod Lawful
 pub mod Trials
 pub mod Filled

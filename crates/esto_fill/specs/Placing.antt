@@ -3,13 +3,9 @@ use Rattle.std.specs.Prelude.{◌≡◌, ◌≢◌, ℕ, ◌+◌, ◌≤◌, min
 use Rattle.std.specs.declared.cmp.Ordering.TheVariants.{Greater}
 use Rattle.esto_mapping.specs.declared.catalogue.Shape.{Shape}
 use Rattle.esto_mapping.specs.declared.catalogue.Shape.TheVariants.{Keys}
-use Rattle.esto_query.specs.Making.{query_of}
 use Rattle.esto_query.specs.Rows.{row_cmp}
 use Rattle.esto_query.specs.declared.query.Name.{Name}
-use Rattle.esto_query.specs.declared.query.Query.{Query}
 use Rattle.esto_relmodel.specs.Once.{AreEachOnce}
-use Rattle.esto_semantics.specs.Queries.{IsAnswerInto}
-use Rattle.esto_semantics.specs.declared.fact.Fact.{Fact}
 use Rattle.esto_semantics.specs.declared.fact.Value.{Value}
 use Rattle.esto_stores.specs.Rows.{Row}
 use Rattle.esto_term.specs.Kinds.{IsConstant}
@@ -26,12 +22,6 @@ use Rattle.esto_fill.specs.declared.rows.AnswerError.{AnswerError}
 use Rattle.esto_fill.specs.declared.rows.AnswerError.TheVariants as answer
 use Rattle.esto_fill.specs.declared.filled.FillError.{FillError}
 use Rattle.esto_fill.specs.declared.filled.FillError.TheVariants.{NodeInRow, KeyText, OutOfMemory}
-
--- ---- the answers of queries, over terms
-
--- The row is an answer over the facts of one of the queries.
-abbrev pub IsUnionRow : List Query → List (Fact Term) → List Term → Type 0
-IsUnionRow queries facts row = (query : Query) × Contains queries query × IsAnswerInto Const (query_of query) (Contains facts) row
 
 -- ---- rows of terms and rows of texts
 

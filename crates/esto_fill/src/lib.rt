@@ -6,15 +6,6 @@
 mod answering;
 mod apart;
 mod auditing;
-mod coded_answering;
-mod coded_audit;
-mod coded_data;
-mod coded_documents;
-mod coded_filled;
-mod coded_load;
-mod coded_nodes;
-mod coded_store;
-mod coded_views;
 mod datasets;
 mod filled;
 mod lawful;
@@ -30,23 +21,17 @@ mod wanted;
 
 pub use answering::answer;
 pub use auditing::{TextRowsList, audit, audit_tried};
-pub use coded_answering::{answer_coded, answer_union_coded};
-pub use coded_audit::{CodedRowsList, agree_coded};
-pub use coded_data::{CodedData, no_data};
-pub use coded_filled::fill_coded;
-pub use coded_load::load_coded;
-pub use coded_store::code_store;
-pub use coded_views::audit_views_coded;
-pub use datasets::{DatasetBytes, LoadError, LoadList, dataset_facts, load_dataset};
+pub use datasets::{DatasetBytes, KEY_CELLS, LoadError, LoadList, dataset_facts, load_dataset};
 pub use esto_ports::Difference;
-pub use filled::{FillError, fill};
+pub use filled::{FillError, fill, marked, text_of};
 pub use laws::{
     agreeing_answers_are_one, answers_rest_on_their_datasets, answers_rest_on_wanted_facts,
     audits_are_over_files, documents_are_lawful, facts_stand_as_databases, loaded_facts_are_flat,
     outcomes_are_one,
 };
 pub use loaded::{Loaded, nothing_loaded};
-pub use rows::AnswerError;
+pub use rows::{AnswerError, node_at};
 pub use trial::{Trial, trial_of};
+pub use tried::is_law;
 pub use views::audit_views;
-pub use wanted::{Wanted, wanted_by_body, wanted_by_queries};
+pub use wanted::{Wanted, kept_for, wanted_by_body, wanted_by_queries};

@@ -11,3 +11,9 @@ pub mod AlikeLemmas
 pub mod RefusalLemmas
 pub mod UnionLemmas
 mod LineLemmas
+pub mod FragmentLemmas
+pub mod StoreLemmas
+pub mod ReadableLemmas
+pub mod TextLemmas
+pub mod FragmentAlikeLemmas
+pub mod FragmentRefusalLemmas

@@ -7,3 +7,7 @@ pub mod Asked
 pub mod Opening
 pub mod Alike
 pub mod Unions
+pub mod Fragments
+pub mod Readable
+pub mod FragmentsAlike
+pub mod Texts

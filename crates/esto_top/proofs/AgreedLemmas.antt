@@ -6,14 +6,14 @@ use Rattle.esto_data.specs.Answer.{IsAnswerOfFacts, IsUnionAnswerOfFacts, answer
 use Rattle.esto_data.specs.Audit.{audit_course}
 use Rattle.esto_data.specs.Exact.{PrintsAnswersOfFacts, PrintsRows}
 use Rattle.esto_data.specs.Laws.{AreAudited, AuditsRefuse, RepliesAreAudited}
-use Rattle.esto_disjuncts.specs.RunExact.{PrintsUnionAnswers}
+use Rattle.esto_rewriting.specs.RunExact.{PrintsUnionAnswers}
 use Rattle.esto_fill.specs.Databases.{database_of}
 use Rattle.esto_fill.specs.Texts.{AreTextsOf}
 use Rattle.esto_opening.specs.Calm.{Leads}
-use Rattle.esto_fragments.specs.Fragments.{IsReadableFragment}
+use Rattle.esto_opening.specs.Fragments.{IsReadableFragment}
 use Rattle.esto_opening.specs.Opening.{FilesSayCatalogue}
 use Rattle.esto_opening.specs.Replies.{reply_status, reply_text}
-use Rattle.esto_fragments.specs.Texts.{union_rows_text}
+use Rattle.esto_opening.specs.Texts.{union_rows_text}
 use Rattle.esto_opening.specs.declared.reply.Reply.TheVariants.{Done}
 use Rattle.esto_opening.specs.declared.status.Status.{Status}
 use Rattle.esto_opening.specs.declared.status.Status.TheVariants as status

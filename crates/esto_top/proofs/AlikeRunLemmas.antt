@@ -14,9 +14,9 @@ use Rattle.esto_stores.specs.Rows.{Row}
 use Rattle.esto_views.specs.declared.plan.Plan.{Plan}
 use Rattle.esto_top.specs.Run.{IsRunText}
 use Rattle.esto_opening.specs.Alike.{IsSameQuery}
-use Rattle.esto_fragments.specs.Alike.{StoresHaveOneContent}
-use Rattle.esto_fragments.proofs.TextLemmas.{same_rows_text}
-use Rattle.esto_planning.specs.Alike.{IsSamePlan}
+use Rattle.esto_opening.specs.FragmentsAlike.{StoresHaveOneContent}
+use Rattle.esto_opening.proofs.TextLemmas.{same_rows_text}
+use Rattle.esto_rewriting.specs.Alike.{IsSamePlan}
 
 -- a set of rows has one text
 pub one_text : RisingRowsAreOne → (query : Query) (Has : Row → Type 0) (text other : List ℕ) → IsAnswersText query Has text → IsAnswersText query Has other

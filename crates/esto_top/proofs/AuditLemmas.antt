@@ -30,8 +30,8 @@ use Rattle.esto_ports.specs.declared.difference.Difference.TheVariants.{Rule as 
 use Rattle.esto_fill.proofs.FilledLemmas.{in_rows}
 use Rattle.esto_fill.proofs.OrderLemmas.{texts_exact, texts_total}
 use Rattle.esto_fill.proofs.ValueLemmas.{facts_stand}
-use Rattle.esto_fragments.specs.Fragments.{opens_fragments}
-use Rattle.esto_fragments.specs.Readable.{AreReadable}
+use Rattle.esto_opening.specs.Fragments.{opens_fragments}
+use Rattle.esto_opening.specs.Readable.{AreReadable}
 use Rattle.esto_opening.specs.declared.reply.Reply.{Reply}
 use Rattle.esto_opening.specs.declared.reply.Reply.TheVariants.{Done}
 use Rattle.esto_opening.specs.declared.status.Status.{Status}

@@ -2,10 +2,10 @@
 use Rattle.std.proofs.Common.{◌≡◌, ◌↔◌, ℕ, Bool, List, length, Option, Some, None, sym, ap, subst, ◌∙◌, inl, inr}
 use Rattle.std.proofs.lemmas.Option.{none-some, same_Some}
 use Rattle.esto_mapping.specs.declared.catalogue.Catalogue.{Catalogue}
-use Rattle.esto_certify.specs.Laws.{Certifies, IsChecked, IsVerified, SaysVerdict, VerifyChecksCertificates, VerifyIsOne, VerifySaysVerdicts}
-use Rattle.esto_certify.specs.Laws.IsChecked.{is_above, not_fetched, accepts, rejects}
-use Rattle.esto_certify.specs.Laws.IsVerified.{clashes, has_plan}
-use Rattle.esto_certify.specs.Verify.{first_above, HasVerdict, IsSetOf, verify_course}
+use Rattle.esto_rewriting.specs.CertificateLaws.{Certifies, IsChecked, IsVerified, SaysVerdict, VerifyChecksCertificates, VerifyIsOne, VerifySaysVerdicts}
+use Rattle.esto_rewriting.specs.CertificateLaws.IsChecked.{is_above, not_fetched, accepts, rejects}
+use Rattle.esto_rewriting.specs.CertificateLaws.IsVerified.{clashes, has_plan}
+use Rattle.esto_rewriting.specs.Verify.{first_above, HasVerdict, IsSetOf, verify_course}
 use Rattle.esto_opening.specs.declared.opening.TheConstants.{DATA_LIMIT}
 use Rattle.esto_course.proofs.Determined.{judges_agree, then_agree}
 use Rattle.esto_course.specs.Course.{and_then, judges}

@@ -1,6 +1,6 @@
 -- The courses of commands below the top call come to an end or ask for a file that is not there.
 use Rattle.std.proofs.Common.{ℕ, List, Some}
-use Rattle.esto_certify.specs.Verify.{verifies_query, verifies_read, verify_course}
+use Rattle.esto_rewriting.specs.Verify.{verifies_query, verifies_read, verify_course}
 use Rattle.esto_chase_laws.specs.RunLaws.{RulesAreDecided}
 use Rattle.esto_course.specs.Course.{and_then, gives}
 use Rattle.esto_data.specs.Answer.{answer_course, answers_read, answers_union}

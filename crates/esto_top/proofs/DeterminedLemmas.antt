@@ -11,7 +11,7 @@ use Rattle.esto_views.specs.declared.plan.Plan.{Plan}
 use Rattle.esto_top.specs.Check.{check_text, check_course, count_lines, rank_lines}
 use Rattle.esto_course.proofs.Determined.{then_agree, gives_agree, refuses_agree, judges_agree}
 use Rattle.esto_data.specs.Laws.{AnswersAreOne, AuditsAreOne, MakesAreOne}
-use Rattle.esto_certify.specs.Laws.{ExplainHasOneStatus, VerifyIsOne}
+use Rattle.esto_rewriting.specs.CertificateLaws.{ExplainHasOneStatus, VerifyIsOne}
 use Rattle.esto_bench.specs.Summary.{SummariesAreOne}
 use Rattle.esto_reasoning.specs.Laws.{ContainsIsOne, MinimiseIsOne}
 use Rattle.esto_course.specs.Agreement.{IsEnd}
@@ -38,9 +38,9 @@ use Rattle.esto_top.proofs.ExplainWords.{asks_certificate}
 use Rattle.esto_top.proofs.BenchLemmas.{benches-agree}
 use Rattle.esto_top.proofs.RunAgreeLemmas.{CourseLaws, query_agree}
 use Rattle.esto_opening.specs.Alike.{AreSameQueries, IsSameQuery}
-use Rattle.esto_disjuncts.specs.Laws.{UnionListsAreOne}
-use Rattle.esto_disjuncts.specs.RunLaws.{UnionRunsAreOne}
-use Rattle.esto_planning.specs.Alike.{IsSamePlan}
+use Rattle.esto_rewriting.specs.UnionLaws.{UnionListsAreOne}
+use Rattle.esto_rewriting.specs.RunLaws.{UnionRunsAreOne}
+use Rattle.esto_rewriting.specs.Alike.{IsSamePlan}
 
 -- ---- the text of a check
 

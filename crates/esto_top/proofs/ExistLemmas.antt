@@ -7,12 +7,12 @@ use Rattle.either.specs.declared.Either.{Either}
 use Rattle.either.specs.declared.Either.TheVariants.{Left, Right}
 use Rattle.esto_bench.specs.Summary.{IsSummaryOfCase, summary_text}
 use Rattle.esto_mapping.specs.declared.catalogue.Catalogue.{Catalogue}
-use Rattle.esto_certify.specs.Verify.{verify_course}
+use Rattle.esto_rewriting.specs.Verify.{verify_course}
 use Rattle.esto_chase_laws.specs.declared.clash.Clash.{Clash}
 use Rattle.esto_course.specs.Course.{Course, and_then, gives, judges}
-use Rattle.esto_disjuncts.specs.List.{lists_union}
+use Rattle.esto_rewriting.specs.List.{lists_union}
 use Rattle.esto_list.specs.declared.listing.Listed.{Listed}
-use Rattle.esto_fragments.specs.Fragments.{opens_fragments}
+use Rattle.esto_opening.specs.Fragments.{opens_fragments}
 use Rattle.esto_opening.specs.Line.{line_of}
 use Rattle.esto_opening.specs.Opening.{opens_catalogue, opens_union}
 use Rattle.esto_opening.specs.Replies.{reply_status, reply_text}
@@ -22,9 +22,9 @@ use Rattle.esto_opening.specs.declared.reply.Reply.TheVariants.{Done, Unsatisfia
 use Rattle.esto_opening.specs.declared.status.Status.{Status}
 use Rattle.esto_opening.specs.declared.status.Status.TheVariants as status
 use Rattle.esto_opening.specs.declared.status.Status.TheVariants.{Usage}
-use Rattle.esto_planning.specs.Choice.{HasNoPlace, IsItemOf, IsPlace}
-use Rattle.esto_planning.specs.Listing.{IsClash, IsListOf, IsListing, IsPlanned}
-use Rattle.esto_planning.specs.Planning.{chooses, ends_query, plans_query}
+use Rattle.esto_rewriting.specs.Choice.{HasNoPlace, IsItemOf, IsPlace}
+use Rattle.esto_rewriting.specs.Listing.{IsClash, IsListOf, IsListing, IsPlanned}
+use Rattle.esto_rewriting.specs.Planning.{chooses, ends_query, plans_query}
 use Rattle.esto_ports.specs.Files.{Files}
 use Rattle.esto_query.specs.declared.query.Query.{Query}
 use Rattle.esto_run.specs.Answers.{rows_text}

@@ -1,18 +1,18 @@
 -- The course of `explain` comes to an end: the set of the number has a certificate.
 use Rattle.std.proofs.Common.{◌≡◌, ℕ, List, None, Some, slice_get}
 use Rattle.esto_mapping.specs.declared.catalogue.Catalogue.{Catalogue}
-use Rattle.esto_certify.specs.Explain.{certifies_item, explain_course, explains_plan, explains_query, explains_read}
-use Rattle.esto_certify.specs.Laws.{ListedSetsHaveOne}
-use Rattle.esto_certify.specs.Verify.{HasVerdict}
+use Rattle.esto_rewriting.specs.Explain.{certifies_item, explain_course, explains_plan, explains_query, explains_read}
+use Rattle.esto_rewriting.specs.CertificateLaws.{ListedSetsHaveOne}
+use Rattle.esto_rewriting.specs.Verify.{HasVerdict}
 use Rattle.esto_course.specs.Course.{Course, and_then, gives, judges}
 use Rattle.esto_list.specs.declared.listing.Listed.{Listed}
 use Rattle.esto_opening.specs.Opening.{opens_catalogue, opens_query}
 use Rattle.esto_opening.specs.declared.reply.Reply.TheVariants.{Done}
 use Rattle.esto_opening.specs.declared.status.Status.{Status}
-use Rattle.esto_planning.specs.Choice.{HasNoPlace, IsPlace}
-use Rattle.esto_planning.specs.Laws.{PlaceIsWithin}
-use Rattle.esto_planning.specs.Listing.{IsListOf, IsPlanned}
-use Rattle.esto_planning.specs.Planning.{chooses, plans_query}
+use Rattle.esto_rewriting.specs.Choice.{HasNoPlace, IsPlace}
+use Rattle.esto_rewriting.specs.PlannedLaws.{PlaceIsWithin}
+use Rattle.esto_rewriting.specs.Listing.{IsListOf, IsPlanned}
+use Rattle.esto_rewriting.specs.Planning.{chooses, plans_query}
 use Rattle.esto_ports.specs.Files.{Files}
 use Rattle.esto_query.specs.declared.query.Query.{Query}
 use Rattle.esto_term.proofs.ListLemmas.{thing_at}

@@ -3,9 +3,9 @@ use Rattle.std.proofs.Common.{◌≡◌, ◌≢◌, ◌↔◌, ℕ, ◌-◌, ◌
 use Rattle.std.proofs.lemmas.Option.{none-some, same_Some, slice_get_within}
 use Rattle.esto_mapping.specs.declared.catalogue.Catalogue.{Catalogue}
 use Rattle.esto_cert.specs.declared.line.Line.TheVariants.{Match}
-use Rattle.esto_certify.specs.Explain.{explain_course}
-use Rattle.esto_certify.specs.Laws.{Certifies, CertifiesOverPlans, ExplainSaysCertificates, IsExplained}
-use Rattle.esto_certify.specs.Laws.IsExplained.{clashes, has_no_set, explains}
+use Rattle.esto_rewriting.specs.Explain.{explain_course}
+use Rattle.esto_rewriting.specs.CertificateLaws.{Certifies, CertifiesOverPlans, ExplainSaysCertificates, IsExplained}
+use Rattle.esto_rewriting.specs.CertificateLaws.IsExplained.{clashes, has_no_set, explains}
 use Rattle.esto_opening.specs.declared.opening.TheConstants.{DATA_LIMIT}
 use Rattle.esto_chase_laws.specs.declared.clash.Clash.{Clash}
 use Rattle.esto_course.specs.Course.{judges}
@@ -14,10 +14,10 @@ use Rattle.esto_opening.specs.Alike.{IsSameQuery}
 use Rattle.esto_opening.specs.Line.{line_of}
 use Rattle.esto_opening.specs.declared.status.Status.{Status}
 use Rattle.esto_opening.specs.declared.status.Status.TheVariants as status
-use Rattle.esto_planning.specs.Alike.{IsSamePlan}
-use Rattle.esto_planning.specs.Choice.{HasNoPlace}
-use Rattle.esto_planning.specs.Choice.HasNoPlace.{is_above, is_empty}
-use Rattle.esto_planning.specs.Listing.{IsClash, IsListOf, IsPlanned}
+use Rattle.esto_rewriting.specs.Alike.{IsSamePlan}
+use Rattle.esto_rewriting.specs.Choice.{HasNoPlace}
+use Rattle.esto_rewriting.specs.Choice.HasNoPlace.{is_above, is_empty}
+use Rattle.esto_rewriting.specs.Listing.{IsClash, IsListOf, IsPlanned}
 use Rattle.esto_ports.specs.Files.{Files}
 use Rattle.esto_query.specs.declared.query.Query.{Query}
 use Rattle.esto_semantics.specs.Queries.{ConjunctiveQuery}

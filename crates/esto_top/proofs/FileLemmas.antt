@@ -14,8 +14,8 @@ use Rattle.esto_mapping.specs.declared.catalogue.Store.{Store}
 use Rattle.esto_docs.specs.Rows.{GivesRows, text_in}
 use Rattle.esto_docs.proofs.RowLemmas.{text_constant}
 use Rattle.esto_fill.proofs.OrderLemmas.{texts_exact, texts_total}
-use Rattle.esto_fragments.specs.Fragments.{IsReadableFragment}
-use Rattle.esto_fragments.specs.Readable.{AreReadable}
+use Rattle.esto_opening.specs.Fragments.{IsReadableFragment}
+use Rattle.esto_opening.specs.Readable.{AreReadable}
 use Rattle.esto_ports.specs.Files.{Files}
 use Rattle.esto_ports.specs.declared.file_fault.FileError.TheVariants.{Fault}
 use Rattle.esto_query.specs.declared.query.Query.{Query}

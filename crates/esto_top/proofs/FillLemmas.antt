@@ -18,7 +18,7 @@ use Rattle.esto_fill.specs.Filled.{CanHold, Fills, IsFirstUnfit, text_in, with_m
 use Rattle.esto_fill.specs.Texts.{AreTextsOf, HaveTextsOnly, IsFirstNodeColumn}
 use Rattle.esto_fill.specs.declared.filled.FillError.{FillError}
 use Rattle.esto_fill.specs.declared.filled.FillError.TheVariants.{NodeInRow, KeyText}
-use Rattle.esto_fragments.specs.Fragments.{IsStoredAt, Stored}
+use Rattle.esto_opening.specs.Fragments.{IsStoredAt, Stored}
 use Rattle.esto_opening.specs.Opening.{opens_catalogue}
 use Rattle.esto_opening.specs.declared.reply.Reply.{Reply}
 use Rattle.esto_opening.specs.declared.reply.Reply.TheVariants.{Done}

@@ -36,7 +36,7 @@ use Rattle.esto_top.specs.Laws.{ListingLaws, OpeningLaws}
 use Rattle.esto_opening.specs.Calm.{Leads, SaysAlways}
 use Rattle.esto_opening.proofs.LeadLemmas.{then-leads, leads-more, gives-leads}
 use Rattle.esto_top.proofs.SayLemmas.{alone_opens, catalogue_leads, catalogue_opens, one_alone, union_leads}
-use Rattle.esto_planning.specs.Listing.{IsClash, IsListOf, IsListing, IsPlanned}
+use Rattle.esto_rewriting.specs.Listing.{IsClash, IsListOf, IsListing, IsPlanned}
 
 -- ---- the items
 

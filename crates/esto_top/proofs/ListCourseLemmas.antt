@@ -9,8 +9,8 @@ use Rattle.esto_query.specs.declared.query.Query.{Query}
 use Rattle.esto_opening.specs.Answers.{Answers, IsWant, IsCaused}
 use Rattle.esto_opening.specs.Asked.{AsksIn}
 use Rattle.esto_opening.proofs.AskedSteps.{quiet_asks}
-use Rattle.esto_planning.specs.Planning.{plans_query}
-use Rattle.esto_disjuncts.specs.List.{lists_union, makes_members, prints_members}
+use Rattle.esto_rewriting.specs.Planning.{plans_query}
+use Rattle.esto_rewriting.specs.List.{lists_union, makes_members, prints_members}
 use Rattle.esto_top.specs.List.{lists_queries, lists_read, prints_list}
 use Rattle.esto_opening.specs.Opening.{opens_union}
 use Rattle.esto_opening.specs.declared.reply.Reply.TheVariants.{Done}

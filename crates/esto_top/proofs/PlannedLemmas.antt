@@ -6,16 +6,16 @@ use Rattle.esto_constraint.proofs.RankLemmas.{depth_of, depth-small, ranks-Ranks
 use Rattle.esto_chase_laws.specs.Runs.{Step, IsEnd, IsRun, start_of}
 use Rattle.esto_chase_laws.specs.declared.clash.Clash.{Clash}
 use Rattle.esto_constraint.specs.Constraints.{rules_of}
-use Rattle.esto_planning.specs.Printed.{IsPrintedOf}
+use Rattle.esto_rewriting.specs.Printed.{IsPrintedOf}
 use Rattle.esto_list.specs.declared.listing.Listed.{Listed}
-use Rattle.esto_planning.specs.Listing.{IsClash, IsListOf, IsPlanned}
+use Rattle.esto_rewriting.specs.Listing.{IsClash, IsListOf, IsPlanned}
 use Rattle.esto_query.specs.Making.{query_of}
 use Rattle.esto_query.specs.declared.query.Query.{Query}
 use Rattle.esto_semantics.specs.Listed.{AreListed}
 use Rattle.esto_semantics.specs.Queries.{ConjunctiveQuery, IsQuery}
 use Rattle.esto_semantics.specs.Rules.{Rule, AreRules}
 use Rattle.esto_term.specs.Sets.{AreListedBy}
-use Rattle.esto_disjuncts.specs.Members.{IsListIn}
+use Rattle.esto_rewriting.specs.Members.{IsListIn}
 use Rattle.esto_union.specs.Unions.{IsRewritingIn, queries_of}
 use Rattle.esto_term.proofs.ListLemmas.{Contains-map_from, map_at-from}
 use Rattle.esto_universal.proofs.PlannedLemmas.{head_stays}
@@ -24,7 +24,7 @@ use Rattle.esto_views.specs.Plans.{plan_query}
 use Rattle.esto_views.specs.declared.fragments.FragmentDef.{FragmentDef}
 use Rattle.esto_views.specs.declared.plan.Plan.{Plan}
 use Rattle.esto_views.proofs.FlatLemmas.{named-flat}
-use Rattle.esto_certify.proofs.CertifiedLemmas.{rules_within, rules_ranked}
+use Rattle.esto_rewriting.proofs.CertifiedLemmas.{rules_within, rules_ranked}
 use Rattle.esto_top.specs.LawsBelow.{KeptLaws, ChaseLaws, ListLaws}
 use Rattle.esto_top.proofs.ListLemmas.{items_exist}
 use Rattle.esto_top.proofs.PlanLemmas.{cored_exists, stated_exists}

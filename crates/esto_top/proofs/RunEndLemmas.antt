@@ -10,16 +10,16 @@ use Rattle.esto_course.specs.Course.{judges, gives, and_then}
 use Rattle.esto_list.specs.Items.{totals_of}
 use Rattle.esto_list.specs.declared.listing.Listed.{Listed}
 use Rattle.esto_opening.specs.Fetch.{fetches}
-use Rattle.esto_fragments.specs.Fragments.{Stored, IsStoredAt, content_fault, reads_content, opens_stored, opens_fragment, opens_fragments, opens_next, no_contents}
-use Rattle.esto_fragments.specs.Fragments.{with_content}
+use Rattle.esto_opening.specs.Fragments.{Stored, IsStoredAt, content_fault, reads_content, opens_stored, opens_fragment, opens_fragments, opens_next, no_contents}
+use Rattle.esto_opening.specs.Fragments.{with_content}
 use Rattle.esto_opening.specs.declared.opening.TheConstants.{DATA_LIMIT}
 use Rattle.esto_opening.specs.declared.status.Status.{Status}
 use Rattle.esto_opening.specs.declared.status.Status.TheVariants.{BadFragment, NoRewriting, NoSuchNumber, Unsatisfiable}
 use Rattle.esto_opening.proofs.UnionLemmas.{itself}
-use Rattle.esto_planning.specs.Choice.{HasNoPlace, IsItemOf, IsPlace}
-use Rattle.esto_planning.specs.Choice.HasNoPlace.{is_empty, is_above}
-use Rattle.esto_planning.specs.Listing.{IsClash, IsListing, IsPlanned}
-use Rattle.esto_planning.specs.Planning.{chooses, ends_query, plans_query}
+use Rattle.esto_rewriting.specs.Choice.{HasNoPlace, IsItemOf, IsPlace}
+use Rattle.esto_rewriting.specs.Choice.HasNoPlace.{is_empty, is_above}
+use Rattle.esto_rewriting.specs.Listing.{IsClash, IsListing, IsPlanned}
+use Rattle.esto_rewriting.specs.Planning.{chooses, ends_query, plans_query}
 use Rattle.esto_ports.specs.Files.{Files}
 use Rattle.esto_ports.specs.declared.file_fault.FileFault.{FileFault}
 use Rattle.esto_query.specs.declared.query.Query.{Query}

@@ -25,14 +25,14 @@ use Rattle.esto_views.specs.Plans.{IsPlanOver, fact_of, plan_query}
 use Rattle.esto_views.specs.declared.fragments.FragmentDef.{FragmentDef}
 use Rattle.esto_views.specs.declared.plan.Plan.{Plan}
 use Rattle.esto_opening.specs.Answers.{Answers, IsWant, IsCaused}
-use Rattle.esto_fragments.specs.Fragments.{opens_fragments}
+use Rattle.esto_opening.specs.Fragments.{opens_fragments}
 use Rattle.esto_top.specs.Run.{IsRunText, has_no_answers, runs_end, runs_item, runs_plan, runs_query}
 use Rattle.esto_opening.specs.declared.reply.Reply.{Reply}
 use Rattle.esto_opening.specs.declared.reply.Reply.TheVariants.{Done}
 use Rattle.esto_opening.specs.declared.status.Status.{Status}
 use Rattle.esto_opening.proofs.Steps.{caused_weaker}
-use Rattle.esto_planning.specs.Listing.{IsClash, IsListOf, IsPlanned}
-use Rattle.esto_planning.specs.Planning.{chooses, ends_query, lists_plan}
+use Rattle.esto_rewriting.specs.Listing.{IsClash, IsListOf, IsPlanned}
+use Rattle.esto_rewriting.specs.Planning.{chooses, ends_query, lists_plan}
 use Rattle.esto_opening.proofs.Steps.{then_answers_still}
 
 -- ---- the fragments

@@ -32,16 +32,16 @@ use Rattle.esto_views.specs.Fragments.{views_of, patterns_of}
 use Rattle.esto_views.specs.Plans.{plan_query}
 use Rattle.esto_views.specs.declared.plan.Plan.{Plan}
 use Rattle.esto_opening.specs.Answers.{IsCaused}
-use Rattle.esto_fragments.specs.Fragments.{IsReadableFragment, opens_fragments}
-use Rattle.esto_fragments.specs.Readable.{AreReadable, OpenedAreReadable, ReadableAreOpened, TellsOfFile}
-use Rattle.esto_fragments.specs.Readable.TellsOfFile.{fails, is_longer, has_fault}
+use Rattle.esto_opening.specs.Fragments.{IsReadableFragment, opens_fragments}
+use Rattle.esto_opening.specs.Readable.{AreReadable, OpenedAreReadable, ReadableAreOpened, TellsOfFile}
+use Rattle.esto_opening.specs.Readable.TellsOfFile.{fails, is_longer, has_fault}
 use Rattle.esto_opening.proofs.StatusLemmas.{same_clash, same_asked, same_least}
 use Rattle.esto_top.specs.Grammar.{course_of, is_list_number}
 use Rattle.esto_top.specs.Headline.{FilesSay, HasAnswers, Rewrites}
 use Rattle.esto_opening.specs.Replies.{reply_status, reply_text}
 use Rattle.esto_top.specs.Outcome.{Says, CompleteWhereTold}
 use Rattle.esto_top.specs.Run.{IsRunText, run_course, runs_queries, runs_query}
-use Rattle.esto_planning.specs.Choice.HasNoPlace.{is_empty, is_above}
+use Rattle.esto_rewriting.specs.Choice.HasNoPlace.{is_empty, is_above}
 use Rattle.esto_top.specs.Runs.{AsksRun, CanRun, IsAboveList, PrintsAnswers, PrintsRun, TellsClash, IsExactRun, OutcomesAreRuns, RunsWhereTold}
 use Rattle.esto_opening.specs.declared.reply.Reply.{Reply}
 use Rattle.esto_opening.specs.declared.reply.Reply.TheVariants.{Done, Unsatisfiable}
@@ -52,14 +52,14 @@ use Rattle.esto_top.specs.Laws.{ListingLaws, OpeningLaws}
 use Rattle.esto_top.proofs.HeadlineLemmas.{empty-without}
 use Rattle.esto_opening.specs.Calm.{Leads}
 use Rattle.esto_opening.proofs.LeadLemmas.{then-leads}
-use Rattle.esto_fragments.proofs.TextLemmas.{same_rows_text}
+use Rattle.esto_opening.proofs.TextLemmas.{same_rows_text}
 use Rattle.esto_top.proofs.LeadLemmas.{says-leads}
 use Rattle.esto_top.proofs.RunLemmas.{same_rows, uses_only}
 use Rattle.esto_top.proofs.SayLemmas.{alone_opens, catalogue_leads, catalogue_opens, one_alone, union_leads}
 use Rattle.esto_opening.specs.Alike.{IsSameQuery}
-use Rattle.esto_planning.specs.Alike.{IsSamePlan}
-use Rattle.esto_planning.specs.Choice.{HasNoPlace, IsPlace}
-use Rattle.esto_planning.specs.Listing.{IsClash, IsListOf, IsPlanned}
+use Rattle.esto_rewriting.specs.Alike.{IsSamePlan}
+use Rattle.esto_rewriting.specs.Choice.{HasNoPlace, IsPlace}
+use Rattle.esto_rewriting.specs.Listing.{IsClash, IsListOf, IsPlanned}
 
 -- ---- the course of a query
 

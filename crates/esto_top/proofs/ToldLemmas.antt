@@ -5,20 +5,20 @@ use Rattle.std.specs.FinMap.{get}
 use Rattle.either.specs.declared.Either.{Either}
 use Rattle.either.specs.declared.Either.TheVariants.{Left, Right}
 use Rattle.esto_mapping.specs.declared.catalogue.Catalogue.{Catalogue}
-use Rattle.esto_certify.specs.Verify.{verify_course}
+use Rattle.esto_rewriting.specs.Verify.{verify_course}
 use Rattle.esto_mapping.specs.declared.dataset.Dataset.{Dataset}
 use Rattle.esto_chase_laws.specs.declared.clash.Clash.{Clash}
 use Rattle.esto_course.specs.Course.{Course, Names, and_then, demands, each, gives, judges, refuses}
 use Rattle.esto_course.specs.Course.Point.{went, stopped, missing}
 use Rattle.esto_data.specs.Datasets.{loads}
-use Rattle.esto_disjuncts.specs.Run.{runs_end as ends_union, runs_union}
-use Rattle.esto_disjuncts.specs.declared.members.Member.{Member}
+use Rattle.esto_rewriting.specs.Run.{runs_end as ends_union, runs_union}
+use Rattle.esto_rewriting.specs.declared.members.Member.{Member}
 use Rattle.esto_opening.specs.Answers.{IsCaused}
 use Rattle.esto_opening.specs.Asked.{Fetches}
 use Rattle.esto_opening.specs.Asked.Fetches.{to_lack, to_refusal, to_value}
 use Rattle.esto_opening.specs.Fetch.{FetchStops, fetches}
 use Rattle.esto_opening.specs.Fetch.FetchStops.{fails, is_longer}
-use Rattle.esto_fragments.specs.Fragments.{opens_fragments}
+use Rattle.esto_opening.specs.Fragments.{opens_fragments}
 use Rattle.esto_opening.specs.Opening.{opens_catalogue, opens_query, opens_union}
 use Rattle.esto_opening.specs.declared.status.Status.{Status}
 use Rattle.esto_opening.specs.declared.status.Status.TheVariants.{ReadFault}

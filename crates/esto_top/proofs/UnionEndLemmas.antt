@@ -9,27 +9,27 @@ use Rattle.std.proofs.lemmas.Option.{same_Some}
 use Rattle.esto_mapping.specs.declared.catalogue.Catalogue.{Catalogue}
 use Rattle.esto_chase_laws.specs.declared.clash.Clash.{Clash}
 use Rattle.esto_course.specs.Course.{Course, judges, gives, and_then}
-use Rattle.esto_disjuncts.specs.List.{IsMemberText, IsUnionText, disjunct_text, lists_union, prints_members}
-use Rattle.esto_disjuncts.specs.Members.{AreMembersOf, ClashAt, HavePlan, IsMemberOf, OneIsEmpty, has_plan}
-use Rattle.esto_disjuncts.specs.Run.{AreChosen, HasNoChoice, IsChosenOf, IsLeastLength, IsNoRows, IsUnionRunText, chooses_each, runs_chosen}
-use Rattle.esto_disjuncts.specs.Run.{runs_end, runs_members, runs_union}
-use Rattle.esto_disjuncts.specs.Run.HasNoChoice.{is_above, is_empty}
-use Rattle.esto_disjuncts.proofs.PickingLemmas.{not_planned, same_items}
-use Rattle.esto_disjuncts.specs.declared.members.Member.{Member}
-use Rattle.esto_disjuncts.specs.declared.members.Member.TheVariants.{Planned, Clashed}
+use Rattle.esto_rewriting.specs.List.{IsMemberText, IsUnionText, disjunct_text, lists_union, prints_members}
+use Rattle.esto_rewriting.specs.Members.{AreMembersOf, ClashAt, HavePlan, IsMemberOf, OneIsEmpty, has_plan}
+use Rattle.esto_rewriting.specs.Run.{AreChosen, HasNoChoice, IsChosenOf, IsLeastLength, IsNoRows, IsUnionRunText, chooses_each, runs_chosen}
+use Rattle.esto_rewriting.specs.Run.{runs_end, runs_members, runs_union}
+use Rattle.esto_rewriting.specs.Run.HasNoChoice.{is_above, is_empty}
+use Rattle.esto_rewriting.proofs.PickingLemmas.{not_planned, same_items}
+use Rattle.esto_rewriting.specs.declared.members.Member.{Member}
+use Rattle.esto_rewriting.specs.declared.members.Member.TheVariants.{Planned, Clashed}
 use Rattle.esto_list.specs.Items.{totals_of}
 use Rattle.esto_views.specs.Printing.{each_from}
 use Rattle.esto_list.specs.declared.listing.Listed.{Listed}
-use Rattle.esto_fragments.specs.Fragments.{opens_fragments}
+use Rattle.esto_opening.specs.Fragments.{opens_fragments}
 use Rattle.esto_opening.specs.Line.{line_of}
-use Rattle.esto_fragments.specs.Readable.{AreReadable}
+use Rattle.esto_opening.specs.Readable.{AreReadable}
 use Rattle.esto_opening.specs.declared.reply.Reply.{Reply}
 use Rattle.esto_opening.specs.declared.reply.Reply.TheVariants.{Done, Unsatisfiable as UnsatisfiableReply}
 use Rattle.esto_opening.specs.declared.status.Status.{Status}
 use Rattle.esto_opening.specs.declared.status.Status.TheVariants.{NoRewriting, NoSuchNumber, Unsatisfiable}
 use Rattle.esto_opening.proofs.UnionLemmas.{itself}
-use Rattle.esto_planning.specs.Choice.{IsPlace}
-use Rattle.esto_planning.specs.Listing.{IsPlanned}
+use Rattle.esto_rewriting.specs.Choice.{IsPlace}
+use Rattle.esto_rewriting.specs.Listing.{IsPlanned}
 use Rattle.esto_ports.specs.Files.{Files}
 use Rattle.esto_query.specs.declared.query.Query.{Query}
 use Rattle.esto_run.specs.Answers.{rows_text}

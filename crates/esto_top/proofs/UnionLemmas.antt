@@ -2,8 +2,8 @@
 use Rattle.std.proofs.Common.{◌<◌, ℕ, List, [], ◌∷◌, length, Option, Some, None, subst, inl, inr, arith}
 use Rattle.esto_mapping.specs.Catalogues.{AreSame}
 use Rattle.esto_mapping.specs.declared.catalogue.Catalogue.{Catalogue}
-use Rattle.esto_disjuncts.specs.Exact.{ListsUnionExactly}
-use Rattle.esto_disjuncts.specs.Laws.{UnionListsAreExact, UnionListsAreMoved}
+use Rattle.esto_rewriting.specs.Exact.{ListsUnionExactly}
+use Rattle.esto_rewriting.specs.UnionLaws.{UnionListsAreExact, UnionListsAreMoved}
 use Rattle.esto_opening.specs.Alike.{AreSameQueries}
 use Rattle.esto_opening.specs.Calm.{Leads}
 use Rattle.esto_opening.specs.Line.{line_of}

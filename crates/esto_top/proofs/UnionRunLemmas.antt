@@ -2,8 +2,8 @@
 use Rattle.std.proofs.Common.{◌<◌, ℕ, List, [], ◌∷◌, length, Option, Some, None, sym, subst, inl, inr, arith}
 use Rattle.esto_mapping.specs.Catalogues.{AreSame}
 use Rattle.esto_mapping.specs.declared.catalogue.Catalogue.{Catalogue}
-use Rattle.esto_disjuncts.specs.RunExact.{RunsUnionExactly, UnionRunsAreExact}
-use Rattle.esto_disjuncts.specs.RunLaws.{UnionRunsAreMoved}
+use Rattle.esto_rewriting.specs.RunExact.{RunsUnionExactly, UnionRunsAreExact}
+use Rattle.esto_rewriting.specs.RunLaws.{UnionRunsAreMoved}
 use Rattle.esto_opening.specs.Alike.{AreSameQueries}
 use Rattle.esto_opening.specs.Calm.{Leads}
 use Rattle.esto_opening.specs.Line.{line_of}

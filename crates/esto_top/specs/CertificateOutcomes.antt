@@ -1,15 +1,15 @@
 -- What `explain` and `verify` answer where nothing is wrong with the catalogue's and the query's files.
 use Rattle.std.specs.Prelude.{◌≡◌, ◌≢◌, ◌↔◌, ℕ, ◌-◌, ◌≤◌, Bool, IsTrue, List, [], ◌∷◌, length, slice_get, Option, Some, None, codes}
 use Rattle.esto_mapping.specs.declared.catalogue.Catalogue.{Catalogue}
-use Rattle.esto_certify.specs.Laws.{Certifies, SaysVerdict}
-use Rattle.esto_certify.specs.Verify.{first_above, HasVerdict, IsSetOf}
+use Rattle.esto_rewriting.specs.CertificateLaws.{Certifies, SaysVerdict}
+use Rattle.esto_rewriting.specs.Verify.{first_above, HasVerdict, IsSetOf}
 use Rattle.esto_opening.specs.declared.opening.TheConstants.{DATA_LIMIT}
 use Rattle.esto_list.specs.declared.listing.Listed.{Listed}
 use Rattle.esto_opening.specs.Fetch.{HasWithin}
 use Rattle.esto_opening.specs.Line.{line_of}
 use Rattle.esto_opening.specs.declared.status.Status.{Status}
 use Rattle.esto_opening.specs.declared.status.Status.TheVariants as status
-use Rattle.esto_planning.specs.Listing.{IsListOf, IsPlanned}
+use Rattle.esto_rewriting.specs.Listing.{IsListOf, IsPlanned}
 use Rattle.esto_ports.specs.Files.{Files, Holds}
 use Rattle.esto_query.specs.declared.query.Query.{Query}
 use Rattle.esto_semantics.specs.Queries.{ConjunctiveQuery}

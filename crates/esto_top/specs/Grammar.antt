@@ -5,8 +5,8 @@ use Rattle.std.specs.Cmp.Lexicographic.{pointwise}
 use Rattle.std.specs.List.{list_all, slice_split}
 use Rattle.esto_ports.specs.Files.{Files}
 use Rattle.esto_bench.specs.declared.case.TheConstants.{MAX_SIZE}
-use Rattle.esto_certify.specs.Explain.{explain_course}
-use Rattle.esto_certify.specs.Verify.{verify_course}
+use Rattle.esto_rewriting.specs.Explain.{explain_course}
+use Rattle.esto_rewriting.specs.Verify.{verify_course}
 use Rattle.esto_data.specs.Answer.{answer_course}
 use Rattle.esto_data.specs.Audit.{audit_course}
 use Rattle.esto_data.specs.Fill.{make_course}

@@ -26,7 +26,7 @@ use Rattle.esto_opening.specs.Opening.{FilesSayCatalogue, FilesSayQuery}
 use Rattle.esto_top.specs.Outcome.{Outcome}
 use Rattle.esto_opening.specs.declared.status.Status.{Status}
 use Rattle.esto_opening.specs.declared.status.Status.TheVariants as status
-use Rattle.esto_planning.specs.Listing.{IsClash, IsListOf, IsPlanned}
+use Rattle.esto_rewriting.specs.Listing.{IsClash, IsListOf, IsPlanned}
 
 -- ---- the files
 

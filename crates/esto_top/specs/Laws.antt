@@ -2,14 +2,14 @@
 use Rattle.esto_backchase.specs.Listing.{ListedCoverRewritings}
 use Rattle.esto_semantics.specs.ListedLaws.{NoRewritingExists, PickWeighsLeastOfAll}
 use Rattle.esto_opening.specs.Alike.{CataloguesOpenAlike, UnionsOpenAlike}
-use Rattle.esto_fragments.specs.Alike.{FragmentOpensAlike, FragmentsOpenAlike, StoresHaveOneContent}
+use Rattle.esto_opening.specs.FragmentsAlike.{FragmentOpensAlike, FragmentsOpenAlike, StoresHaveOneContent}
 use Rattle.esto_opening.specs.Unions.{OpenedFormUnions, UnionsOfOneAreQueries}
 use Rattle.esto_top.specs.Steps.{AnswersEnd, AuditsEnd, CasesHaveSummaries, CataloguesOpen, ContainmentsEnd, ItemsAreChosen, MinimisationsEnd}
 use Rattle.esto_top.specs.Steps.{PlansHaveLists, PlansHaveTexts, QueriesArePlanned, QueriesHaveEnds, SetsHaveRows, SetsOpen, SetsUseFragments}
 use Rattle.esto_top.specs.Steps.{ExplanationsEnd, FillsEnd, UnionsAreListed, UnionsAreRun, UnionsOpen, VerificationsEnd}
-use Rattle.esto_planning.specs.Alike.{ChoiceIsOne, ClashIsMoved, EndIsOne, ListIsMoved, ListIsOne, ListingIsMoved, ListingIsOne, PlanIsMoved, PlanIsOne}
-use Rattle.esto_planning.specs.Laws.{ClashExcludesAnswers, CoreHasNoRetract, CoreIsOnly, ItemIsListed, PlaceIsWithin, PlanHasForm, PlanIsUniversal}
-use Rattle.esto_planning.specs.Laws.{PlanTellsAnswers}
+use Rattle.esto_rewriting.specs.Alike.{ChoiceIsOne, ClashIsMoved, EndIsOne, ListIsMoved, ListIsOne, ListingIsMoved, ListingIsOne, PlanIsMoved, PlanIsOne}
+use Rattle.esto_rewriting.specs.PlannedLaws.{ClashExcludesAnswers, CoreHasNoRetract, CoreIsOnly, ItemIsListed, PlaceIsWithin, PlanHasForm, PlanIsUniversal}
+use Rattle.esto_rewriting.specs.PlannedLaws.{PlanTellsAnswers}
 
 -- What is opened is one.
 pub record OpeningLaws : Type 0 where

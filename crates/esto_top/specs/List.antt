@@ -1,17 +1,17 @@
 -- The command `list`.
 use Rattle.std.specs.Prelude.{ℕ, List, [], ◌∷◌, Option}
 use Rattle.esto_mapping.specs.declared.catalogue.Catalogue.{Catalogue}
-use Rattle.esto_disjuncts.specs.List.{lists_union}
+use Rattle.esto_rewriting.specs.List.{lists_union}
 use Rattle.esto_ports.specs.Files.{Files}
 use Rattle.esto_query.specs.declared.query.Query.{Query}
 use Rattle.esto_views.specs.declared.plan.Plan.{Plan}
 use Rattle.esto_course.specs.Course.{Course, judges, gives, and_then}
 use Rattle.esto_opening.specs.Opening.{opens_catalogue, opens_union}
-use Rattle.esto_planning.specs.Planning.{plans_query}
+use Rattle.esto_rewriting.specs.Planning.{plans_query}
 use Rattle.esto_opening.specs.declared.reply.Reply.{Reply}
 use Rattle.esto_opening.specs.declared.reply.Reply.TheVariants.{Done}
 use Rattle.esto_opening.specs.declared.status.Status.{Status}
-use Rattle.esto_planning.specs.Listing.{IsListing}
+use Rattle.esto_rewriting.specs.Listing.{IsListing}
 
 -- The text of the plan's list is made.
 abbrev pub prints_list : Catalogue → Query → Plan → Course Status (List ℕ)

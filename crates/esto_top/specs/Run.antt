@@ -5,7 +5,7 @@ use Rattle.either.specs.declared.Either.TheVariants.{Left, Right}
 use Rattle.esto_mapping.specs.declared.catalogue.Catalogue.{Catalogue}
 use Rattle.esto_chase_laws.specs.declared.clash.Clash.{Clash}
 use Rattle.esto_course.specs.Course.{Course, judges, gives, and_then}
-use Rattle.esto_disjuncts.specs.Run.{runs_union}
+use Rattle.esto_rewriting.specs.Run.{runs_union}
 use Rattle.esto_list.specs.declared.listing.Listed.{Listed}
 use Rattle.esto_ports.specs.Files.{Files}
 use Rattle.esto_query.specs.declared.query.Query.{Query}
@@ -16,9 +16,9 @@ use Rattle.esto_run.specs.Used.{AreUsed}
 use Rattle.esto_semantics.specs.Listed.{candidate}
 use Rattle.esto_views.specs.Plans.{plan_query}
 use Rattle.esto_views.specs.declared.plan.Plan.{Plan}
-use Rattle.esto_fragments.specs.Fragments.{opens_fragments}
+use Rattle.esto_opening.specs.Fragments.{opens_fragments}
 use Rattle.esto_opening.specs.Opening.{opens_catalogue, opens_union}
-use Rattle.esto_planning.specs.Planning.{chooses, ends_query, lists_plan}
+use Rattle.esto_rewriting.specs.Planning.{chooses, ends_query, lists_plan}
 use Rattle.esto_opening.specs.declared.reply.Reply.{Reply}
 use Rattle.esto_opening.specs.declared.reply.Reply.TheVariants.{Done, Unsatisfiable}
 use Rattle.esto_opening.specs.declared.status.Status.{Status}

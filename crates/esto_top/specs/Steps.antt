@@ -3,19 +3,19 @@ use Rattle.std.specs.Prelude.{◌≡◌, ◌≢◌, ℕ, ◌<◌, Bool, List, []
 use Rattle.esto_bench.specs.Summary.{IsSummaryOfCase}
 use Rattle.esto_bench.specs.declared.summary.Summary.{Summary}
 use Rattle.esto_mapping.specs.declared.catalogue.Catalogue.{Catalogue}
-use Rattle.esto_certify.specs.Explain.{explain_course}
-use Rattle.esto_certify.specs.Verify.{verify_course}
+use Rattle.esto_rewriting.specs.Explain.{explain_course}
+use Rattle.esto_rewriting.specs.Verify.{verify_course}
 use Rattle.esto_data.specs.Answer.{answer_course}
 use Rattle.esto_data.specs.Audit.{audit_course}
 use Rattle.esto_data.specs.Fill.{make_course}
-use Rattle.esto_disjuncts.specs.List.{lists_union}
-use Rattle.esto_disjuncts.specs.Run.{runs_union}
+use Rattle.esto_rewriting.specs.List.{lists_union}
+use Rattle.esto_rewriting.specs.Run.{runs_union}
 use Rattle.esto_list.specs.declared.listing.Listed.{Listed}
-use Rattle.esto_fragments.specs.Fragments.{opens_fragments}
+use Rattle.esto_opening.specs.Fragments.{opens_fragments}
 use Rattle.esto_opening.specs.Opening.{opens_catalogue, opens_query, opens_union}
-use Rattle.esto_planning.specs.Choice.{IsItemOf, IsPlace}
-use Rattle.esto_planning.specs.Listing.{IsListOf, IsListing, IsPlanned}
-use Rattle.esto_planning.specs.Planning.{chooses, ends_query, plans_query}
+use Rattle.esto_rewriting.specs.Choice.{IsItemOf, IsPlace}
+use Rattle.esto_rewriting.specs.Listing.{IsListOf, IsListing, IsPlanned}
+use Rattle.esto_rewriting.specs.Planning.{chooses, ends_query, plans_query}
 use Rattle.esto_ports.specs.Files.{Files}
 use Rattle.esto_query.specs.declared.query.Query.{Query}
 use Rattle.esto_reasoning.specs.Contains.{contains_course}

@@ -1,8 +1,8 @@
 -- What `list` and `run` answer to a union of two or more queries where nothing is wrong with the files.
 use Rattle.std.specs.Prelude.{◌≡◌, ℕ, ◌<◌, List, [], ◌∷◌, length, Option, Some, None, codes}
 use Rattle.esto_mapping.specs.declared.catalogue.Catalogue.{Catalogue}
-use Rattle.esto_disjuncts.specs.Exact.{ListsUnionExactly}
-use Rattle.esto_disjuncts.specs.RunExact.{RunsUnionExactly}
+use Rattle.esto_rewriting.specs.Exact.{ListsUnionExactly}
+use Rattle.esto_rewriting.specs.RunExact.{RunsUnionExactly}
 use Rattle.esto_opening.specs.Opening.{FilesSayCatalogue, FilesSayUnion}
 use Rattle.esto_opening.specs.declared.status.Status.{Status}
 use Rattle.esto_opening.specs.declared.status.Status.TheVariants as status

@@ -18,11 +18,11 @@ use crate::list::list;
 use crate::run::run;
 use esto_bench::MAX_SIZE;
 use esto_cert::parts_by_comma;
-use esto_certify::{explain, verify};
 use esto_data::{answer, audit, fill};
 use esto_opening::{Reply, Status};
 use esto_ports::Shelf;
 use esto_reasoning::{contains, minimise};
+use esto_rewriting::{explain, verify};
 use esto_term::{OutOfMemory, Text, Values};
 use std::alloc::Global;
 

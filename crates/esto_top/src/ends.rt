@@ -5,9 +5,8 @@ ghost use Rattle.esto_top.specs.Steps.{QueriesHaveEnds, QueriesOpen, SetsHaveRow
 ghost use Rattle.esto_top.specs.Steps.{UnionsAreRun, UnionsOpen, VerificationsEnd};
 
 use crate::below::{bench_laws_hold, laws_below_hold, reading_laws_hold, reasoning_laws_hold};
-use esto_certify::sets_have_certificates;
 use esto_chase_laws::rules_are_decided;
-use esto_planning::chosen_items_are_listed;
+use esto_rewriting::{chosen_items_are_listed, sets_have_certificates};
 use esto_semantics::databases_stand_for_facts;
 
 /// A law: the file of a catalogue, and over a catalogue the file of a query or of a union of queries, is opened, or it is told

@@ -22,22 +22,19 @@ use crate::ends::{
 };
 use esto_backchase::listed_sets_cover_rewritings;
 use esto_bench::summaries_are_one;
-use esto_certify::{
-    explain_has_one_status, explain_says_certificates, verify_checks_certificates,
-    verify_outcomes_are_one, verify_says_verdicts,
-};
 use esto_data::{audited_datasets_answer, data_outcomes_are_exact, data_outcomes_are_one};
-use esto_disjuncts::{
-    union_lists_are_exact, union_lists_are_moved, union_lists_are_one, union_runs_are_exact,
-    union_runs_are_moved, union_runs_are_one,
-};
-use esto_fragments::{fragment_files_are_one, readable_fragments_are_opened};
-use esto_opening::{opened_unions_are_queries, openings_are_one};
-use esto_planning::{
-    chosen_items_are_listed, planned_plans_are_universal, planned_plans_have_their_form,
-    plans_and_lists_are_moved, plans_and_lists_are_one,
+use esto_opening::{
+    fragment_files_are_one, opened_unions_are_queries, openings_are_one,
+    readable_fragments_are_opened,
 };
 use esto_reasoning::{reasoning_outcomes_are_exact, reasoning_outcomes_are_one};
+use esto_rewriting::{
+    chosen_items_are_listed, explain_has_one_status, explain_says_certificates,
+    planned_plans_are_universal, planned_plans_have_their_form, plans_and_lists_are_moved,
+    plans_and_lists_are_one, union_lists_are_exact, union_lists_are_moved, union_lists_are_one,
+    union_runs_are_exact, union_runs_are_moved, union_runs_are_one, verify_checks_certificates,
+    verify_outcomes_are_one, verify_says_verdicts,
+};
 use esto_run::{rewritings_answer_queries, rising_rows_are_one, used_fragments_are_one};
 use esto_semantics::{chosen_atoms_are_named, listed_sets_are_minimal, picks_exist};
 

@@ -6,14 +6,13 @@ ghost use Rattle.esto_opening.specs.Asked.{AsksIn};
 ghost use Rattle.esto_opening.specs.Unions.{FormUnion};
 ghost use Rattle.esto_top.specs.List.{prints_list, lists_query, lists_queries};
 ghost use Rattle.esto_top.specs.List.{lists_read, list_course};
-ghost use Rattle.esto_planning.specs.Listing.{IsListing, IsPlanned};
+ghost use Rattle.esto_rewriting.specs.Listing.{IsListing, IsPlanned};
 
-use esto_disjuncts::list_union;
 use esto_mapping::Catalogue;
 use esto_opening::{Reply, Status, open_catalogue, open_union};
-use esto_planning::{listing_of, plan_of};
 use esto_ports::Shelf;
 use esto_query::Query;
+use esto_rewriting::{list_union, listing_of, plan_of};
 use esto_term::{Bytes, OutOfMemory, Text};
 use esto_views::Plan;
 use std::alloc::Global;

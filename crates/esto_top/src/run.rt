@@ -6,21 +6,20 @@ ghost use Rattle.esto_opening.specs.Asked.{AsksIn};
 ghost use Rattle.esto_opening.specs.Unions.{FormUnion};
 ghost use Rattle.esto_top.specs.Run.{has_no_answers, runs_item, runs_plan, runs_query};
 ghost use Rattle.esto_top.specs.Run.{runs_queries, runs_read, run_course};
-ghost use Rattle.esto_planning.specs.Choice.{IsItemOf};
-ghost use Rattle.esto_planning.specs.Listing.{IsPlanned};
+ghost use Rattle.esto_rewriting.specs.Choice.{IsItemOf};
+ghost use Rattle.esto_rewriting.specs.Listing.{IsPlanned};
 
 use either::{Left, Right};
 use esto_chase::Clash;
-use esto_disjuncts::run_union;
-use esto_fragments::open_fragments;
 use esto_list::Listed;
 use esto_mapping::Catalogue;
-use esto_opening::{Reply, Status, open_catalogue, open_union};
-use esto_planning::{
-    choose, chosen_items_are_listed, listing_of, planned_plans_have_their_form, printed_plan,
-};
+use esto_opening::{Reply, Status, open_catalogue, open_fragments, open_union};
 use esto_ports::Shelf;
 use esto_query::Query;
+use esto_rewriting::{
+    choose, chosen_items_are_listed, listing_of, planned_plans_have_their_form, printed_plan,
+    run_union,
+};
 use esto_run::{answers_are_over_files, answers_text, fragments_of_set, run_text};
 use esto_semantics::chosen_atoms_are_named;
 use esto_term::{List, Text};

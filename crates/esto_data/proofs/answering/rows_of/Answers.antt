@@ -1,6 +1,6 @@
 use Rattle.std.proofs.Common.{subst, sym}
 use Rattle.esto_course.specs.Course.{judges}
-use Rattle.esto_fill.specs.Coding.{HaveOneLength}
+use Rattle.esto_data.specs.Coding.{HaveOneLength}
 use Rattle.esto_fill.specs.Texts.{AreTextsOf, IsFirstNodeColumn}
 use Rattle.esto_data.specs.Answer.{IsUnionAnswerOfFacts}
 use Rattle.esto_data.proofs.StepLemmas.{node_stops}

@@ -1,5 +1,5 @@
 use Rattle.std.proofs.Common.{◌≡◌, ◌≤◌}
-use Rattle.esto_fill.specs.Coding.{IsOver}
+use Rattle.esto_data.specs.Coding.{IsOver}
 use Rattle.esto_data.proofs.DatasetLemmas.{SoFarLoaded}
 use Rattle.esto_data.proofs.datasets.load_files.Given as goal
 

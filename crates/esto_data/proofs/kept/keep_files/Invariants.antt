@@ -1,5 +1,5 @@
 use Rattle.std.proofs.Common.{◌≡◌, ◌≤◌}
-use Rattle.esto_fill.specs.Coding.{IsCodedFrom, IsOver}
+use Rattle.esto_data.specs.Coding.{IsCodedFrom, IsOver}
 use Rattle.esto_data.proofs.DatasetLemmas.{IsAlongFiles}
 use Rattle.esto_data.proofs.kept.keep_files.Given as goal
 

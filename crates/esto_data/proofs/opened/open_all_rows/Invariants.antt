@@ -1,5 +1,5 @@
 use Rattle.std.proofs.Common.{◌≡◌, ◌≤◌}
-use Rattle.esto_fill.specs.CodedParts.{Stays}
+use Rattle.esto_data.specs.CodedParts.{Stays}
 use Rattle.esto_data.proofs.RowLemmas.{SoFarRows}
 use Rattle.esto_data.proofs.opened.open_all_rows.Given as goal
 

@@ -1,3 +1,0 @@
-pub mod Verify
-pub mod Explain
-pub mod Laws

@@ -1,0 +1,173 @@
+-- Rules and rows of fragments over rows of codes.
+use Rattle.std.proofs.Common.{◌≡◌, ◌↔◌, ◌<◌, ◌≤◌, ◌+◌, inl, inr, ℕ, Bool, true, false, List, [], length, get_or, take, Some, slice_get, Contains, refl, sym, ◌∙◌, IsTrue, None, arith}
+use Rattle.std.proofs.lemmas.Bool.{false≢true}
+use Rattle.esto_columns.specs.CodedRows.{CodedRows}
+use Rattle.esto_columns.specs.Interned.{AreCodedRows}
+use Rattle.esto_constraint.specs.Constraints.{rule_of, rules_of}
+use Rattle.esto_constraint.specs.declared.rule.Constraint.{Constraint}
+use Rattle.esto_query.specs.Making.{query_of}
+use Rattle.esto_semantics.specs.Queries.{IsAnswer}
+use Rattle.esto_semantics.specs.Rules.{AreRules, IsMet, Rule}
+use Rattle.esto_semantics.specs.Standing.{RulesStand}
+use Rattle.esto_semantics.specs.declared.fact.Fact.{Fact}
+use Rattle.esto_steps.specs.Rows.{IsRowOf, held_by}
+use Rattle.esto_stores.specs.Rows.{Row}
+use Rattle.esto_term.proofs.ListLemmas.{Contains-at, holds_more, map_at, thing_at}
+use Rattle.esto_term.proofs.PlaceLemmas.{item_at}
+use Rattle.esto_term.specs.declared.term.Term.{Term}
+use Rattle.esto_views.specs.Fragments.{views_of}
+use Rattle.esto_views.specs.declared.fragments.FragmentDef.{FragmentDef}
+use Rattle.esto_data.specs.CodedParts.{Stays}
+use Rattle.esto_data.specs.Coding.{AreCodedLists, IsCodedOf}
+use Rattle.esto_fill.specs.Databases.{database_of}
+use Rattle.esto_fill.specs.Differences.{Agree, HoldViewRows}
+use Rattle.esto_fill.specs.Judging.{ArePassed, IsPassed}
+use Rattle.esto_fill.specs.Texts.{AreExactly}
+use Rattle.esto_fill.specs.Trials.{IsEnough}
+use Rattle.esto_data.specs.declared.coded_data.CodedData.{CodedData}
+use Rattle.esto_fill.specs.declared.loaded.Loaded.{Loaded}
+use Rattle.esto_data.proofs.CodedRowLemmas.{stays_itself, stays_on}
+use Rattle.esto_data.proofs.CodedViewLemmas.{HoldBelow, exact_from, hold_all, list_at, lists_grow, lists_long}
+use Rattle.esto_fill.proofs.TrialLemmas.{fragments_all, rules_met}
+use Rattle.esto_fill.proofs.TriedLemmas.{passed_all, passed_more}
+
+-- what is so is told, and what isn't
+pub told_true : {P : Type 0} → P → IsTrue true ↔ P
+told_true is = ((λ so. is), (λ its. refl))
+
+pub told_false : {P : Type 0} → (P → ⊥) → IsTrue false ↔ P
+told_false never = ((λ wrong. absurd (false≢true wrong)), (λ its. absurd (never its)))
+
+-- ---- rules
+
+module _ (laws : List Rule) (facts : List (Fact Term)) (rule : Rule) where
+  -- a law is passed
+  pub law_passed : Contains laws rule → IsTrue true ↔ IsPassed laws facts rule
+  law_passed law = told_true (inl law)
+
+  -- another rule where it is met
+  pub met_passed : ¬ (Contains laws rule) → (met : Bool) → IsTrue met ↔ IsMet facts rule → IsTrue met ↔ IsPassed laws facts rule
+  met_passed tried met both = (
+    (λ so. inr (tried, both.0 so)),
+    (λ passed. elim passed [
+      | inl law ↦ absurd (tried law)
+      | inr its ↦ both.1 its.1
+    ]),
+  )
+
+-- where the loop over the rules stands: those so far are passed
+pub record RulesSoFar (old new : CodedData) (laws : List Rule) (rules : List Constraint) (count : ℕ) : Type 0 where
+  pub stays : Stays old new
+  pub passed : (loaded : Loaded) → IsCodedOf loaded old → ArePassed laws loaded.facts (take count (rules_of rules))
+
+pub rules_start : (coded : CodedData) (laws : List Rule) (rules : List Constraint) → RulesSoFar coded coded laws rules 0
+rules_start coded laws rules = record {
+  stays = stays_itself coded;
+  passed = λ loaded its rule inside. absurd (none rule inside);
+}
+  where
+    none : (rule : Rule) → Contains (take 0 (rules_of rules)) rule → ⊥
+    none rule (place, below, at) = omega (arith, below)
+
+module _ (old middle new : CodedData) (laws : List Rule) (rules : List Constraint) (count : ℕ) (rule : Constraint) (within : count < length rules)
+    (read : rule ≡ get_or rules count rule) (before : RulesSoFar old middle laws rules count) (step : Stays middle new) (answer : Bool)
+    (told : (loaded : Loaded) → IsCodedOf loaded middle → IsTrue answer ↔ IsPassed laws loaded.facts (rule_of rule)) where
+  pub rules_goes : answer ≡ true → RulesSoFar old new laws rules (count + 1)
+  rules_goes so = record {
+    stays = stays_on old middle new before.stays step;
+    passed = λ loaded its.
+        passed_more laws loaded.facts rules count rule (item_at rules count rule within read) ((told loaded (before.stays.kept loaded its)).0 so)
+        (before.passed loaded its);
+  }
+
+  pub rules_stop : answer ≡ false → (loaded : Loaded) → IsCodedOf loaded old → IsTrue false ↔ ArePassed laws loaded.facts (rules_of rules)
+  rules_stop apart loaded its = told_false (λ all.
+      let there = map_at rule_of rules count rule (item_at rules count rule within read) in
+      let passed = all (rule_of rule) (Contains-at (rules_of rules) count (rule_of rule) there) in
+      false≢true (sym apart ∙ (told loaded (before.stays.kept loaded its)).1 passed))
+
+pub rules_end : (old new : CodedData) (laws : List Rule) (rules : List Constraint) (count : ℕ) → length rules ≤ count → RulesSoFar old new laws rules count
+    → (loaded : Loaded) → IsCodedOf loaded old → IsTrue true ↔ ArePassed laws loaded.facts (rules_of rules)
+rules_end old new laws rules count past before loaded its = told_true (passed_all laws loaded.facts rules count past (before.passed loaded its))
+
+-- ---- fragments
+
+-- where the loop over the fragments stands: those so far hold the rows of their views
+pub record FragmentsSoFar (old new : CodedData) (rows : List CodedRows) (fragments : List FragmentDef) (count : ℕ) : Type 0 where
+  pub stays : Stays old new
+  pub hold : (loaded : Loaded) → IsCodedOf loaded old → (lists : List (List Row)) → AreCodedLists old.facts.texts rows lists
+      → HoldBelow fragments lists (database_of loaded.facts) count
+
+pub fragments_start : (coded : CodedData) (rows : List CodedRows) (fragments : List FragmentDef) → FragmentsSoFar coded coded rows fragments 0
+fragments_start coded rows fragments = record {
+  stays = stays_itself coded;
+  hold = λ loaded its lists are place fragment below at. absurd (omega (arith, below));
+}
+
+module _ (old middle new : CodedData) (rows : List CodedRows) (fragments : List FragmentDef) (count : ℕ) (fragment : FragmentDef) (own : CodedRows)
+    (within : count < length fragments) (read : fragment ≡ get_or fragments count fragment) (at : slice_get rows count ≡ Some own)
+    (before : FragmentsSoFar old middle rows fragments count) (step : Stays middle new) (answer : Bool)
+    (told : (loaded : Loaded) → IsCodedOf loaded middle → (list : List Row) → AreCodedRows middle.facts.texts own.rows list
+    → IsTrue answer ↔ AreExactly (IsAnswer (query_of fragment.view) (database_of loaded.facts)) list) where
+  told_at : (loaded : Loaded) → IsCodedOf loaded old → (lists : List (List Row)) → AreCodedLists old.facts.texts rows lists → (list : List Row)
+      → slice_get lists count ≡ Some list → IsTrue answer ↔ AreExactly (IsAnswer (query_of fragment.view) (database_of loaded.facts)) list
+  told_at loaded its lists are list there =
+      told loaded (before.stays.kept loaded its) list (list_at old.facts.texts middle.facts.texts rows lists before.stays.grown are count own list at there)
+
+  pub fragments_goes : answer ≡ true → FragmentsSoFar old new rows fragments (count + 1)
+  fragments_goes so = record {
+    stays = stays_on old middle new before.stays step;
+    hold = λ loaded its lists are.
+        holds_more (λ number (it : FragmentDef). (list : List Row) → slice_get lists number ≡ Some list
+        → AreExactly (IsAnswer (query_of it.view) (database_of loaded.facts)) list) fragments count fragment within read (before.hold loaded its lists are)
+        (λ list there. (told_at loaded its lists are list there).0 so);
+  }
+
+  pub fragments_stop : length rows ≡ length fragments → answer ≡ false → (loaded : Loaded) → IsCodedOf loaded old → (lists : List (List Row))
+      → AreCodedLists old.facts.texts rows lists
+      → IsTrue false ↔ HoldViewRows (views_of fragments) (database_of loaded.facts) (IsRowOf (held_by lists))
+  fragments_stop many apart loaded its lists are = told_false (λ hold.
+      let long = lists_long old.facts.texts rows lists are in
+      let list = thing_at lists count (omega (arith, within, long, many)) in
+      let exact = exact_from fragments lists (database_of loaded.facts) hold count fragment list.0 (item_at fragments count fragment within read) list.1 in
+      false≢true (sym apart ∙ (told_at loaded its lists are list.0 list.1).1 exact))
+
+pub fragments_end : (old new : CodedData) (rows : List CodedRows) (fragments : List FragmentDef) (count : ℕ) → length rows ≡ length fragments
+    → length fragments ≤ count → FragmentsSoFar old new rows fragments count → (loaded : Loaded) → IsCodedOf loaded old → (lists : List (List Row))
+    → AreCodedLists old.facts.texts rows lists
+    → IsTrue true ↔ HoldViewRows (views_of fragments) (database_of loaded.facts) (IsRowOf (held_by lists))
+fragments_end old new rows fragments count many past before loaded its lists are =
+    let long = lists_long old.facts.texts rows lists are in
+    told_true (hold_all fragments lists (database_of loaded.facts) (omega (arith, long, many)) count past (before.hold loaded its lists are))
+
+-- ---- both
+
+module _ (old middle : CodedData) (laws : List Rule) (rules : List Constraint) (rows : List CodedRows) (fragments : List FragmentDef)
+    (loaded : Loaded) (its : IsCodedOf loaded old) (lists : List (List Row)) (are : AreCodedLists old.facts.texts rows lists) where
+  -- the rules are passed, and the fragments hold the rows of their views
+  abbrev pub AgreeHere : Type 0
+  AgreeHere = ArePassed laws loaded.facts (rules_of rules) × HoldViewRows (views_of fragments) (database_of loaded.facts) (IsRowOf (held_by lists))
+
+  pub rules_apart : (answer : Bool) → answer ≡ false → IsTrue answer ↔ ArePassed laws loaded.facts (rules_of rules) → IsTrue false ↔ AgreeHere
+  rules_apart answer apart told = told_false (λ both. false≢true (sym apart ∙ told.1 both.0))
+
+  pub fragments_told : (answer : Bool) → answer ≡ true → IsTrue answer ↔ ArePassed laws loaded.facts (rules_of rules) → Stays old middle → (same : Bool)
+      → ((its : IsCodedOf loaded middle) → AreCodedLists middle.facts.texts rows lists
+      → IsTrue same ↔ HoldViewRows (views_of fragments) (database_of loaded.facts) (IsRowOf (held_by lists))) → IsTrue same ↔ AgreeHere
+  fragments_told answer so told step same hold = (
+    (λ its_rows. (told.0 so, here.0 its_rows)),
+    (λ both. here.1 both.1),
+  )
+    where
+      here : IsTrue same ↔ HoldViewRows (views_of fragments) (database_of loaded.facts) (IsRowOf (held_by lists))
+      here = hold (step.kept loaded its) (lists_grow old.facts.texts middle.facts.texts rows lists step.grown are)
+
+-- so facts of which these are enough agree with the rows
+pub agrees : (stand : RulesStand) (rules : List Constraint) (laws : List Rule) (fragments : List FragmentDef) (facts some : List (Fact Term))
+    (lists : List (List Row)) → AreRules (rules_of rules) → IsEnough (rules_of rules) laws (views_of fragments) facts some
+    → ArePassed laws some (rules_of rules) × HoldViewRows (views_of fragments) (database_of some) (IsRowOf (held_by lists))
+    → Agree (rules_of rules) (views_of fragments) (database_of facts) (IsRowOf (held_by lists))
+agrees stand rules laws fragments facts some lists are enough (passed, hold) = record {
+  meets = rules_met stand rules laws (views_of fragments) facts some enough are passed;
+  rows = fragments_all (rules_of rules) laws (views_of fragments) facts some enough [] lists None hold;
+}

@@ -1,0 +1,29 @@
+use Rattle.std.proofs.Common.{Contains, sym, subst}
+use Rattle.esto_coded.specs.Coded.{Coded, StandFor}
+use Rattle.esto_columns.proofs.CodingLemmas.{rows_grow}
+use Rattle.esto_columns.specs.Interned.{Grows}
+use Rattle.esto_query.specs.Making.{query_of}
+use Rattle.esto_semantics.specs.Queries.{IsAnswer, IsAnswerInto}
+use Rattle.esto_term.specs.declared.term.Term.TheVariants.{Const}
+use Rattle.esto_fill.specs.Databases.{database_of, value_of}
+use Rattle.esto_data.proofs.CodedRowLemmas.{same_rows, same_texts}
+use Rattle.esto_data.proofs.coded_audit.holds_view.Goals as goal
+
+pub returns-clause-holds : goal.returns-clause-holds
+returns-clause-holds c loaded its list codes =
+    let query = query_of c.args.view.now in
+    let facts = loaded.facts in
+    let stand = c.databases_stand_for_facts.ensures.answers facts value_of (database_of facts) query
+    (c.facts_stand_as_databases.ensures facts (c.loaded_facts_are_flat.ensures loaded)) (c.queries_are_sound.ensures c.args.view.now).query in
+    let texts = c.rows_of.new.coded.facts.texts in
+    let held = c.args.rows.now.rows in
+    let grown = subst (λ (coded : Coded). Grows coded.texts texts) c.index_joins.ensures c.rows_of.ensures.stays.grown in
+    let here = rows_grow c.args.coded.now.facts.texts texts held list grown codes in
+    let own = c.in_ok-own.own.rows in
+    let are = c.in_ok-own.ensures.rows loaded
+    (record { stand = subst (λ coded. StandFor coded facts) (sym c.index_joins.ensures) its.stand; next = its.next }) in (
+      (λ yes. same_texts texts own (IsAnswerInto Const query (Contains facts)) (IsAnswer query (database_of facts)) are stand.there stand.back held list here
+          (c.in_ok-same.ensures.0 yes)),
+      (λ exact. c.in_ok-same.ensures.1 (same_rows texts own (IsAnswerInto Const query (Contains facts)) (IsAnswer query (database_of facts)) are stand.there
+          stand.back c.in_ok-own.ensures.telling.distinct held list here exact)),
+    )

@@ -1,0 +1,18 @@
+use Rattle.std.proofs.Common.{◌∙◌, Some, ap, refl, slice_get, sym}
+use Rattle.esto_stores.specs.Keys.{key_rows}
+use Rattle.esto_data.proofs.CodedLoadLemmas.{coded_put, keys_place}
+use Rattle.esto_data.proofs.coded_load.put_key_rows.Goals as goal
+
+pub put_coded-requires : goal.put_coded-requires
+put_coded-requires c =
+    ap (λ those. slice_get those c.args.dataset.now.base) c.code_keys.ensures.arities
+    ∙ keys_place c.args.dataset.now c.args.coded.now c.requires.relations c.requires.model ∙ ap Some (sym c.in_ok-rows.ensures.rows.1)
+
+pub returns : goal.returns
+returns c = (
+  c.in_ok-rows.ensures.rows.0,
+  coded_put c.args.dataset.now.base (key_rows c.args.bytes.now) c.in_ok-rows.rows.rows c.args.coded.now
+      c.code_keys.new.self c.put_coded.new.self c.code_keys.ensures.facts c.code_keys.ensures.arities c.in_ok-rows.ensures.rows.2
+      c.in_ok-put_coded.ensures.facts c.in_ok-put_coded.ensures.arities,
+  refl,
+)

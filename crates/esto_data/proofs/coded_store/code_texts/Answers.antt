@@ -1,0 +1,11 @@
+use Rattle.std.proofs.Common.{List, ◌++◌, ◌∷◌, [], sym, subst}
+use Rattle.esto_columns.specs.CodedRows.{CodedRows}
+use Rattle.esto_data.specs.Coding.{AreCodedLists}
+use Rattle.esto_data.proofs.CodedViewLemmas.{lists_more}
+use Rattle.esto_data.proofs.coded_store.code_texts.Goals as goal
+
+pub returns-clause-rows : goal.returns-clause-rows
+returns-clause-rows c lists before =
+    subst (λ (those : List CodedRows). AreCodedLists c.code_rows.new.self.texts those (lists ++ c.args.texts ∷ [])) (sym c.in_ok-push.ensures.ok)
+    (lists_more c.args.coded.now.facts.texts c.code_rows.new.self.texts c.args.rows.now c.in_ok-own.own lists c.args.texts c.code_rows.ensures.grown
+    c.in_ok-own.ensures.rows.1 before)

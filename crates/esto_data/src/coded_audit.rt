@@ -1,0 +1,152 @@
+//! Whether facts that rows of codes stand for and the rows of fragments agree.
+ghost use Rattle.std.specs.Prelude.{◌≡◌, ◌↔◌, List, IsTrue, true, length, IfOk};
+ghost use Rattle.esto_columns.specs.Interned.{AreCodedRows, Grows};
+ghost use Rattle.esto_constraint.specs.Constraints.{rule_of, rules_of};
+ghost use Rattle.esto_query.specs.Making.{query_of};
+ghost use Rattle.esto_semantics.specs.Queries.{IsAnswer};
+ghost use Rattle.esto_semantics.specs.declared.fact.Fact.{Fact};
+ghost use Rattle.esto_steps.specs.Rows.{IsRowOf, held_by};
+ghost use Rattle.esto_stores.specs.Rows.{Row};
+ghost use Rattle.esto_term.specs.declared.term.Term.{Term};
+ghost use Rattle.esto_views.specs.Fragments.{views_of};
+ghost use Rattle.esto_data.specs.CodedParts.{Stays};
+ghost use Rattle.esto_data.specs.Coding.{AreCodedLists, IsCoded, IsCodedOf};
+ghost use Rattle.esto_fill.specs.Databases.{database_of};
+ghost use Rattle.esto_fill.specs.Differences.{Agree, HoldViewRows};
+ghost use Rattle.esto_fill.specs.Judging.{ArePassed, IsPassed};
+ghost use Rattle.esto_fill.specs.Texts.{AreExactly};
+ghost use Rattle.esto_fill.specs.Trials.{IsEnoughFor};
+ghost use Rattle.esto_fill.specs.declared.loaded.Loaded.{Loaded};
+
+use crate::coded_answering::rows_of;
+use crate::coded_data::CodedData;
+use esto_coded::hold_same;
+use esto_columns::Rows;
+use esto_constraint::{Constraint, Rules, rules_are_sound};
+use esto_fill::{facts_stand_as_databases, is_law, loaded_facts_are_flat};
+use esto_mapping::Catalogue;
+use esto_query::{Query, queries_are_sound};
+use esto_semantics::databases_stand_for_facts;
+use esto_term::{List, OutOfMemory};
+use esto_views::FragmentDef;
+use std::alloc::Global;
+
+/// The rows of fragments as rows of codes, a list for each, in order.
+pub type CodedRowsList = List<Rows>;
+
+// Whether the rule is one of the laws, or is met.
+fn is_passed(
+    alloc: Global,
+    rule: &Constraint,
+    laws: &[Constraint],
+    coded: &mut CodedData,
+) -> Result<bool, OutOfMemory>
+    ensures passed { IfOk result (λ it. (loaded : Loaded) → IsCodedOf loaded coded.old
+        → IsTrue it ↔ IsPassed (rules_of laws.now) loaded.facts (rule_of rule.now)) }
+    ensures stays { Stays coded.old coded.new }
+{
+    if is_law(rule, laws) {
+        return Ok(true);
+    }
+    let met = coded.facts.meets(alloc, rule)?;
+    Ok(met)
+}
+
+// Whether each of the rules is one of the laws, or is met.
+fn are_passed(
+    alloc: Global,
+    rules: &[Constraint],
+    laws: &[Constraint],
+    coded: &mut CodedData,
+) -> Result<bool, OutOfMemory>
+    ensures passed { IfOk result (λ it. (loaded : Loaded) → IsCodedOf loaded coded.old
+        → IsTrue it ↔ ArePassed (rules_of laws.now) loaded.facts (rules_of rules.now)) }
+    ensures stays { Stays coded.old coded.new }
+{
+    'rules: for rule in rules {
+        if !is_passed(alloc, rule, laws, coded)? {
+            return Ok(false);
+        }
+    }
+    Ok(true)
+}
+
+// Whether the rows are, as a set, those of the view. Indexes are made before for the joins of its body.
+fn holds_view(
+    alloc: Global,
+    view: &Query,
+    rows: &Rows,
+    coded: &mut CodedData,
+) -> Result<bool, OutOfMemory>
+    ensures holds { IfOk result (λ it. (loaded : Loaded) → IsCodedOf loaded coded.old
+        → (list : List Row) → AreCodedRows coded.old.facts.texts rows.now.rows list
+        → IsTrue it
+        ↔ AreExactly (IsAnswer (query_of view.now) (database_of loaded.facts)) list) }
+    ensures stays { Stays coded.old coded.new }
+{
+    databases_stand_for_facts();
+    facts_stand_as_databases();
+    loaded_facts_are_flat();
+    queries_are_sound();
+    coded.facts.index_joins(alloc, view.body.items())?;
+    let own = rows_of(alloc, view, coded)?;
+    let same = hold_same(alloc, &own, rows)?;
+    Ok(same)
+}
+
+// Whether the rows of each fragment are, as a set, those of its view.
+fn hold_views(
+    alloc: Global,
+    fragments: &[FragmentDef],
+    rows: &CodedRowsList,
+    coded: &mut CodedData,
+) -> Result<bool, OutOfMemory>
+    requires { length rows.now ≡ length fragments.now }
+    ensures holds { IfOk result (λ it. (loaded : Loaded) → IsCodedOf loaded coded.old
+        → (lists : List (List Row)) → AreCodedLists coded.old.facts.texts rows.now lists
+        → IsTrue it ↔ HoldViewRows (views_of fragments.now) (database_of loaded.facts)
+        (IsRowOf (held_by lists))) }
+    ensures stays { Stays coded.old coded.new }
+{
+    'fragments: for (number, fragment) in fragments.iter().enumerate() {
+        if !holds_view(alloc, &fragment.view, rows.item(number), coded)? {
+            return Ok(false);
+        }
+    }
+    Ok(true)
+}
+
+/// Whether the facts that the rows of codes stand for meet the rules of the catalogue that are none of the laws, and
+/// the rows of each fragment are, as a set, those of its view over them. The laws are not tried. So where facts meet
+/// the laws, and the rows of codes stand for enough of them, they agree with the rows of the fragments.
+pub fn agree_coded(
+    alloc: Global,
+    catalogue: &Catalogue,
+    laws: &Rules,
+    coded: &mut CodedData,
+    rows: &CodedRowsList,
+) -> Result<bool, OutOfMemory>
+    requires many { length rows.now ≡ length catalogue.now.fragments }
+    requires coded { IsCoded coded.old }
+    ensures exact { IfOk result (λ it. (loaded : Loaded) → IsCodedOf loaded coded.old
+        → (lists : List (List Row)) → AreCodedLists coded.old.facts.texts rows.now lists
+        → IsTrue it
+        ↔ (ArePassed (rules_of laws.now) loaded.facts (rules_of catalogue.now.rules)
+        × HoldViewRows (views_of catalogue.now.fragments) (database_of loaded.facts)
+        (IsRowOf (held_by lists)))) }
+    ensures agree { IfOk result (λ it. (it ≡ true) → (loaded : Loaded) → IsCodedOf loaded coded.old
+        → (facts : List (Fact Term))
+        → IsEnoughFor catalogue.now (rules_of laws.now) facts loaded.facts
+        → (lists : List (List Row)) → AreCodedLists coded.old.facts.texts rows.now lists
+        → Agree (rules_of catalogue.now.rules) (views_of catalogue.now.fragments)
+        (database_of facts) (IsRowOf (held_by lists))) }
+    ensures kept { (loaded : Loaded) → IsCodedOf loaded coded.old → IsCodedOf loaded coded.new }
+    ensures grown { Grows coded.old.facts.texts coded.new.facts.texts }
+{
+    databases_stand_for_facts();
+    rules_are_sound();
+    if !are_passed(alloc, catalogue.rules.items(), laws.items(), coded)? {
+        return Ok(false);
+    }
+    hold_views(alloc, catalogue.fragments.items(), rows, coded)
+}

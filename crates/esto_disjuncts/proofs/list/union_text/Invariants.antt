@@ -1,5 +1,0 @@
-use Rattle.esto_disjuncts.proofs.TextLemmas.{GoesOn}
-use Rattle.esto_disjuncts.proofs.list.union_text.Given as goal
-
-abbrev pub invariant-members : goal.invariant-members
-invariant-members l = GoesOn l.catalogue l.members l.place l.text

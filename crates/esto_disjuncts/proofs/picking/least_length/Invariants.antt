@@ -1,6 +1,0 @@
-use Rattle.std.proofs.Common.{take}
-use Rattle.esto_disjuncts.specs.Picking.{IsLeast}
-use Rattle.esto_disjuncts.proofs.picking.least_length.Given as goal
-
-abbrev pub invariant-members : goal.invariant-members
-invariant-members l = IsLeast (take l.member-index l.members) l.least

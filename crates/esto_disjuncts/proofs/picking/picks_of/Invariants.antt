@@ -1,6 +1,0 @@
-use Rattle.std.proofs.Common.{take}
-use Rattle.esto_disjuncts.specs.Picking.{ArePicksOf}
-use Rattle.esto_disjuncts.proofs.picking.picks_of.Given as goal
-
-abbrev pub invariant-members : goal.invariant-members
-invariant-members l = ArePicksOf l.number (take l.member-index l.members) l.picks

@@ -1,6 +1,0 @@
-use Rattle.esto_constraint.specs.Constraints.{rules_of}
-use Rattle.esto_fill.proofs.CodedAuditLemmas.{RulesSoFar}
-use Rattle.esto_fill.proofs.coded_audit.are_passed.Given as goal
-
-abbrev pub invariant-rules : goal.invariant-rules
-invariant-rules l = RulesSoFar l.initial.coded l.coded (rules_of l.laws) l.rules l.rule-index

@@ -1,5 +1,0 @@
-use Rattle.esto_fill.proofs.CodedAuditLemmas.{FragmentsSoFar}
-use Rattle.esto_fill.proofs.coded_audit.hold_views.Given as goal
-
-abbrev pub invariant-fragments : goal.invariant-fragments
-invariant-fragments l = FragmentsSoFar l.initial.coded l.coded l.rows l.fragments l.number

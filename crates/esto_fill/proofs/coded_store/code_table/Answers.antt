@@ -1,9 +1,0 @@
-use Rattle.esto_stores.specs.Table.{table_fault, table_rows}
-use Rattle.esto_fill.proofs.CodedViewLemmas.{file_added}
-use Rattle.esto_fill.proofs.coded_store.code_table.Goals as goal
-
-pub returns-clause-rows : goal.returns-clause-rows
-returns-clause-rows c =
-    file_added (table_rows c.args.columns.now c.args.bytes.now) (table_fault c.args.columns.now c.args.bytes.now) c.args.coded.now.facts.texts
-    c.code_table.new.self.texts c.args.rows.now c.push.new.self c.in_ok-own.own c.in_ok-own.ensures.rows.0 c.code_table.ensures.grown
-    c.in_ok-own.ensures.rows.2 c.in_ok-push.ensures.ok

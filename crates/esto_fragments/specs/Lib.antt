@@ -1,4 +1,0 @@
-pub mod Fragments
-pub mod Readable
-pub mod Alike
-pub mod Texts

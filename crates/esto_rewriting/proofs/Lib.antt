@@ -1,0 +1,29 @@
+pub mod OneListLemmas
+pub mod PlanMovedLemmas
+pub mod ChoiceLemmas
+pub mod PlanAlikeLemmas
+pub mod PrintedLemmas
+mod Steps
+mod NamingLemmas
+mod JudgeLemmas
+mod AskedLemmas
+mod VerifyAlikeLemmas
+mod VerdictLemmas
+mod ExplainLemmas
+mod StatusLemmas
+mod VerifiedLemmas
+mod ExplainedLemmas
+pub mod CertifiedLemmas
+pub mod TextLemmas
+pub mod ZipLemmas
+pub mod OneLemmas
+pub mod UnionMovedLemmas
+pub mod TellLemmas
+pub mod UnionExactLemmas
+pub mod PickingLemmas
+pub mod RunLemmas
+pub mod RunAskedLemmas
+pub mod AnswerLemmas
+pub mod RunMovedLemmas
+pub mod RunOneLemmas
+pub mod RunExactLemmas

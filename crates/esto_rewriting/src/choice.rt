@@ -1,0 +1,23 @@
+//! The choice of an item of a list.
+ghost use Rattle.esto_opening.specs.Answers.{Answers};
+ghost use Rattle.esto_rewriting.specs.Planning.{chooses};
+
+use esto_list::Listing;
+use esto_opening::Status;
+
+/// The place of the item of the list that is chosen: the pick, or that of the number, counted from 1.
+pub fn choose(listing: &Listing, number: Option<u64>) -> Result<usize, Status>
+    ensures { Answers (chooses listing.now number) ⊥ result }
+{
+    let Some(pick) = listing.pick() else {
+        return Err(Status::NoRewriting);
+    };
+    let Some(number) = number else {
+        return Ok(pick);
+    };
+    let listed = listing.len() as u64;
+    if number > listed {
+        return Err(Status::NoSuchNumber(number, listed));
+    }
+    Ok(number.saturating_sub(1) as usize)
+}

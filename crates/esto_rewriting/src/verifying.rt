@@ -1,0 +1,168 @@
+//! The command `verify`.
+ghost use Rattle.std.specs.Prelude.{◌≡◌, ◌⊎◌, ◌↔◌, ◌+◌, ◌≤◌, ℕ, length};
+ghost use Rattle.esto_ports.specs.Faults.{Rises};
+ghost use Rattle.esto_term.specs.Sets.{Has};
+ghost use Rattle.esto_opening.specs.Answers.{Answers};
+ghost use Rattle.esto_opening.specs.Asked.{AsksIn};
+ghost use Rattle.esto_rewriting.specs.Listing.{IsPlanned};
+ghost use Rattle.esto_rewriting.specs.Verify.{judges_certificate, names_set, verifies_query, verifies_read, verifies_set, verify_course};
+
+use crate::planned_laws::planned_plans_have_their_form;
+use crate::planning::plan_of;
+use esto_bits::RowBits;
+use esto_cert::{CertError, check_certificate};
+use esto_mapping::Catalogue;
+use esto_opening::{DATA_LIMIT, Reply, Status, fetch, open_catalogue, open_query};
+use esto_ports::Shelf;
+use esto_query::Query;
+use esto_term::{Bytes, Text};
+use esto_views::Plan;
+use std::alloc::Global;
+
+// Puts the atom of the number, counted from 1, into the set. No atom has the number 0.
+fn put_atom(set: &mut RowBits, number: u64)
+    requires { number ≤ length set.old }
+    ensures count { length set.new ≡ length set.old }
+    ensures has { (atom : ℕ) → Has set.new atom ↔ ((number ≡ atom + 1) ⊎ Has set.old atom) }
+{
+    if number > 0 {
+        set.insert((number - 1) as usize);
+    }
+}
+
+// The set of the plan's atoms of these numbers, or the status of the first number that no atom has since it is too great.
+fn named_set(alloc: Global, numbers: &[u64], plan: &Plan) -> Result<RowBits, Status>
+    ensures { Answers (names_set plan.now numbers.now) ⊥ result }
+{
+    let count = plan.atoms.len() as u64;
+    let mut set = RowBits::new(alloc, plan.atoms.len())?;
+    'numbers: for number in numbers {
+        if *number > count {
+            return Err(Status::NoSuchNumber(*number, count));
+        }
+        put_atom(&mut set, *number);
+    }
+    Ok(set)
+}
+
+// What the command prints where the bytes are a certificate for the set that is accepted, or the status of the line at
+// which they are rejected.
+fn judged(
+    alloc: Global,
+    bytes: &Bytes,
+    set: &RowBits,
+    plan: &Plan,
+    query: &Query,
+    catalogue: &Catalogue,
+) -> Result<Bytes, Status>
+    requires planned { IsPlanned catalogue.now query.now plan.now }
+    requires count { length set.now ≡ length plan.now.atoms }
+    ensures { Answers
+        (judges_certificate catalogue.now query.now plan.now set.now bytes.now) ⊥ result }
+{
+    planned_plans_have_their_form();
+    let fragments = &catalogue.fragments;
+    let rules = &catalogue.rules;
+    match check_certificate(alloc, bytes.bytes(), set, plan, query, fragments, rules) {
+        Ok(()) => {
+            let text = Bytes::from_slice(alloc, b"accepted\n")?;
+            Ok(text)
+        }
+        Err(CertError::Rejected(line)) => Err(Status::Rejected(line)),
+        Err(CertError::OutOfMemory) => Err(Status::OutOfMemory),
+    }
+}
+
+// Fetches the certificate for a set of the plan's atoms, and judges it.
+#[tactic(auto, using(crate::proofs::Steps::steps, crate::proofs::Steps::asked_steps))]
+fn verify_set<S: Shelf>(
+    alloc: Global,
+    shelf: &mut S,
+    set: &RowBits,
+    plan: &Plan,
+    query: &Query,
+    catalogue: &Catalogue,
+    file: &Text,
+) -> Result<Bytes, Status>
+    requires planned { IsPlanned catalogue.now query.now plan.now }
+    requires count { length set.now ≡ length plan.now.atoms }
+    ensures answer { Answers (verifies_set (S.files shelf.old) catalogue.now query.now plan.now
+        file.now set.now) (Rises S.faults shelf.old shelf.new) result }
+    ensures asked { AsksIn (S.asked shelf.old) (S.asked shelf.new) (verifies_set (S.files shelf.old)
+        catalogue.now query.now plan.now file.now set.now) result }
+    ensures files { S.files shelf.new ≡ S.files shelf.old }
+    ensures later { S.faults shelf.old ≤ S.faults shelf.new }
+{
+    let bytes = fetch(alloc, shelf, file, DATA_LIMIT)?;
+    let text = judged(alloc, &bytes, set, plan, query, catalogue)?;
+    Ok(text)
+}
+
+// Makes the query's printed plan and the set of its atoms of these numbers, and verifies the certificate for the set.
+#[tactic(auto, using(crate::proofs::Steps::run_steps, crate::proofs::Steps::asked_steps))]
+fn verify_query<S: Shelf>(
+    alloc: Global,
+    shelf: &mut S,
+    query: &Query,
+    catalogue: &Catalogue,
+    numbers: &[u64],
+    file: &Text,
+) -> Result<Bytes, Status>
+    ensures answer { Answers (verifies_query (S.files shelf.old) numbers.now file.now
+        catalogue.now query.now) (Rises S.faults shelf.old shelf.new) result }
+    ensures asked { AsksIn (S.asked shelf.old) (S.asked shelf.new) (verifies_query
+        (S.files shelf.old) numbers.now file.now catalogue.now query.now) result }
+    ensures files { S.files shelf.new ≡ S.files shelf.old }
+    ensures later { S.faults shelf.old ≤ S.faults shelf.new }
+{
+    let plan = plan_of(alloc, query, catalogue)?;
+    let set = named_set(alloc, numbers, &plan)?;
+    let text = verify_set(alloc, shelf, &set, &plan, query, catalogue, file)?;
+    Ok(text)
+}
+
+// Fetches and reads the query, and verifies the certificate for the set of its plan's atoms of these numbers.
+#[tactic(auto, using(crate::proofs::Steps::steps, crate::proofs::Steps::asked_steps))]
+fn verify_read<S: Shelf>(
+    alloc: Global,
+    shelf: &mut S,
+    catalogue: &Catalogue,
+    query: &Text,
+    numbers: &[u64],
+    file: &Text,
+) -> Result<Reply, Status>
+    ensures answer { Answers
+        (verifies_read (S.files shelf.old) query.now numbers.now file.now catalogue.now)
+        (Rises S.faults shelf.old shelf.new) result }
+    ensures asked { AsksIn (S.asked shelf.old) (S.asked shelf.new)
+        (verifies_read (S.files shelf.old) query.now numbers.now file.now catalogue.now) result }
+    ensures files { S.files shelf.new ≡ S.files shelf.old }
+    ensures later { S.faults shelf.old ≤ S.faults shelf.new }
+{
+    let query = open_query(alloc, shelf, query, catalogue)?;
+    let text = verify_query(alloc, shelf, &query, catalogue, numbers, file)?;
+    Ok(Reply::Done(text))
+}
+
+/// Fetches and reads the catalogue, then the query, makes the query's printed plan and the set of its atoms of these
+/// numbers, counted from 1, and then fetches the certificate and checks it for the set, which need not be listed. It says
+/// that the certificate is accepted, or refuses it with the first line that is not so.
+#[tactic(auto, using(crate::proofs::Steps::steps, crate::proofs::Steps::asked_steps))]
+pub fn verify<S: Shelf>(
+    alloc: Global,
+    shelf: &mut S,
+    catalogue: &Text,
+    query: &Text,
+    numbers: &[u64],
+    file: &Text,
+) -> Result<Reply, Status>
+    ensures answer { Answers (verify_course (S.files shelf.old) catalogue.now query.now
+        numbers.now file.now) (Rises S.faults shelf.old shelf.new) result }
+    ensures asked { AsksIn (S.asked shelf.old) (S.asked shelf.new) (verify_course
+        (S.files shelf.old) catalogue.now query.now numbers.now file.now) result }
+    ensures files { S.files shelf.new ≡ S.files shelf.old }
+    ensures later { S.faults shelf.old ≤ S.faults shelf.new }
+{
+    let catalogue = open_catalogue(alloc, shelf, catalogue)?;
+    verify_read(alloc, shelf, &catalogue, query, numbers, file)
+}
