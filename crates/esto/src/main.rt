@@ -1,8 +1,8 @@
 //! The program `esto`: a polystore mediator.
 #![tactic(auto)]
 
-use esto_opening::Status;
 use esto_ports::{FolderShelf, OutSink, Shelf, Sink};
+use esto_status::Status;
 use esto_term::{List, OutOfMemory, Text, TextError};
 use esto_top::mediate;
 use std::alloc::Global;

@@ -3,3 +3,5 @@ pub mod RunLemmas
 pub mod RoundLemmas
 pub mod NeedLemmas
 pub mod SupplyLemmas
+pub mod CompletionLemmas
+pub mod CompleteLemmas

@@ -1,19 +1,18 @@
 -- The candidate of a set, by what the plan's expansion has for the set.
-use Rattle.std.proofs.Common.{◌≡◌, ◌≢◌, ◌↔◌, inl, inr, ℕ, ◌<◌, ◌≤◌, ◌+◌, Bool, true, false, cond, List, [], ◌∷◌, ◌++◌, length, drop, get_or, slice_index_or}
+use Rattle.std.proofs.Common.{◌≡◌, ◌≢◌, ◌↔◌, ℕ, ◌<◌, ◌≤◌, ◌+◌, Bool, true, false, cond, List, [], ◌∷◌, ◌++◌, length, drop, get_or, slice_index_or}
 use Rattle.std.proofs.Common.{Contains, refl, sym, ap, subst, ◌∙◌, arith}
 use Rattle.std.specs.Bool.{⊤}
-use Rattle.std.proofs.lemmas.Bool.{false_from_ne_true, false≢true}
+use Rattle.std.proofs.lemmas.Bool.{false_from_ne_true}
 use Rattle.std.proofs.lemmas.List.{append-nil, append_assoc, drop_all, length-map}
 use Rattle.either.specs.Either.{MatchEither}
 use Rattle.either.specs.declared.Either.{Either}
 use Rattle.either.specs.declared.Either.TheVariants.{Left, Right}
 use Rattle.esto_term.specs.declared.term.Term.{Term}
-use Rattle.esto_term.proofs.ListLemmas.{Contains-at, Contains-cases, Contains-head, Contains-map, Contains-nil, Contains-rest, place-from_Contains}
+use Rattle.esto_term.proofs.ListLemmas.{Contains-head, Contains-map, Contains-nil}
 use Rattle.esto_term.proofs.PlaceLemmas.{drop-item}
 use Rattle.esto_semantics.specs.Containment.{IsContained, IsSatisfiable}
 use Rattle.esto_semantics.specs.ExpansionLaws.{ExpansionAnswers, ExpansionIsContained, PartExpandsCandidate}
 use Rattle.esto_semantics.specs.Expansions.{IsExpansion, IsPartOf}
-use Rattle.esto_semantics.specs.Facts.{image}
 use Rattle.esto_semantics.specs.Instances.{IsFinished, IsUniversalFor, MapsTo}
 use Rattle.esto_semantics.specs.Listed.{candidate}
 use Rattle.esto_semantics.specs.Maps.{AreFlat}
@@ -22,14 +21,14 @@ use Rattle.esto_semantics.specs.Rules.{Rule, AreRules}
 use Rattle.esto_term.specs.Sets.{Has, numbers}
 use Rattle.esto_semantics.specs.Views.{IsFragmentAnswer}
 use Rattle.esto_semantics.specs.declared.fact.Fact.{Fact}
-use Rattle.esto_term.proofs.SetLemmas.{numbers_have, Has-within}
+use Rattle.esto_term.proofs.SetLemmas.{numbers_have}
 use Rattle.esto_chase.specs.Chased.{IsFinishedRun, RunClashes}
 use Rattle.esto_chase.specs.declared.chasing.Chased.{Chased}
 use Rattle.esto_chase_laws.specs.RunLaws.{StartsHaveTheBody}
 use Rattle.esto_chase_laws.specs.Runs.{IsStart, start_of}
 use Rattle.esto_chase_laws.specs.declared.clash.Clash.{Clash}
 use Rattle.esto_instance.specs.Instances.{state_of}
-use Rattle.esto_views.specs.Expanded.{Expands}
+use Rattle.esto_views.specs.Expanded.{Expands, facts_chosen}
 use Rattle.esto_semantics.specs.Expanded.{facts_of}
 use Rattle.esto_views.specs.Fragments.{views_of}
 use Rattle.esto_views.specs.Plans.{fact_of, plan_query}
@@ -38,9 +37,7 @@ use Rattle.esto_semantics.specs.declared.expanded.ExpandedFact.{ExpandedFact}
 use Rattle.esto_views.specs.declared.fragments.FragmentDef.{FragmentDef}
 use Rattle.esto_views.specs.declared.plan.Plan.{Plan}
 use Rattle.esto_views.proofs.FlatLemmas.{named-flat}
-use Rattle.esto_backchase.specs.Candidates as own
-
--- ---- rules, and the form of a plan
+use Rattle.esto_views.proofs.ChosenLemmas.{chosen-from, chosen-is_part}
 
 -- ---- sets with a number
 
@@ -60,82 +57,46 @@ size-some set some = by (numbers set) refl
 
 -- ---- the facts that come from atoms of a set
 
--- the fact comes from an atom of the set
-abbrev pub IsFrom : List Bool → List ExpandedFact → Fact Term → Type 0
-IsFrom set expanded fact = (part : ExpandedFact) × Contains expanded part × Has set part.atom × (part.fact ≡ fact)
-
-pub chosen-from : (set : List Bool) (expanded : List ExpandedFact) (fact : Fact Term) → Contains (own.facts_chosen set expanded) fact → IsFrom set expanded fact
-chosen-from set [] fact inside = absurd (Contains-nil fact inside)
-chosen-from set (first ∷ rest) fact inside = by (λ later. chosen-from set rest fact later) (slice_index_or set first.atom false) refl inside
-  where
-    later : IsFrom set rest fact → IsFrom set (first ∷ rest) fact
-    later (part, there, has, is) = (part, Contains-rest first rest part there, has, is)
-
-    by : (Contains (own.facts_chosen set rest) fact → IsFrom set rest fact) → (answer : Bool) → slice_index_or set first.atom false ≡ answer
-        → Contains (cond answer (first.fact ∷ own.facts_chosen set rest) (own.facts_chosen set rest)) fact → IsFrom set (first ∷ rest) fact
-    by again true told inside = elim (Contains-cases first.fact (own.facts_chosen set rest) fact inside) [
-      | inl is ↦ (first, Contains-head first rest, told, is)
-      | inr more ↦ later (again more)
-    ]
-    by again false told inside = later (again inside)
-
-pub from-chosen : (set : List Bool) (expanded : List ExpandedFact) (part : ExpandedFact) → Contains expanded part → Has set part.atom
-    → Contains (own.facts_chosen set expanded) part.fact
-from-chosen set [] part there has = absurd (Contains-nil part there)
-from-chosen set (first ∷ rest) part there has = by (λ later. from-chosen set rest part later has) (slice_index_or set first.atom false) refl
-  where
-    by : (Contains rest part → Contains (own.facts_chosen set rest) part.fact) → (answer : Bool) → slice_index_or set first.atom false ≡ answer
-        → Contains (cond answer (first.fact ∷ own.facts_chosen set rest) (own.facts_chosen set rest)) part.fact
-    by again true told = elim (Contains-cases first rest part there) [
-      | inl is ↦ subst (λ (it : ExpandedFact). Contains (first.fact ∷ own.facts_chosen set rest) it.fact) is
-          (Contains-head first.fact (own.facts_chosen set rest))
-      | inr more ↦ Contains-rest first.fact (own.facts_chosen set rest) part.fact (again more)
-    ]
-    by again false told = elim (Contains-cases first rest part there) [
-      | inl is ↦ absurd (false≢true (sym told ∙ subst (λ (it : ExpandedFact). Has set it.atom) (sym is) has))
-      | inr more ↦ again more
-    ]
-
 -- the facts that are chosen of the parts so far, and then those of the parts that are left, are all that are chosen
 module _ (set : List Bool) (expanded : List ExpandedFact) (place : ℕ) (facts : List (Fact Term))
-    (so_far : facts ++ own.facts_chosen set (drop place expanded) ≡ own.facts_chosen set expanded) where
+    (so_far : facts ++ facts_chosen set (drop place expanded) ≡ facts_chosen set expanded) where
   module _ (part : ExpandedFact) (below : place < length expanded) (is : part ≡ get_or expanded place part) where
-    at_part : facts ++ cond (slice_index_or set part.atom false) (part.fact ∷ own.facts_chosen set (drop (place + 1) expanded))
-        (own.facts_chosen set (drop (place + 1) expanded)) ≡ own.facts_chosen set expanded
+    at_part : facts ++ cond (slice_index_or set part.atom false) (part.fact ∷ facts_chosen set (drop (place + 1) expanded))
+        (facts_chosen set (drop (place + 1) expanded)) ≡ facts_chosen set expanded
     at_part =
-        subst (λ (it : List ExpandedFact). facts ++ own.facts_chosen set it ≡ own.facts_chosen set expanded) (drop-item expanded place part below is) so_far
+        subst (λ (it : List ExpandedFact). facts ++ facts_chosen set it ≡ facts_chosen set expanded) (drop-item expanded place part below is) so_far
 
     told : (answer : Bool) → slice_index_or set part.atom false ≡ answer
-        → facts ++ cond answer (part.fact ∷ own.facts_chosen set (drop (place + 1) expanded)) (own.facts_chosen set (drop (place + 1) expanded))
-        ≡ own.facts_chosen set expanded
+        → facts ++ cond answer (part.fact ∷ facts_chosen set (drop (place + 1) expanded)) (facts_chosen set (drop (place + 1) expanded))
+        ≡ facts_chosen set expanded
     told answer same =
-        subst (λ (it : Bool). facts ++ cond it (part.fact ∷ own.facts_chosen set (drop (place + 1) expanded)) (own.facts_chosen set (drop (place + 1) expanded))
-        ≡ own.facts_chosen set expanded) same at_part
+        subst (λ (it : Bool). facts ++ cond it (part.fact ∷ facts_chosen set (drop (place + 1) expanded)) (facts_chosen set (drop (place + 1) expanded))
+        ≡ facts_chosen set expanded) same at_part
 
     -- the next part is chosen
     pub chosen-taken : Has set part.atom → (next : List (Fact Term)) → next ≡ facts ++ part.fact ∷ []
-        → next ++ own.facts_chosen set (drop (place + 1) expanded) ≡ own.facts_chosen set expanded
+        → next ++ facts_chosen set (drop (place + 1) expanded) ≡ facts_chosen set expanded
     chosen-taken has next grown =
-        ap (λ (it : List (Fact Term)). it ++ own.facts_chosen set (drop (place + 1) expanded)) grown
-        ∙ append_assoc facts (part.fact ∷ []) (own.facts_chosen set (drop (place + 1) expanded)) ∙ told true has
+        ap (λ (it : List (Fact Term)). it ++ facts_chosen set (drop (place + 1) expanded)) grown
+        ∙ append_assoc facts (part.fact ∷ []) (facts_chosen set (drop (place + 1) expanded)) ∙ told true has
 
     -- it is not
-    pub chosen-passed : ¬ (Has set part.atom) → facts ++ own.facts_chosen set (drop (place + 1) expanded) ≡ own.facts_chosen set expanded
+    pub chosen-passed : ¬ (Has set part.atom) → facts ++ facts_chosen set (drop (place + 1) expanded) ≡ facts_chosen set expanded
     chosen-passed missing = told false (false_from_ne_true _ missing)
 
   -- no part is left
-  pub chosen-ends : length expanded ≤ place → facts ≡ own.facts_chosen set expanded
+  pub chosen-ends : length expanded ≤ place → facts ≡ facts_chosen set expanded
   chosen-ends past =
       sym (append-nil facts)
-      ∙ subst (λ (it : List ExpandedFact). facts ++ own.facts_chosen set it ≡ own.facts_chosen set expanded) (drop_all place expanded past) so_far
+      ∙ subst (λ (it : List ExpandedFact). facts ++ facts_chosen set it ≡ facts_chosen set expanded) (drop_all place expanded past) so_far
 
 module _ (plan : Plan) (fragments : List FragmentDef) (expanded : List ExpandedFact) (expands : Expands plan fragments expanded) (set : List Bool)
     (over : length set ≡ length plan.atoms) (begin : StartsHaveTheBody) where
   abbrev pub chosen_start : ConjunctiveQuery
-  chosen_start = start_of (record { head = plan.head; body = own.facts_chosen set expanded })
+  chosen_start = start_of (record { head = plan.head; body = facts_chosen set expanded })
 
-  pub chosen-in_start : (fact : Fact Term) → Contains chosen_start.body fact ↔ Contains (own.facts_chosen set expanded) fact
-  chosen-in_start fact = begin (record { head = plan.head; body = own.facts_chosen set expanded }) fact
+  pub chosen-in_start : (fact : Fact Term) → Contains chosen_start.body fact ↔ Contains (facts_chosen set expanded) fact
+  chosen-in_start fact = begin (record { head = plan.head; body = facts_chosen set expanded }) fact
 
   -- the start has no made term
   pub chosen-starts : AreFlat (facts_of expanded) → IsSoundPlan plan.atoms plan.head plan.names → IsStart chosen_start
@@ -152,46 +113,32 @@ module _ (plan : Plan) (fragments : List FragmentDef) (expanded : List ExpandedF
   }
 
   -- it has the part of the expansion that is the set's
-  chosen-is_part : IsPartOf expands.of set chosen_start.body
-  chosen-is_part fact = (λ inside. there ((chosen-in_start fact).0 inside), λ found. (chosen-in_start fact).1 (back found))
-    where
-      Part : Type 0
-      Part = (number : ℕ) × Has set number × ((part : Fact Term) × Contains (expands.of.view number).body part × (image (expands.of.spread number) part ≡ fact))
-
-      there : Contains (own.facts_chosen set expanded) fact → Part
-      there inside =
-          let from = chosen-from set expanded fact inside in
-          let told = (expands.exact from.0).0 from.1 in
-          (from.0.atom, from.2, (told.1.0, Contains-at (expands.of.view from.0.atom).body from.0.place told.1.0 told.1.1, told.1.2 ∙ from.3))
-
-      back : Part → Contains (own.facts_chosen set expanded) fact
-      back (number, has, (part, inside, is)) =
-          let at = place-from_Contains (expands.of.view number).body part inside in
-          let whole : ExpandedFact = record { atom = number; place = at.0; fact = fact } in
-          let small : number < length plan.atoms = omega (arith, Has-within set number has, over) in
-          from-chosen set expanded whole ((expands.exact whole).1 (small, (part, at.1, is))) has
+  start-is_part : IsPartOf expands.of set chosen_start.body
+  start-is_part fact =
+      let part = chosen-is_part plan fragments expanded expands set over fact in
+      (λ inside. part.0 ((chosen-in_start fact).0 inside), λ found. (chosen-in_start fact).1 (part.1 found))
 
   module _ (rules : List Rule) (query : ConjunctiveQuery) (expand_candidates : PartExpandsCandidate) where
     abbrev IsIn : Type 0
     IsIn = IsContained rules (IsFragmentAnswer (views_of fragments) (candidate (plan_query plan) set)) (IsAnswer query)
 
-    pub chosen-expands : IsExpansion (views_of fragments) (candidate (plan_query plan) set) chosen_start.body
-    chosen-expands =
+    start-expands : IsExpansion (views_of fragments) (candidate (plan_query plan) set) chosen_start.body
+    start-expands =
         expand_candidates (views_of fragments) (plan_query plan) (facts_of expanded) expands.of set (over ∙ sym (length-map plan.atoms fact_of))
-        chosen_start.body chosen-is_part
+        chosen_start.body start-is_part
 
     -- the candidate is contained in the query where that maps to the end of a chase
     pub contained-mapped : ExpansionIsContained → AreRules rules → (start end : ConjunctiveQuery) → start ≡ chosen_start → IsUniversalFor rules start end
         → IsFinished rules end
         → IsIn ↔ MapsTo query end
     contained-mapped decide are start end is universal finished =
-        decide rules (views_of fragments) (candidate (plan_query plan) set) chosen_start.body end query are chosen-expands
+        decide rules (views_of fragments) (candidate (plan_query plan) set) chosen_start.body end query are start-expands
         (subst (λ it. IsUniversalFor rules it end) is universal) finished
 
     -- and where the chase clashes it has no answer
     pub contained-clashed : ExpansionAnswers → (start : ConjunctiveQuery) → start ≡ chosen_start → ¬ (IsSatisfiable rules start) → IsIn
     contained-clashed answers start is none database meets row answer =
-        let own_answer = (answers (views_of fragments) (candidate (plan_query plan) set) chosen_start.body chosen-expands database row).0 answer in
+        let own_answer = (answers (views_of fragments) (candidate (plan_query plan) set) chosen_start.body start-expands database row).0 answer in
         absurd (none (subst (IsSatisfiable rules) (sym is) (database, meets, (row, own_answer))))
 
     -- the query is received at the end of the chase, or the chase clashes

@@ -1,9 +1,5 @@
 pub mod SafetyLemmas
 pub mod CandidateLemmas
 pub mod VisitLemmas
-pub mod CompletionLemmas
-pub mod CompleteLemmas
-pub mod ReadLemmas
 pub mod FoundLemmas
-pub mod TellLemmas
-pub mod EvidenceLemmas
+pub mod PartLemmas

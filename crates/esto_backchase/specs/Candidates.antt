@@ -1,5 +1,5 @@
 -- How a set of a plan's atoms is tested: its part of the plan's expansion, chased, receives the query or not.
-use Rattle.std.specs.Prelude.{◌≡◌, Bool, false, cond, List, [], ◌∷◌, length, slice_index_or}
+use Rattle.std.specs.Prelude.{◌≡◌, Bool, List, [], length}
 use Rattle.esto_mapping.specs.declared.catalogue.Catalogue.{Catalogue}
 use Rattle.esto_constraint.specs.Constraints.{rules_of}
 use Rattle.esto_query.specs.Making.{query_of}
@@ -7,19 +7,12 @@ use Rattle.esto_query.specs.declared.query.Query.{Query}
 use Rattle.esto_semantics.specs.Listed.{AnswersQuery}
 use Rattle.esto_semantics.specs.Maps.{AreFlat}
 use Rattle.esto_semantics.specs.Plans.{IsUniversalPlan}
-use Rattle.esto_semantics.specs.declared.fact.Fact.{Fact}
-use Rattle.esto_term.specs.declared.term.Term.{Term}
 use Rattle.esto_views.specs.Expanded.{Expands}
 use Rattle.esto_semantics.specs.Expanded.{facts_of}
 use Rattle.esto_views.specs.Fragments.{views_of}
 use Rattle.esto_views.specs.Plans.{plan_query}
 use Rattle.esto_semantics.specs.declared.expanded.ExpandedFact.{ExpandedFact}
 use Rattle.esto_views.specs.declared.plan.Plan.{Plan}
-
--- The facts of an expansion that come from atoms of the set, in order.
-abbrev pub facts_chosen : List Bool → List ExpandedFact → List (Fact Term)
-facts_chosen set [] = []
-facts_chosen set (first ∷ rest) = cond (slice_index_or set first.atom false) (first.fact ∷ facts_chosen set rest) (facts_chosen set rest)
 
 -- What a search is given: a plan that is universal for the query under the catalogue's rules, with as long a head, and the facts of the plan's expansion.
 pub record IsSearch (catalogue : Catalogue) (query : Query) (plan : Plan) (expanded : List ExpandedFact) : Type 0 where

@@ -7,13 +7,13 @@ ghost use Rattle.esto_semantics.specs.Queries.{ConjunctiveQuery};
 ghost use Rattle.esto_term.specs.Sets.{IsMinimal};
 ghost use Rattle.esto_constraint.specs.Constraints.{rules_of};
 ghost use Rattle.esto_query.specs.Making.{query_of};
+ghost use Rattle.esto_views.specs.Contained.{MapsOntoOne};
 ghost use Rattle.esto_views.specs.Fragments.{views_of, patterns_of};
 ghost use Rattle.esto_views.specs.Plans.{plan_query, IsPlanOver};
 ghost use Rattle.esto_backchase.specs.Candidates.{Answers};
-ghost use Rattle.esto_backchase.specs.Listing.{MapsOntoOne};
 
 use crate::candidates::Search;
-use crate::completion::executable_products;
+use esto_access::executable_products;
 use esto_bits::{Products, products_are_antichains};
 use esto_mapping::Catalogue;
 use esto_query::Query;

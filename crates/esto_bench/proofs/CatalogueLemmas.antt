@@ -8,9 +8,10 @@ use Rattle.std.proofs.lemmas.List.FromFn.{length-range_with_len}
 use Rattle.esto_constraint.specs.Graphs.{AreRanks, IsAcyclic, IsWithin}
 use Rattle.esto_constraint.specs.Relations.{IsEdge}
 use Rattle.esto_mapping.specs.Datasets.{AreColumns, IsDataset, StandFrom, words_of}
-use Rattle.esto_mapping.specs.Soundness.{AreShapes, FitView, IsShapeFor, IsSoundCatalogue}
+use Rattle.esto_mapping.specs.Soundness.{AreShapes, IsSoundCatalogue}
+use Rattle.esto_docmodel.specs.Stores.{FitView, IsShapeFor}
 use Rattle.esto_mapping.specs.declared.catalogue.TheConstants.{MAX_WEIGHT}
-use Rattle.esto_mapping.specs.declared.catalogue.Store.{Store}
+use Rattle.esto_docmodel.specs.declared.file.Store.{Store}
 use Rattle.esto_mapping.specs.declared.dataset.Dataset.{Dataset}
 use Rattle.esto_constraint.specs.Constraints.{rules_of}
 use Rattle.esto_constraint.specs.declared.rule.Constraint.{Constraint}

@@ -11,8 +11,8 @@ use Rattle.std.proofs.lemmas.List.{length-map}
 use Rattle.std.proofs.lemmas.List.Elements.{All-from_get_or, Contains-get_or}
 use Rattle.std.proofs.lemmas.Option.{slice_get_within}
 use Rattle.esto_mapping.specs.declared.catalogue.Catalogue.{Catalogue}
-use Rattle.esto_mapping.specs.declared.catalogue.Shape.TheVariants.{Table}
-use Rattle.esto_mapping.specs.declared.catalogue.Store.{Store}
+use Rattle.esto_docmodel.specs.declared.file.Shape.TheVariants.{Table}
+use Rattle.esto_docmodel.specs.declared.file.Store.{Store}
 use Rattle.esto_lines.specs.Faults.{Gives}
 use Rattle.esto_list.specs.declared.listing.Listed.{Listed}
 use Rattle.esto_steps.specs.Rows.{IsRowOf, held_by}
@@ -22,7 +22,7 @@ use Rattle.esto_ports.specs.declared.file_fault.FileFault.{FileFault}
 use Rattle.esto_run.specs.Answers.{AreRising}
 use Rattle.esto_run.specs.Laws.{AnswersAreOverFiles, FilesHoldViewRows, IsAnswerOver, RewritingsAnswerQueries}
 use Rattle.esto_run.specs.Opened.{AreOpened, AreRowsFor, Held, rows_held}
-use Rattle.esto_run.specs.Stores.{IsFileRow, IsRowIn, first_fault_in}
+use Rattle.esto_docs.specs.Stores.{IsFileRow, IsRowIn, first_fault_in}
 use Rattle.esto_semantics.specs.Listed.{candidate}
 use Rattle.esto_semantics.specs.ListedLaws.{ChosenAreNamed}
 use Rattle.esto_semantics.specs.Queries.{IsAnswer}

@@ -6,8 +6,8 @@ use Rattle.std.specs.List.{flat_map, range_with_len}
 use Rattle.esto_term.specs.declared.term.Term.{Term}
 use Rattle.esto_term.specs.declared.term.Term.TheVariants.{Plain}
 use Rattle.esto_mapping.specs.declared.catalogue.Catalogue.{Catalogue}
-use Rattle.esto_mapping.specs.declared.catalogue.Shape.TheVariants.{Table}
-use Rattle.esto_mapping.specs.declared.catalogue.Store.{Store}
+use Rattle.esto_docmodel.specs.declared.file.Shape.TheVariants.{Table}
+use Rattle.esto_docmodel.specs.declared.file.Store.{Store}
 use Rattle.esto_mapping.specs.declared.dataset.Dataset.{Dataset}
 use Rattle.esto_constraint.specs.Constraints.{rules_of}
 use Rattle.esto_docmodel.specs.declared.file.Layout.TheVariants.{Lines}

@@ -7,10 +7,10 @@ use Rattle.esto_catalog.proofs.AccessLemmas.{AreSoundPatterns, access_sound, wei
 use Rattle.esto_catalog.proofs.ShapeLemmas.{shape_fit}
 use Rattle.esto_catalog.specs.Fragments.{rows_after_view}
 use Rattle.esto_catalog.specs.Shapes.{head_columns}
-use Rattle.esto_mapping.specs.Soundness.{FitView, IsShapeFor}
+use Rattle.esto_docmodel.specs.Stores.{FitView, IsShapeFor}
 use Rattle.esto_mapping.specs.declared.catalogue.TheConstants.{MAX_WEIGHT}
-use Rattle.esto_mapping.specs.declared.catalogue.Shape.{Shape}
-use Rattle.esto_mapping.specs.declared.catalogue.Store.{Store}
+use Rattle.esto_docmodel.specs.declared.file.Shape.{Shape}
+use Rattle.esto_docmodel.specs.declared.file.Store.{Store}
 use Rattle.esto_catalog.specs.declared.fault.Place.{Place}
 
 -- the shape fits the view, the patterns are as wide as it, and the weight is in range

@@ -70,16 +70,16 @@ use Rattle.esto_catalog.specs.Rows.{IsWant, IsAny, fault_at, text_fault_at, IsLe
 use Rattle.esto_settings.specs.Settings.{document_of, setting_at}
 use Rattle.esto_catalog.specs.Whole.{number_of, top_keys, reads_toml, reads_version, reads_core, fits_section, reads_top, reads_whole}
 use Rattle.esto_mapping.specs.declared.catalogue.Catalogue.{Catalogue}
-use Rattle.esto_mapping.specs.declared.catalogue.Shape.{Shape}
-use Rattle.esto_mapping.specs.declared.catalogue.Shape.TheVariants.{Documents as FromDocuments}
-use Rattle.esto_mapping.specs.declared.catalogue.Store.{Store}
+use Rattle.esto_docmodel.specs.declared.file.Shape.{Shape}
+use Rattle.esto_docmodel.specs.declared.file.Shape.TheVariants.{Documents as FromDocuments}
+use Rattle.esto_docmodel.specs.declared.file.Store.{Store}
 use Rattle.esto_mapping.specs.declared.dataset.Dataset.{Dataset}
 use Rattle.esto_catalog.specs.declared.fault.CatalogueError.{CatalogueError}
 use Rattle.esto_catalog.specs.declared.fault.CatalogueError.TheVariants.{Fault, NotAcyclic, OutOfMemory}
-use Rattle.esto_catalog.specs.declared.fault.CatalogueKind.{CatalogueKind}
-use Rattle.esto_catalog.specs.declared.fault.CatalogueKind.TheVariants.{BadPattern, UnknownKey}
+use Rattle.esto_status.specs.declared.fault.CatalogueKind.{CatalogueKind}
+use Rattle.esto_status.specs.declared.fault.CatalogueKind.TheVariants.{BadPattern, UnknownKey}
 use Rattle.esto_catalog.specs.declared.fault.Place.{Place}
-use Rattle.esto_catalog.specs.declared.fault.Section.TheVariants as section
+use Rattle.esto_status.specs.declared.fault.Section.TheVariants as section
 use Rattle.esto_catalog.specs.declared.row.Keys.{Keys as KeySet}
 use Rattle.esto_catalog.specs.declared.row.Keys.TheVariants as keys
 use Rattle.esto_catalog.specs.declared.fragment.Fragments.{Fragments}

@@ -28,12 +28,13 @@ use Rattle.esto_term.specs.declared.term.Term.{Term}
 use Rattle.esto_text.specs.Gaps.{IsLetter}
 use Rattle.esto_text.specs.Lexemes.{IsNameText}
 use Rattle.esto_views.specs.declared.fragments.FragmentDef.{FragmentDef}
-use Rattle.esto_mapping.specs.Datasets.{begins_plain, schema_of, words_of}
+use Rattle.esto_mapping.specs.Datasets.{schema_of, words_of}
+use Rattle.esto_docmodel.specs.Stores.{begins_plain}
 use Rattle.esto_catalog.specs.Fragments.{view_row}
 use Rattle.esto_settings.specs.Settings.{setting_at}
 use Rattle.esto_catalog.specs.Shapes.{column_of, head_columns, name_at, shape_row, store_columns}
-use Rattle.esto_mapping.specs.Soundness.{FitView, IsShapeFor}
-use Rattle.esto_mapping.specs.declared.catalogue.Shape.{Shape}
+use Rattle.esto_docmodel.specs.Stores.{FitView, IsShapeFor}
+use Rattle.esto_docmodel.specs.declared.file.Shape.{Shape}
 use Rattle.esto_mapping.specs.declared.dataset.Dataset.{Dataset}
 use Rattle.esto_catalog.specs.declared.fault.Place.{Place}
 use Rattle.esto_settings.specs.declared.setting.Field.{Field}

@@ -29,12 +29,13 @@ use Rattle.esto_catalog.specs.Fragments.{adds_fragment, reads_fragment, with_fra
 use Rattle.esto_catalog.specs.Reading.{IsRankedOf, IsCycleOf, reads_fragments_and_rules}
 use Rattle.esto_catalog.specs.Rows.{IsWant, IsAny}
 use Rattle.esto_catalog.specs.Soundness.{AreSoundRules, AreSoundFragments, IsSoundFragment, IsSoundStored, IsSoundView}
-use Rattle.esto_mapping.specs.Soundness.{IsShapeFor, IsSoundCatalogue}
-use Rattle.esto_mapping.specs.declared.catalogue.Store.{Store}
+use Rattle.esto_mapping.specs.Soundness.{IsSoundCatalogue}
+use Rattle.esto_docmodel.specs.Stores.{IsShapeFor}
+use Rattle.esto_docmodel.specs.declared.file.Store.{Store}
 use Rattle.esto_mapping.specs.declared.dataset.Dataset.{Dataset}
 use Rattle.esto_catalog.specs.declared.fault.CatalogueError.{CatalogueError}
 use Rattle.esto_catalog.specs.declared.fault.Place.{Place}
-use Rattle.esto_catalog.specs.declared.fault.Section.TheVariants as section
+use Rattle.esto_status.specs.declared.fault.Section.TheVariants as section
 use Rattle.esto_catalog.specs.declared.fragment.Fragments.{Fragments}
 use Rattle.esto_catalog.specs.declared.fragment.Stored.{Stored}
 use Rattle.esto_catalog.specs.declared.walk.Ranked.{Ranked}

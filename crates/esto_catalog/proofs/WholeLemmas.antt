@@ -5,7 +5,7 @@ use Rattle.esto_catalog.proofs.RowLemmas.{demands_goes, demands_stops, refuses_s
 use Rattle.esto_catalog.specs.Rows.{IsAny, IsFault, IsWant, fault_at, top}
 use Rattle.esto_catalog.specs.Whole.{fits_section, reads_top, tables_of}
 use Rattle.esto_catalog.specs.declared.fault.CatalogueError.{CatalogueError}
-use Rattle.esto_catalog.specs.declared.fault.CatalogueKind.TheVariants.{TooMany, WrongType}
+use Rattle.esto_status.specs.declared.fault.CatalogueKind.TheVariants.{TooMany, WrongType}
 use Rattle.esto_catalog.specs.declared.whole.TheConstants.{MAX_ENTRIES}
 use Rattle.esto_settings.specs.declared.setting.Document.{Document}
 use Rattle.esto_settings.specs.declared.setting.Field.{Field}

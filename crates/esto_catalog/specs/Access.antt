@@ -9,7 +9,7 @@ use Rattle.esto_catalog.specs.Rows.{fault_at}
 use Rattle.esto_settings.specs.Settings.{setting_at}
 use Rattle.esto_mapping.specs.declared.catalogue.TheConstants.{MAX_PATTERNS, MAX_WEIGHT}
 use Rattle.esto_catalog.specs.declared.fault.CatalogueError.{CatalogueError}
-use Rattle.esto_catalog.specs.declared.fault.CatalogueKind.TheVariants.{WrongType, BadAccess, BadWeight}
+use Rattle.esto_status.specs.declared.fault.CatalogueKind.TheVariants.{WrongType, BadAccess, BadWeight}
 use Rattle.esto_catalog.specs.declared.fault.Place.{Place}
 use Rattle.esto_settings.specs.declared.setting.Field.{Field}
 use Rattle.esto_settings.specs.declared.setting.Setting.{Setting}

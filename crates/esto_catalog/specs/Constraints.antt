@@ -12,7 +12,7 @@ use Rattle.esto_settings.specs.Settings.{setting_at}
 use Rattle.esto_mapping.specs.declared.dataset.Dataset.{Dataset}
 use Rattle.esto_catalog.specs.declared.fault.CatalogueError.{CatalogueError}
 use Rattle.esto_catalog.specs.declared.fault.Place.{Place}
-use Rattle.esto_catalog.specs.declared.fault.Section.TheVariants as section
+use Rattle.esto_status.specs.declared.fault.Section.TheVariants as section
 use Rattle.esto_settings.specs.declared.setting.Field.{Field}
 use Rattle.esto_catalog.specs.declared.row.Keys.TheVariants as keys
 

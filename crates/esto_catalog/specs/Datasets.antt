@@ -10,9 +10,9 @@ use Rattle.esto_catalog.specs.Rows.{fault_at, knows_keys, needs_text, needs_text
 use Rattle.esto_settings.specs.Settings.{is_same, setting_at}
 use Rattle.esto_mapping.specs.declared.dataset.Dataset.{Dataset}
 use Rattle.esto_catalog.specs.declared.fault.CatalogueError.{CatalogueError}
-use Rattle.esto_catalog.specs.declared.fault.CatalogueKind.TheVariants.{BadName, SameName, BadModel, BadColumns}
+use Rattle.esto_status.specs.declared.fault.CatalogueKind.TheVariants.{BadName, SameName, BadModel, BadColumns}
 use Rattle.esto_catalog.specs.declared.fault.Place.{Place}
-use Rattle.esto_catalog.specs.declared.fault.Section.TheVariants as section
+use Rattle.esto_status.specs.declared.fault.Section.TheVariants as section
 use Rattle.esto_settings.specs.declared.setting.Field.{Field}
 use Rattle.esto_catalog.specs.declared.whole.TheConstants.{MAX_ENTRIES}
 use Rattle.esto_catalog.specs.declared.row.Keys.TheVariants as keys

@@ -8,8 +8,8 @@ use Rattle.esto_docmodel.specs.declared.words.DataModel.TheVariants.{Table, Docu
 use Rattle.esto_catalog.specs.Rows.{fault_at, needs_text}
 use Rattle.esto_settings.specs.Settings.{has_key, setting_at}
 use Rattle.esto_catalog.specs.declared.fault.CatalogueError.{CatalogueError}
-use Rattle.esto_catalog.specs.declared.fault.CatalogueKind.{CatalogueKind}
-use Rattle.esto_catalog.specs.declared.fault.CatalogueKind.TheVariants.{BadLayout, Unfit, WrongType}
+use Rattle.esto_status.specs.declared.fault.CatalogueKind.{CatalogueKind}
+use Rattle.esto_status.specs.declared.fault.CatalogueKind.TheVariants.{BadLayout, Unfit, WrongType}
 use Rattle.esto_catalog.specs.declared.fault.Place.{Place}
 use Rattle.esto_settings.specs.declared.setting.Field.{Field}
 use Rattle.esto_settings.specs.declared.setting.Setting.{Setting}

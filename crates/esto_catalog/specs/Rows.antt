@@ -9,10 +9,10 @@ use Rattle.esto_text.specs.declared.fault.TextFault.{TextFault}
 use Rattle.esto_settings.specs.Settings.{is_same}
 use Rattle.esto_catalog.specs.declared.fault.CatalogueError.{CatalogueError}
 use Rattle.esto_catalog.specs.declared.fault.CatalogueError.TheVariants.{Fault, OutOfMemory}
-use Rattle.esto_catalog.specs.declared.fault.CatalogueKind.{CatalogueKind}
-use Rattle.esto_catalog.specs.declared.fault.CatalogueKind.TheVariants.{UnknownKey, WrongType, Missing, BadText}
+use Rattle.esto_status.specs.declared.fault.CatalogueKind.{CatalogueKind}
+use Rattle.esto_status.specs.declared.fault.CatalogueKind.TheVariants.{UnknownKey, WrongType, Missing, BadText}
 use Rattle.esto_catalog.specs.declared.fault.Place.{Place}
-use Rattle.esto_catalog.specs.declared.fault.Section.TheVariants.{Top as AtTop}
+use Rattle.esto_status.specs.declared.fault.Section.TheVariants.{Top as AtTop}
 use Rattle.esto_catalog.specs.declared.row.Keys.{Keys}
 use Rattle.esto_catalog.specs.declared.row.Keys.TheVariants.{Top, TopOfTwo, Dataset, Fragment, Constraint}
 use Rattle.esto_settings.specs.declared.setting.Field.{Field}

@@ -17,10 +17,10 @@ use Rattle.esto_mapping.specs.Datasets.{AreColumns}
 use Rattle.esto_catalog.specs.Models.{layout_row, unfit_row}
 use Rattle.esto_catalog.specs.Rows.{fault_at, text_fault_at, needs_text}
 use Rattle.esto_settings.specs.Settings.{setting_at}
-use Rattle.esto_mapping.specs.declared.catalogue.Shape.{Shape}
-use Rattle.esto_mapping.specs.declared.catalogue.Shape.TheVariants.{Table as FromTable, Documents as FromDocuments, Keys as FromKeys}
+use Rattle.esto_docmodel.specs.declared.file.Shape.{Shape}
+use Rattle.esto_docmodel.specs.declared.file.Shape.TheVariants.{Table as FromTable, Documents as FromDocuments, Keys as FromKeys}
 use Rattle.esto_catalog.specs.declared.fault.CatalogueError.{CatalogueError}
-use Rattle.esto_catalog.specs.declared.fault.CatalogueKind.TheVariants.{BadColumns, BadPattern, WrongType}
+use Rattle.esto_status.specs.declared.fault.CatalogueKind.TheVariants.{BadColumns, BadPattern, WrongType}
 use Rattle.esto_catalog.specs.declared.fault.Place.{Place}
 use Rattle.esto_settings.specs.declared.setting.Field.{Field}
 use Rattle.esto_settings.specs.declared.setting.Setting.{Setting}

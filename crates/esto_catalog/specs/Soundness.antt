@@ -12,7 +12,8 @@ use Rattle.esto_read.specs.declared.read.NamedQuery.{NamedQuery}
 use Rattle.esto_semantics.specs.WellFormed.{IsQueryOver, IsRuleOver}
 use Rattle.esto_views.specs.Fragments.{IsFragment}
 use Rattle.esto_views.specs.declared.fragments.FragmentDef.{FragmentDef}
-use Rattle.esto_mapping.specs.Soundness.{IsShapeFor, AreShapes}
+use Rattle.esto_mapping.specs.Soundness.{AreShapes}
+use Rattle.esto_docmodel.specs.Stores.{IsShapeFor}
 
 -- A view is over the schema, and its head is of distinct variables.
 abbrev pub IsSoundView : List ℕ → NamedQuery → Type 0

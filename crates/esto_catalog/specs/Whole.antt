@@ -7,7 +7,7 @@ use Rattle.esto_text.specs.declared.version.Version.TheVariants.{One, Two}
 use Rattle.esto_catalog.specs.Rows.{fault_at, top, knows_keys}
 use Rattle.esto_settings.specs.Settings.{IsDocument, HasNoTable, setting_at}
 use Rattle.esto_catalog.specs.declared.fault.CatalogueError.{CatalogueError}
-use Rattle.esto_catalog.specs.declared.fault.CatalogueKind.TheVariants.{Toml, Version as NoVersion, WrongType, TooMany}
+use Rattle.esto_status.specs.declared.fault.CatalogueKind.TheVariants.{Toml, Version as NoVersion, WrongType, TooMany}
 use Rattle.esto_settings.specs.declared.setting.Document.{Document}
 use Rattle.esto_settings.specs.declared.setting.Field.{Field}
 use Rattle.esto_settings.specs.declared.setting.Setting.{Setting}

@@ -4,11 +4,12 @@ ghost use Rattle.esto_catalog.specs.Access.{letter_of, IsPattern, ArePatterns, I
 ghost use Rattle.esto_catalog.specs.Access.{reads_weight, weight_row};
 ghost use Rattle.esto_catalog.specs.Rows.{Walks};
 
-use crate::fault::{CatalogueError, CatalogueKind, Place, fault};
+use crate::fault::{CatalogueError, Place, fault};
 use esto_docmodel::DataModel;
 use esto_mapping::{MAX_PATTERNS, MAX_WEIGHT, are_distinct};
 use esto_query::Query;
 use esto_settings::{Field, Setting, setting_at};
+use esto_status::CatalogueKind;
 use esto_term::{List, OutOfMemory, Text, Values};
 use esto_views::{Access, AccessList};
 use std::alloc::Global;

@@ -9,12 +9,13 @@ ghost use Rattle.esto_catalog.specs.Rows.{Walks};
 ghost use Rattle.esto_catalog.specs.Soundness.{AreSoundRules};
 ghost use Rattle.esto_catalog.specs.Scope.{IsScope};
 
-use crate::fault::{CatalogueError, CatalogueKind, Place, Section, fault};
+use crate::fault::{CatalogueError, Place, fault};
 use crate::row::{Keys, knows_keys, needs_text};
 use crate::scope::Scope;
 use esto_constraint::{Constraint, Rules};
 use esto_read::{read_constraint, read_constraint_2};
 use esto_settings::{Field, KeyList};
+use esto_status::{CatalogueKind, Section};
 use esto_term::{List, Text};
 use esto_text::{ReadError, Version};
 use std::alloc::Global;

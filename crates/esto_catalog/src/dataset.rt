@@ -7,12 +7,13 @@ ghost use Rattle.esto_catalog.specs.Datasets.{layout_and_file_rows, rows_after_n
 ghost use Rattle.esto_catalog.specs.Rows.{IsAny, IsWant, Walks};
 ghost use Rattle.esto_catalog.specs.declared.whole.TheConstants.{MAX_ENTRIES};
 
-use crate::fault::{CatalogueError, CatalogueKind, Place, Section, demand};
+use crate::fault::{CatalogueError, Place, demand};
 use crate::model::{layout, needs_model, unfit};
 use crate::row::{Keys, allows_text, knows_keys, needs_text, needs_texts};
 use esto_docmodel::{DataModel, Layout};
 use esto_mapping::{Dataset, Datasets, are_columns, is_name, relation_count};
 use esto_settings::{Field, KeyList, is_same};
+use esto_status::{CatalogueKind, Section};
 use esto_term::{List, Replicate, Text, TextRow};
 use std::alloc::Global;
 

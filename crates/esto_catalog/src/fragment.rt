@@ -12,7 +12,7 @@ ghost use Rattle.esto_catalog.specs.Soundness.{IsSoundView, IsSoundStored, AreSo
 
 use crate::access::{access, weight};
 use crate::dataset::has_dataset;
-use crate::fault::{CatalogueError, CatalogueKind, Place, Section, demand, fault};
+use crate::fault::{CatalogueError, Place, demand, fault};
 use crate::model::needs_model;
 use crate::row::{Keys, knows_keys, needs_text};
 use crate::scope::Scope;
@@ -22,6 +22,7 @@ use esto_mapping::{Shape, Store, Stores};
 use esto_query::Query;
 use esto_read::{NamedQuery, read_view, views_name_their_columns};
 use esto_settings::{Field, KeyList, is_same};
+use esto_status::{CatalogueKind, Section};
 use esto_term::{List, Replicate, Text};
 use esto_text::ReadError;
 use esto_views::{AccessList, FragmentDef, FragmentDefs};

@@ -16,10 +16,11 @@ mod walk;
 mod whole;
 
 pub use esto_mapping::{
-    Catalogue, Dataset, Datasets, MAX_PATTERNS, MAX_WEIGHT, Shape, Store, Stores, catalogues_are_sound,
-    catalogues_rank_their_rules, relation_count,
+    Catalogue, Dataset, Datasets, MAX_PATTERNS, MAX_WEIGHT, Shape, Store, Stores,
+    catalogues_are_sound, catalogues_rank_their_rules, relation_count,
 };
+pub use esto_status::{CatalogueFault, CatalogueKind, Section};
 pub use esto_text::MAX_NAME;
-pub use fault::{CatalogueError, CatalogueFault, CatalogueKind, Section};
+pub use fault::CatalogueError;
 pub use walk::{catalogues_are_determined, catalogues_keep_their_datasets, read_catalogue};
 pub use whole::MAX_ENTRIES;

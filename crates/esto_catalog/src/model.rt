@@ -6,10 +6,11 @@ ghost use Rattle.esto_catalog.specs.Models.{model_word, layout_word, reads_model
 ghost use Rattle.esto_catalog.specs.Rows.{Walks};
 ghost use Rattle.esto_settings.specs.Settings.{setting_at};
 
-use crate::fault::{CatalogueError, CatalogueKind, Place, demand, fault};
+use crate::fault::{CatalogueError, Place, demand, fault};
 use crate::row::needs_text;
 use esto_docmodel::{DataModel, Layout};
 use esto_settings::{Field, Setting, has_key, is_same, setting_at};
+use esto_status::CatalogueKind;
 use esto_term::Text;
 use std::alloc::Global;
 

@@ -6,8 +6,9 @@ ghost use Rattle.esto_catalog.specs.Rows.{IsAny, IsWant, Walks, is_known, IsUnkn
 ghost use Rattle.esto_catalog.specs.Rows.{needs_texts};
 ghost use Rattle.esto_settings.specs.Settings.{is_same, setting_at};
 
-use crate::fault::{CatalogueError, CatalogueKind, Place, fault};
+use crate::fault::{CatalogueError, Place, fault};
 use esto_settings::{Field, Setting, is_same, setting_at};
+use esto_status::CatalogueKind;
 use esto_term::{Replicate, Text, TextRow};
 use std::alloc::Global;
 

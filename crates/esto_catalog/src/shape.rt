@@ -7,7 +7,7 @@ ghost use Rattle.esto_catalog.specs.Shapes.{column_of, head_columns, name_at, Ar
 ghost use Rattle.esto_catalog.specs.Shapes.{table_row, documents_row, keys_row, shape_row};
 ghost use Rattle.esto_settings.specs.declared.setting.Setting.TheVariants.{Texts};
 
-use crate::fault::{CatalogueError, CatalogueKind, Place, demand, fault};
+use crate::fault::{CatalogueError, Place, demand, fault};
 use crate::model::{layout, unfit};
 use crate::row::needs_text;
 use esto_docmodel::{DataModel, Pattern, is_layout};
@@ -15,6 +15,7 @@ use esto_mapping::{Shape, are_columns};
 use esto_query::{Name, Names, Query};
 use esto_read::read_layout;
 use esto_settings::{Field, Setting, setting_at};
+use esto_status::CatalogueKind;
 use esto_term::{List, OutOfMemory, Replicate, Term, Text, TextRow};
 use esto_text::ReadError;
 use std::alloc::Global;

@@ -6,9 +6,10 @@ ghost use Rattle.esto_settings.specs.declared.setting.Setting.TheVariants.{Integ
 ghost use Rattle.esto_catalog.specs.Whole.{is_two, top_keys, number_of, reads_toml, reads_version, reads_core, fits_section, reads_top, reads_whole, tables_of};
 ghost use Rattle.esto_catalog.specs.Whole.{sections_of};
 
-use crate::fault::{CatalogueError, CatalogueKind, TOP, fault};
+use crate::fault::{CatalogueError, TOP, fault};
 use crate::row::{Keys, knows_keys};
 use esto_settings::{Document, Field, SectionTables, Setting, TomlError, read_toml, setting_at};
+use esto_status::CatalogueKind;
 use esto_term::List;
 use esto_text::Version;
 use std::alloc::Global;

@@ -16,11 +16,11 @@ use Rattle.esto_semantics.specs.declared.fact.Fact.{Fact}
 use Rattle.esto_columns.specs.CodedRows.{CodedRows}
 use Rattle.esto_columns.specs.Columns.{HaveLength}
 use Rattle.esto_columns.specs.declared.stored.StoredRows.{StoredRows}
-use Rattle.esto_plan.specs.Planned.{Fits}
-use Rattle.esto_plan.specs.Rows.{IsNumbering, AreInterned, StandsIn}
-use Rattle.esto_plan.proofs.CodeLemmas.{code_in, code_stands, code_in_numbers}
-use Rattle.esto_plan.proofs.CodedLemmas.{answers_pushed}
-use Rattle.esto_plan.proofs.MeaningLemmas.{results_are_answers, plans_intern}
+use Rattle.esto_steps.specs.Planned.{Fits}
+use Rattle.esto_steps.specs.Texts.{IsNumbering, AreInterned, StandsIn}
+use Rattle.esto_steps.proofs.CodeLemmas.{code_in, code_stands, code_in_numbers}
+use Rattle.esto_steps.proofs.CodedLemmas.{answers_pushed}
+use Rattle.esto_steps.proofs.MeaningLemmas.{results_are_answers, plans_intern}
 use Rattle.esto_steps.specs.Meaning.{IsResult}
 use Rattle.esto_steps.specs.Rows.{IsRowOf, held_by}
 use Rattle.esto_steps.specs.declared.steps.Steps.{Steps}

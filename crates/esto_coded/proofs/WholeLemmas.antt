@@ -21,8 +21,8 @@ use Rattle.esto_columns.specs.Interned.{Grows}
 use Rattle.esto_columns.proofs.CodingLemmas.{grows_on}
 use Rattle.esto_columns.specs.declared.stored.StoredRows.{StoredRows}
 use Rattle.esto_exec.specs.Runnable.{AreRunnable}
-use Rattle.esto_plan.specs.Planned.{IsSource, IsLink, IsNew, IsKnown, IsGetOf, AreStepsAfter, AreStepsOf}
-use Rattle.esto_plan.proofs.PlanLemmas.{source_grows, link_grows, head_grows, grows_refl}
+use Rattle.esto_steps.specs.Planned.{IsSource, IsLink, IsNew, IsKnown, IsGetOf, AreStepsAfter, AreStepsOf}
+use Rattle.esto_steps.proofs.GrowthLemmas.{source_grows, link_grows, head_grows, grows_refl}
 use Rattle.esto_steps.specs.declared.steps.Get.{Get}
 use Rattle.esto_steps.specs.declared.steps.Link.{Link}
 use Rattle.esto_steps.specs.declared.steps.Source.{Source}

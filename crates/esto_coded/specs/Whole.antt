@@ -7,7 +7,7 @@ use Rattle.esto_columns.specs.declared.stored.StoredRows.{StoredRows}
 use Rattle.esto_semantics.specs.Facts.{terms_of}
 use Rattle.esto_semantics.specs.Queries.{ConjunctiveQuery}
 use Rattle.esto_semantics.specs.declared.fact.Fact.{Fact}
-use Rattle.esto_plan.specs.Planned.{IsSource, IsLink, IsNew}
+use Rattle.esto_steps.specs.Planned.{IsSource, IsLink, IsNew}
 use Rattle.esto_steps.specs.declared.steps.Get.{Get}
 use Rattle.esto_steps.specs.declared.steps.Link.{Link}
 use Rattle.esto_steps.specs.declared.steps.Source.{Source}

@@ -2,7 +2,7 @@
 ghost use Rattle.std.specs.Prelude.{◌≡◌, ◌++◌, ◌∷◌, [], slice_get, Some, Contains, IfOk, OnOk, MatchOption};
 ghost use Rattle.std.specs.List.{AllZip};
 ghost use Rattle.esto_columns.specs.Interned.{Grows};
-ghost use Rattle.esto_plan.specs.Planned.{IsSource, IsNew, IsKnown};
+ghost use Rattle.esto_steps.specs.Planned.{IsSource, IsNew, IsKnown};
 ghost use Rattle.esto_semantics.specs.Facts.{terms_of};
 ghost use Rattle.esto_semantics.specs.Maps.{IsFixedBy};
 ghost use Rattle.esto_steps.specs.declared.steps.Get.{Get};
@@ -10,9 +10,8 @@ ghost use Rattle.esto_term.specs.declared.term.Term.{Term};
 ghost use Rattle.esto_coded.specs.Whole.{IsLinked, AreFilters, IsWholeGet, AreWholeGets, AreWholeSteps};
 
 use esto_columns::Codes;
-use esto_plan::place_of;
 use esto_semantics::Atom;
-use esto_steps::{Get, Gets, Link, Links, Source, Sources, Steps};
+use esto_steps::{Get, Gets, Link, Links, Source, Sources, Steps, place_of};
 use esto_term::{List, OutOfMemory, Replicate, Term, Terms};
 use std::alloc::Global;
 

@@ -8,3 +8,4 @@ pub mod SortedLemmas
 pub mod IndexLemmas
 pub mod RowIndexLemmas
 pub mod FindLemmas
+pub mod RisingLemmas

@@ -18,7 +18,7 @@ pub use codes::Codes;
 pub use coding::{code_rows, code_taken_rows};
 pub use fragment::{Fragment, Input, Inputs, Ways};
 pub use index::Index;
-pub use laws::coded_rows_stay_coded;
+pub use laws::{coded_rows_stay_coded, rising_rows_are_one};
 pub use picks::{Picks, select};
 pub use rows::Rows;
 pub use sorted::{sorted_rows, sorted_texts};

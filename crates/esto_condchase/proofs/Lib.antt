@@ -10,3 +10,7 @@ pub mod ReachLemmas
 pub mod NewsLemmas
 pub mod FoundLemmas
 pub mod AskLemmas
+pub mod ReadLemmas
+pub mod TellLemmas
+pub mod EvidenceLemmas
+pub mod MatchingLemmas

@@ -2,3 +2,4 @@ pub mod Ways
 pub mod Rounds
 pub mod Products
 pub mod News
+pub mod Evidence

@@ -12,7 +12,7 @@ ghost use Rattle.esto_known.specs.KeptWays.{AreCounted};
 use crate::steps::both;
 use crate::ways::{match_next, matches_of};
 use esto_chase_laws::{Claim, Entry};
-use esto_known::{Known, Way};
+use esto_known::{Known, Way, has_later};
 use esto_prov::terms_of;
 use esto_semantics::Atom;
 use esto_term::{List, OutOfMemory, Term};

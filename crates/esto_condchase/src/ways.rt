@@ -9,7 +9,7 @@ ghost use Rattle.esto_known.specs.declared.way.Way.{Way};
 
 use crate::steps::{Level, both, match_all};
 use esto_bits::RowBits;
-use esto_known::{Kept, Known, facts_of, fresh_of, places_met, telling_places};
+use esto_known::{Kept, Known, Way, facts_of, fresh_of, places_met, telling_places};
 use esto_prov::terms_of;
 use esto_semantics::Atom;
 use esto_term::{List, OutOfMemory, Places, Replicate, Term, Terms, Values};

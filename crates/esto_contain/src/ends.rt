@@ -9,8 +9,8 @@ ghost use Rattle.esto_instance.specs.Instances.{state_of};
 ghost use Rattle.esto_query.specs.Making.{query_of};
 
 use either::{Either, Left, Right};
-use esto_chase::{Clash, chase};
-use esto_chase_laws::queries_have_starts;
+use esto_chase::chase;
+use esto_chase_laws::{Clash, queries_have_starts};
 use esto_instance::Instance;
 use esto_mapping::{Catalogue, catalogues_rank_their_rules};
 use esto_query::{Query, queries_are_sound};

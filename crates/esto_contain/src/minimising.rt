@@ -21,8 +21,10 @@ ghost use Rattle.esto_term.specs.declared.term.Term.{Term};
 use crate::ends::end_of;
 use either::{Either, Left, Right};
 use esto_bits::{Products, products_are_antichains};
-use esto_chase::{Clash, clashed_queries_are_unsatisfiable};
-use esto_chase_laws::{matches_decide_containment, matches_rest_on_atoms, states_are_universal};
+use esto_chase::clashed_queries_are_unsatisfiable;
+use esto_chase_laws::{
+    Clash, matches_decide_containment, matches_rest_on_atoms, states_are_universal,
+};
 use esto_condchase::{chase_with_products, products_of_matches};
 use esto_constraint::rules_are_sound;
 use esto_instance::Instance;

@@ -6,8 +6,8 @@ use Rattle.std.proofs.lemmas.Bool.{cases_order}
 use Rattle.std.proofs.lemmas.List.{length-map}
 use Rattle.esto_mapping.specs.Catalogues.{AreSame, StoredAs, as_table, as_documents, as_keys, shape_as, stored_as}
 use Rattle.esto_mapping.specs.declared.catalogue.Catalogue.{Catalogue}
-use Rattle.esto_mapping.specs.declared.catalogue.Shape.{Shape}
-use Rattle.esto_mapping.specs.declared.catalogue.Shape.TheVariants.{Table, Documents, Keys}
+use Rattle.esto_docmodel.specs.declared.file.Shape.{Shape}
+use Rattle.esto_docmodel.specs.declared.file.Shape.TheVariants.{Table, Documents, Keys}
 use Rattle.esto_constraint.specs.Constraints.{rules_of}
 use Rattle.esto_constraint.specs.EncodingRules.{written}
 use Rattle.esto_docs.specs.Documents.{document, documents_text}
@@ -31,8 +31,8 @@ use Rattle.esto_term.proofs.ListLemmas.{map_at, map_at-from}
 use Rattle.esto_term.specs.declared.term.Term.{Term}
 use Rattle.esto_views.specs.declared.fragments.FragmentDef.{FragmentDef}
 use Rattle.esto_views.specs.Fragments.{views_of}
-use Rattle.esto_opening.specs.Fragments.{Stored, IsStoredAt}
-use Rattle.esto_opening.proofs.StoreLemmas.{same_at}
+use Rattle.esto_run.specs.Fragments.{Stored, IsStoredAt}
+use Rattle.esto_run.proofs.StoreAlikeLemmas.{same_at}
 use Rattle.esto_data.specs.Audit.{audit_text}
 use Rattle.esto_data.specs.Fill.{IsFirstOf, names_of}
 

@@ -14,8 +14,8 @@ use Rattle.esto_fill.specs.declared.trial.Trial.{Trial}
 use Rattle.esto_fill.specs.declared.wanted.Wanted.{Wanted}
 use Rattle.esto_semantics.specs.declared.fact.Fact.{Fact}
 use Rattle.esto_term.specs.declared.term.Term.{Term}
-use Rattle.esto_opening.specs.Answers.{Answers}
-use Rattle.esto_opening.specs.declared.status.Status.{Status}
+use Rattle.esto_status.specs.Answers.{Answers}
+use Rattle.esto_status.specs.declared.status.Status.{Status}
 use Rattle.esto_data.specs.Audit.{AreFactsToAudit, HoldsAudit, judges_views}
 use Rattle.esto_data.specs.Datasets.{HoldsFiles, HoldsLeft}
 use Rattle.esto_data.proofs.WantedLemmas.{enough_left, judged_all}

@@ -27,18 +27,18 @@ use Rattle.esto_semantics.specs.declared.fact.Fact.{Fact}
 use Rattle.esto_term.proofs.ListLemmas.{Contains-at, Contains-cases, Contains-head, Contains-nil}
 use Rattle.esto_term.proofs.PlaceLemmas.{item_at, earlier_or_last}
 use Rattle.esto_term.specs.declared.term.Term.{Term}
-use Rattle.esto_opening.specs.Answers.{Answers, IsWant, IsCaused}
-use Rattle.esto_opening.specs.Asked.{AsksIn}
+use Rattle.esto_status.specs.Answers.{Answers, IsWant, IsCaused}
+use Rattle.esto_status.specs.Asked.{AsksIn}
 use Rattle.esto_data.specs.Datasets.{AddsNeeded, AreFactsOfFiles, AreNeeded, HoldsFiles, HoldsLeft, IsSourceAt, Loads, LoadsAsking, LoadsFiles, LoadsMore}
 use Rattle.esto_data.specs.Datasets.{Source, demands_file, demands_files, loads, loads_files, loads_next, opens_dataset, opens_source, reads_data}
-use Rattle.esto_opening.specs.Fetch.{fetches}
-use Rattle.esto_opening.specs.declared.opening.TheConstants.{DATA_LIMIT}
-use Rattle.esto_opening.specs.declared.status.Status.{Status}
-use Rattle.esto_opening.specs.declared.status.Status.TheVariants.{BadDataset, NoData, OutOfMemory}
-use Rattle.esto_opening.proofs.AskedSteps.{exit_asks, later_asks, quiet_asks, wanted as judged_want}
-use Rattle.esto_opening.proofs.FileSteps.{opened_asks, opened_goes, unfetched_asks, unfetched_stops, unread_asks, unread_stops}
-use Rattle.esto_opening.proofs.LoopSteps.{IsAlong, along_end_asks, along_ends, along_goes, along_starts, along_stop_asks, along_stops, along_wants, kept_asks, quiet_each}
-use Rattle.esto_opening.proofs.Steps.{caused_weaker}
+use Rattle.esto_status.specs.Fetch.{fetches}
+use Rattle.esto_status.specs.declared.limits.TheConstants.{DATA_LIMIT}
+use Rattle.esto_status.specs.declared.status.Status.{Status}
+use Rattle.esto_status.specs.declared.status.Status.TheVariants.{BadDataset, NoData, OutOfMemory}
+use Rattle.esto_status.proofs.AskedSteps.{exit_asks, later_asks, quiet_asks, wanted as judged_want}
+use Rattle.esto_status.proofs.FileSteps.{opened_asks, opened_goes, unfetched_asks, unfetched_stops, unread_asks, unread_stops}
+use Rattle.esto_status.proofs.LoopSteps.{IsAlong, along_end_asks, along_ends, along_goes, along_starts, along_stop_asks, along_stops, along_wants, kept_asks, quiet_each}
+use Rattle.esto_status.proofs.Steps.{caused_weaker}
 use Rattle.esto_data.proofs.LeadLemmas.{loaded_apart, opened_from}
 
 -- ---- the content of one file
@@ -213,9 +213,6 @@ pub record SoFarDemanded (datasets : List Dataset) (numbers : List ℕ) (index :
   pub leads : Leads (each (demands_file datasets) counter tt (drop index numbers)) (demands_files datasets numbers)
 
 module _ (datasets : List Dataset) (numbers : List ℕ) where
-  pub demanding_starts : SoFarDemanded datasets numbers 0
-  demanding_starts = record { counter = 0; leads = record { goes = λ value goes. goes; stops = λ refusal stops. stops } }
-
   module _ (index : ℕ) (so_far : SoFarDemanded datasets numbers index) where
     module _ (number : ℕ) (below : index < length numbers) (is : number ≡ get_or numbers index number) where
       pub demanding_goes : ((place : ℕ) → (demands_file datasets place tt number).goes tt) → SoFarDemanded datasets numbers (index + 1)
@@ -425,6 +422,18 @@ pub load_exit_asks : {A : Type 0} {before after : Option (List (List ℕ))} (Hol
     → LoadsAsking before after Holds course result
 load_exit_asks Holds course error (Ok _) handed asks = absurd handed
 load_exit_asks Holds course error (Err handed_on) handed asks = rw handed asks
+
+-- a dataset that is needed has no file
+module _ {A : Type 0} {files : Option Files} {datasets : List Dataset} {Needs : Dataset → Type 0} {numbers : List ℕ}
+    (needed : AreNeeded datasets Needs numbers) {Holds : List (Fact Term) → A → Type 0} {error : Status} {result : Result A Status}
+    (handed : IsErrAnd result (λ it. it ≡ error)) (stops : Stops IsWant (IsCaused ⊥) (demands_files datasets numbers) error) where
+  pub demand_exit : {rose : Type 0} → Loads Holds (loads files datasets Needs) rose result
+  demand_exit {rose = rose} = load_exit Holds (loads files datasets Needs) rose error result handed
+      (demand_stops files datasets Needs numbers needed rose error stops)
+
+  pub demand_exit_asks : {told : Option (List (List ℕ))} → LoadsAsking told told Holds (loads files datasets Needs) result
+  demand_exit_asks {told = told} = load_exit_asks Holds (loads files datasets Needs) error result handed
+      (demand_asks files datasets Needs numbers needed told error stops)
 
 -- want of memory, before anything is asked for
 pub loads_want : (files : Option Files) (datasets : List Dataset) (Needs : Dataset → Type 0) (told : Option (List (List ℕ)))

@@ -1,6 +1,5 @@
 -- What `fill`, `answer` and `audit` answer where nothing is wrong with the files.
-use Rattle.std.proofs.Common.{◌≡◌, ◌≢◌, ◌↔◌, ℕ, suc, List, [], ◌∷◌, ◌++◌, map, length, Contains, Option, Some, None, Err, refl, sym, ap, subst, ◌∙◌}
-use Rattle.std.proofs.Common.{inl, inr}
+use Rattle.std.proofs.Common.{◌≡◌, ◌≢◌, ◌↔◌, ℕ, suc, List, [], ◌∷◌, ◌++◌, map, length, Contains, Option, Some, None, Err, refl, sym, ap, subst, ◌∙◌, inl, inr}
 use Rattle.std.proofs.lemmas.Option.{same_Some, none-some}
 use Rattle.esto_mapping.specs.Catalogues.{AreSame, CataloguesAreSound}
 use Rattle.esto_mapping.specs.declared.catalogue.Catalogue.{Catalogue}
@@ -22,7 +21,7 @@ use Rattle.esto_ports.specs.declared.file_fault.FileFault.{FileFault}
 use Rattle.esto_query.specs.Making.{query_of}
 use Rattle.esto_query.specs.declared.query.Query.{Query}
 use Rattle.esto_run.specs.Answers.{rows_text}
-use Rattle.esto_run.specs.Stores.{IsFileRow}
+use Rattle.esto_docs.specs.Stores.{IsFileRow}
 use Rattle.esto_semantics.specs.Facts.{Database}
 use Rattle.esto_semantics.specs.Maps.{AreFlat}
 use Rattle.esto_semantics.specs.Queries.{ConjunctiveQuery}
@@ -32,23 +31,23 @@ use Rattle.esto_stores.specs.Rows.{Row}
 use Rattle.esto_term.proofs.ListLemmas.{Contains-at, place-from_Contains}
 use Rattle.esto_term.specs.declared.term.Term.{Term}
 use Rattle.esto_views.specs.Fragments.{views_of}
-use Rattle.esto_opening.specs.Alike.{AreSameQueries}
-use Rattle.esto_opening.specs.Answers.{IsCaused}
-use Rattle.esto_opening.specs.Calm.{Leads, SaysAlways}
-use Rattle.esto_opening.specs.Fetch.{fetches, FetchStops}
-use Rattle.esto_opening.specs.Fetch.FetchStops.{fails, is_longer}
-use Rattle.esto_opening.specs.Fragments.{Stored, IsStoredAt, opens_fragments}
-use Rattle.esto_opening.specs.Line.{line_of}
+use Rattle.esto_query.specs.Same.{AreSameQueries}
+use Rattle.esto_status.specs.Answers.{IsCaused}
+use Rattle.esto_status.specs.Calm.{Leads, SaysAlways}
+use Rattle.esto_status.specs.Fetch.{fetches, FetchStops}
+use Rattle.esto_status.specs.Fetch.FetchStops.{fails, is_longer}
+use Rattle.esto_run.specs.Fragments.{Stored, IsStoredAt, opens_fragments}
+use Rattle.esto_status.specs.Line.{line_of}
 use Rattle.esto_opening.specs.Opening.{FilesSayCatalogue, FilesSayQuery, FilesSayUnion, opens_catalogue, opens_query, opens_union, reads_catalogue, reads_query}
 use Rattle.esto_opening.specs.Unions.{SaidUnionsOpen, UnionsOfOneAreQueries}
-use Rattle.esto_opening.specs.Texts.{union_rows_text}
-use Rattle.esto_opening.specs.declared.opening.TheConstants.{CATALOGUE_LIMIT, DATA_LIMIT, QUERY_LIMIT}
-use Rattle.esto_opening.specs.declared.reply.Reply.{Reply}
-use Rattle.esto_opening.specs.declared.reply.Reply.TheVariants.{Done}
-use Rattle.esto_opening.specs.declared.status.Status.{Status}
-use Rattle.esto_opening.specs.declared.status.Status.TheVariants as status
-use Rattle.esto_opening.proofs.LeadLemmas.{then-leads, leads-more, gives-leads, agreed_leads}
-use Rattle.esto_opening.proofs.Steps.{never_wanting, read_cause}
+use Rattle.esto_run.specs.Texts.{union_rows_text}
+use Rattle.esto_status.specs.declared.limits.TheConstants.{CATALOGUE_LIMIT, DATA_LIMIT, QUERY_LIMIT}
+use Rattle.esto_status.specs.declared.reply.Reply.{Reply}
+use Rattle.esto_status.specs.declared.reply.Reply.TheVariants.{Done}
+use Rattle.esto_status.specs.declared.status.Status.{Status}
+use Rattle.esto_status.specs.declared.status.Status.TheVariants as status
+use Rattle.esto_status.proofs.LeadLemmas.{then-leads, leads-more, gives-leads, agreed_leads}
+use Rattle.esto_status.proofs.Steps.{never_wanting, read_cause}
 use Rattle.esto_course.proofs.Steps.{then_goes}
 use Rattle.esto_constraint.proofs.RuleLemmas.{are_rules}
 use Rattle.esto_data.specs.Answer.{IsAnswerOfFacts, IsUnionAnswerOfFacts, answer_course, answers_union}

@@ -7,8 +7,8 @@ use Rattle.esto_course.specs.Course.Stops.{refused}
 use Rattle.esto_term.proofs.ListLemmas.{Contains-map_from, HoldsBelow, holds_all_in, holds_more_in, map_at, map_at-from, place-from_Contains}
 use Rattle.esto_term.proofs.PlaceLemmas.{item_at}
 use Rattle.esto_views.specs.declared.fragments.FragmentDef.{FragmentDef}
-use Rattle.esto_opening.specs.Answers.{IsCaused, IsWant}
-use Rattle.esto_opening.specs.declared.status.Status.TheVariants as status
+use Rattle.esto_status.specs.Answers.{IsCaused, IsWant}
+use Rattle.esto_status.specs.declared.status.Status.TheVariants as status
 use Rattle.esto_data.specs.Fill.{finds_fragment, names_of}
 
 module _ (catalogue : Catalogue) (name : List ℕ) (items : List FragmentDef) (are : items ≡ catalogue.fragments) (number : ℕ) where

@@ -3,19 +3,19 @@ use Rattle.std.proofs.Common.{◌≡◌, ◌⊎◌, ◌↔◌, ◌<◌, ◌≤�
 use Rattle.std.specs.List.{range_with_len}
 use Rattle.std.proofs.lemmas.Option.{same_Some, none-some, slice_get_within}
 use Rattle.esto_mapping.specs.declared.catalogue.Catalogue.{Catalogue}
-use Rattle.esto_mapping.specs.declared.catalogue.Store.{Store}
+use Rattle.esto_docmodel.specs.declared.file.Store.{Store}
 use Rattle.esto_course.specs.Course.{judges, gives, and_then, each}
 use Rattle.esto_ports.specs.Files.{Files}
-use Rattle.esto_run.specs.Stores.{IsFileRow, IsRowIn}
+use Rattle.esto_docs.specs.Stores.{IsFileRow, IsRowIn}
 use Rattle.esto_semantics.specs.declared.fact.Fact.{Fact}
-use Rattle.esto_opening.specs.Answers.{IsCaused}
-use Rattle.esto_opening.specs.Calm.{Leads}
-use Rattle.esto_opening.specs.Fragments.{Stored, IsReadableFragment, IsStoredAt, reads_content, opens_stored, opens_fragment, opens_next, opens_fragments}
-use Rattle.esto_opening.specs.Fragments.{no_contents, with_content}
-use Rattle.esto_opening.specs.declared.opening.TheConstants.{DATA_LIMIT}
-use Rattle.esto_opening.specs.declared.status.Status.{Status}
-use Rattle.esto_opening.proofs.LeadLemmas.{then-leads, leads-more, gives-leads, judges-leads, fetches-leads}
-use Rattle.esto_opening.proofs.FragmentLemmas.{content_there}
+use Rattle.esto_status.specs.Answers.{IsCaused}
+use Rattle.esto_status.specs.Calm.{Leads}
+use Rattle.esto_run.specs.Fragments.{Stored, IsReadableFragment, IsStoredAt, reads_content, opens_stored, opens_fragment, opens_next, opens_fragments}
+use Rattle.esto_run.specs.Fragments.{no_contents, with_content}
+use Rattle.esto_status.specs.declared.limits.TheConstants.{DATA_LIMIT}
+use Rattle.esto_status.specs.declared.status.Status.{Status}
+use Rattle.esto_status.proofs.LeadLemmas.{then-leads, leads-more, gives-leads, judges-leads, fetches-leads}
+use Rattle.esto_run.proofs.FragmentLemmas.{content_there}
 use Rattle.esto_data.specs.Audit.{all_fragments}
 use Rattle.esto_data.specs.Exact.{AreReadableFragments}
 use Rattle.esto_data.proofs.LeadLemmas.{holds-leads}

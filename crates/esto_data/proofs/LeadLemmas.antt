@@ -14,14 +14,14 @@ use Rattle.esto_ports.specs.Files.{Files}
 use Rattle.esto_semantics.specs.declared.fact.Fact.{Fact}
 use Rattle.esto_term.proofs.ListLemmas.{Contains-cases, Contains-head, Contains-map, Contains-nil, Contains-rest}
 use Rattle.esto_term.specs.declared.term.Term.{Term}
-use Rattle.esto_opening.specs.Answers.{IsCaused}
-use Rattle.esto_opening.specs.Calm.{Leads}
-use Rattle.esto_opening.specs.Fetch.{fetches}
-use Rattle.esto_opening.specs.declared.status.Status.{Status}
-use Rattle.esto_opening.proofs.LeadLemmas.{then-leads, leads-more, gives-leads, judges-leads, fetches-leads}
+use Rattle.esto_status.specs.Answers.{IsCaused}
+use Rattle.esto_status.specs.Calm.{Leads}
+use Rattle.esto_status.specs.Fetch.{fetches}
+use Rattle.esto_status.specs.declared.status.Status.{Status}
+use Rattle.esto_status.proofs.LeadLemmas.{then-leads, leads-more, gives-leads, judges-leads, fetches-leads}
 use Rattle.esto_data.specs.Datasets.{AreFactsOfFiles, AreNeeded, IsSourceAt, Source, demands_file, loads, loads_files, loads_next, opens_dataset, reads_data}
 use Rattle.esto_data.specs.Exact.{HoldFacts, IsReadableDataset, files_of}
-use Rattle.esto_opening.specs.declared.opening.TheConstants.{DATA_LIMIT}
+use Rattle.esto_status.specs.declared.limits.TheConstants.{DATA_LIMIT}
 use Rattle.esto_data.proofs.LoadLemmas.{needed_one}
 
 -- ---- what was opened

@@ -14,6 +14,7 @@ pub mod AlikeLemmas
 pub mod LoadLemmas
 pub mod UnionLemmas
 pub mod AgreeLemmas
+pub mod AgreementLemmas
 pub mod LeadLemmas
 pub mod FragmentLemmas
 pub mod NodeLemmas

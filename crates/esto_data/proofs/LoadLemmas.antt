@@ -16,13 +16,13 @@ use Rattle.esto_semantics.specs.Maps.{AreFlat}
 use Rattle.esto_semantics.specs.declared.fact.Fact.{Fact}
 use Rattle.esto_term.proofs.ChoiceLemmas.{one_list}
 use Rattle.esto_term.specs.declared.term.Term.{Term}
-use Rattle.esto_opening.specs.Calm.{AgreeCalmly}
-use Rattle.esto_opening.specs.declared.status.Status.{Status}
-use Rattle.esto_opening.specs.declared.status.Status.TheVariants as status
-use Rattle.esto_opening.proofs.AgreeLemmas.{fetches-agree, calmly}
+use Rattle.esto_status.specs.Calm.{AgreeCalmly}
+use Rattle.esto_status.specs.declared.status.Status.{Status}
+use Rattle.esto_status.specs.declared.status.Status.TheVariants as status
+use Rattle.esto_status.proofs.AgreeLemmas.{fetches-agree, calmly}
 use Rattle.esto_data.specs.Datasets.{AreFactsOfFiles, AreNeeded, IsSourceAt, Source, demands_file, demands_files, loads, loads_files, loads_next, opens_dataset}
 use Rattle.esto_data.specs.Datasets.{opens_source, reads_data}
-use Rattle.esto_opening.specs.declared.opening.TheConstants.{DATA_LIMIT}
+use Rattle.esto_status.specs.declared.limits.TheConstants.{DATA_LIMIT}
 
 -- ---- the datasets that are needed
 

@@ -3,7 +3,7 @@ use Rattle.std.proofs.Common.{◌≡◌, ◌↔◌, ℕ, List, [], ◌∷◌, ma
 use Rattle.std.proofs.lemmas.Option.{same_Some}
 use Rattle.esto_mapping.specs.Catalogues.{AreSame, stored_as}
 use Rattle.esto_mapping.specs.declared.catalogue.Catalogue.{Catalogue}
-use Rattle.esto_mapping.specs.declared.catalogue.Store.{Store}
+use Rattle.esto_docmodel.specs.declared.file.Store.{Store}
 use Rattle.esto_mapping.specs.declared.dataset.Dataset.{Dataset}
 use Rattle.esto_constraint.specs.Constraints.{rules_of}
 use Rattle.esto_constraint.specs.EncodingRules.{written}
@@ -17,7 +17,7 @@ use Rattle.esto_fill.specs.declared.filled.FillError.TheVariants as filled
 use Rattle.esto_ports.specs.Files.{Files}
 use Rattle.esto_query.specs.Making.{query_of}
 use Rattle.esto_query.specs.declared.query.Query.{Query}
-use Rattle.esto_run.specs.Stores.{IsFileRow, IsRowIn, first_fault_in}
+use Rattle.esto_docs.specs.Stores.{IsFileRow, IsRowIn, first_fault_in}
 use Rattle.esto_semantics.specs.Queries.{ConjunctiveQuery, IsAnswer}
 use Rattle.esto_semantics.specs.Unions.{IsUnionAnswer}
 use Rattle.esto_semantics.specs.declared.fact.Fact.{Fact}
@@ -25,15 +25,15 @@ use Rattle.esto_semantics.specs.declared.fact.Value.TheVariants.{Text}
 use Rattle.esto_stores.specs.Rows.{Row}
 use Rattle.esto_term.specs.declared.term.Term.{Term}
 use Rattle.esto_views.specs.Fragments.{views_of}
-use Rattle.esto_opening.specs.Alike.{AreSameQueries}
-use Rattle.esto_opening.specs.FragmentsAlike.{StoresHaveOneContent, StoresHaveOneFault, StoresHaveOneFile}
-use Rattle.esto_opening.specs.Fetch.{HasWithin}
-use Rattle.esto_opening.specs.Fragments.{Stored, IsStoredAt, content_fault}
-use Rattle.esto_opening.specs.Texts.{union_rows_text}
-use Rattle.esto_opening.specs.declared.opening.TheConstants.{DATA_LIMIT}
-use Rattle.esto_opening.specs.declared.status.Status.{Status}
-use Rattle.esto_opening.specs.declared.status.Status.TheVariants as status
-use Rattle.esto_opening.proofs.StoreLemmas.{same_stored}
+use Rattle.esto_query.specs.Same.{AreSameQueries}
+use Rattle.esto_run.specs.FragmentsAlike.{StoresHaveOneContent, StoresHaveOneFault, StoresHaveOneFile}
+use Rattle.esto_status.specs.Fetch.{HasWithin}
+use Rattle.esto_run.specs.Fragments.{Stored, IsStoredAt, content_fault}
+use Rattle.esto_run.specs.Texts.{union_rows_text}
+use Rattle.esto_status.specs.declared.limits.TheConstants.{DATA_LIMIT}
+use Rattle.esto_status.specs.declared.status.Status.{Status}
+use Rattle.esto_status.specs.declared.status.Status.TheVariants as status
+use Rattle.esto_run.proofs.StoreAlikeLemmas.{same_stored}
 use Rattle.esto_data.specs.Answer.{IsUnionAnswerOfFacts}
 use Rattle.esto_data.specs.Audit.{AuditsFiles}
 use Rattle.esto_data.specs.Datasets.{IsAny, Names, OneNames}

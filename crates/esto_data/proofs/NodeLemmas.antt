@@ -4,16 +4,16 @@ use Rattle.esto_mapping.specs.declared.catalogue.Catalogue.{Catalogue}
 use Rattle.esto_course.specs.Course.{each}
 use Rattle.esto_ports.specs.Files.{Files}
 use Rattle.esto_ports.specs.declared.file_fault.FileFault.{FileFault}
-use Rattle.esto_opening.specs.Answers.{IsCaused}
-use Rattle.esto_opening.specs.Calm.{Leads}
-use Rattle.esto_opening.specs.Fetch.{fetches, FetchStops}
-use Rattle.esto_opening.specs.Fetch.FetchStops.{fails, is_longer}
-use Rattle.esto_opening.specs.Fragments.{no_contents, opens_fragment, opens_fragments, opens_next, with_content}
-use Rattle.esto_opening.specs.declared.opening.TheConstants.{DATA_LIMIT}
-use Rattle.esto_opening.specs.declared.status.Status.{Status}
-use Rattle.esto_opening.specs.declared.status.Status.TheVariants as status
-use Rattle.esto_opening.proofs.LeadLemmas.{then-leads, leads-more, gives-leads, judges-leads}
-use Rattle.esto_opening.proofs.Steps.{read_cause}
+use Rattle.esto_status.specs.Answers.{IsCaused}
+use Rattle.esto_status.specs.Calm.{Leads}
+use Rattle.esto_status.specs.Fetch.{fetches, FetchStops}
+use Rattle.esto_status.specs.Fetch.FetchStops.{fails, is_longer}
+use Rattle.esto_run.specs.Fragments.{no_contents, opens_fragment, opens_fragments, opens_next, with_content}
+use Rattle.esto_status.specs.declared.limits.TheConstants.{DATA_LIMIT}
+use Rattle.esto_status.specs.declared.status.Status.{Status}
+use Rattle.esto_status.specs.declared.status.Status.TheVariants as status
+use Rattle.esto_status.proofs.LeadLemmas.{then-leads, leads-more, gives-leads, judges-leads}
+use Rattle.esto_status.proofs.Steps.{read_cause}
 use Rattle.esto_data.proofs.LeadLemmas.{holds-leads}
 
 -- the status tells of no node

@@ -4,15 +4,15 @@ use Rattle.esto_mapping.specs.declared.dataset.Dataset.{Dataset}
 use Rattle.esto_fill.specs.declared.datasets.DatasetBytes.{DatasetBytes}
 use Rattle.esto_course.specs.Course.{demands}
 use Rattle.esto_ports.specs.Files.{Files}
-use Rattle.esto_opening.specs.declared.reply.Reply.TheVariants.{Done}
-use Rattle.esto_opening.specs.declared.status.Status.{Status}
-use Rattle.esto_opening.specs.declared.status.Status.TheVariants as status
-use Rattle.esto_opening.proofs.RefusalLemmas.{Refuses, catalogue_refuses, each_refuses, fetch_refuses, gives_refuses, judges_refuses}
-use Rattle.esto_opening.proofs.FragmentRefusalLemmas.{fragments_refuse}
-use Rattle.esto_opening.proofs.RefusalLemmas.{then_refuses}
+use Rattle.esto_status.specs.declared.reply.Reply.TheVariants.{Done}
+use Rattle.esto_status.specs.declared.status.Status.{Status}
+use Rattle.esto_status.specs.declared.status.Status.TheVariants as status
+use Rattle.esto_opening.proofs.RefusalLemmas.{catalogue_refuses}
+use Rattle.esto_status.proofs.RefusalLemmas.{Refuses, each_refuses, fetch_refuses, gives_refuses, judges_refuses, then_refuses}
+use Rattle.esto_run.proofs.FragmentRefusalLemmas.{fragments_refuse}
 use Rattle.esto_data.specs.Audit.{all_fragments, audit_course, audit_text}
 use Rattle.esto_data.specs.Datasets.{IsAny, demands_file, loads, loads_next, opens_dataset}
-use Rattle.esto_opening.specs.declared.opening.TheConstants.{DATA_LIMIT}
+use Rattle.esto_status.specs.declared.limits.TheConstants.{DATA_LIMIT}
 
 demands_refuses : (condition : Type 0) (said : Status) → said ≢ status.Done → Refuses (demands condition said)
 unfolding demands

@@ -7,10 +7,9 @@ use Rattle.std.proofs.lemmas.Bool.Decides.{nat_tests}
 use Rattle.std.proofs.lemmas.List.FromFn.{length-range_with_len, get_or-range_with_len}
 use Rattle.std.proofs.lemmas.Option.{same_Some, slice_get_within}
 use Rattle.esto_mapping.specs.declared.catalogue.Catalogue.{Catalogue}
-use Rattle.esto_mapping.specs.declared.catalogue.Store.{Store}
+use Rattle.esto_docmodel.specs.declared.file.Store.{Store}
 use Rattle.esto_columns.specs.CodedRows.{CodedRows}
 use Rattle.esto_course.specs.Course.{Names, Stops, judges, gives}
-use Rattle.esto_course.specs.Course.Stops.{refused}
 use Rattle.esto_course.proofs.Asking.{quiet_judges}
 use Rattle.esto_course.proofs.Steps.{first_stops, then_goes, gives_goes}
 use Rattle.esto_data.specs.Coding.{AreCodedLists, CodesFile}
@@ -19,22 +18,21 @@ use Rattle.esto_ports.specs.Files.{Files}
 use Rattle.esto_ports.specs.declared.file_fault.FileError.{FileError}
 use Rattle.esto_ports.specs.declared.file_fault.FileError.TheVariants.{Fault}
 use Rattle.esto_ports.specs.declared.file_fault.FileFault.{FileFault}
-use Rattle.esto_run.specs.Stores.{IsFileRow, IsRowIn}
+use Rattle.esto_docs.specs.Stores.{IsFileRow, IsRowIn}
 use Rattle.esto_semantics.specs.declared.fact.Fact.{Fact}
 use Rattle.esto_stores.specs.Rows.{Row}
 use Rattle.esto_term.proofs.ListLemmas.{Contains-nil, at_pushed, thing_at}
-use Rattle.esto_opening.specs.Answers.{Answers, IsWant, IsCaused}
-use Rattle.esto_opening.specs.Asked.{AsksIn}
-use Rattle.esto_opening.specs.Fetch.{fetches}
-use Rattle.esto_opening.specs.Fragments.{Stored, IsStoredAt, content_fault, reads_content, opens_fragment, no_contents, with_content, opens_next}
-use Rattle.esto_opening.specs.Fragments.{opens_fragments}
-use Rattle.esto_opening.specs.declared.opening.TheConstants.{DATA_LIMIT}
-use Rattle.esto_opening.specs.declared.status.Status.{Status}
-use Rattle.esto_opening.specs.declared.status.Status.TheVariants.{BadFragment}
-use Rattle.esto_opening.proofs.AskedSteps.{exit_asks}
-use Rattle.esto_opening.proofs.FileSteps.{opened_asks, opened_goes, unfetched_asks, unfetched_stops, unread_asks, unread_stops}
-use Rattle.esto_opening.proofs.FragmentLemmas.{content_there}
-use Rattle.esto_opening.proofs.LoopSteps.{IsAlong, along_end_asks, along_ends, along_goes, along_starts, along_stop_asks, along_stops, kept_asks}
+use Rattle.esto_status.specs.Answers.{Answers, IsWant, IsCaused}
+use Rattle.esto_status.specs.Asked.{AsksIn}
+use Rattle.esto_status.specs.Fetch.{fetches}
+use Rattle.esto_run.specs.Fragments.{Stored, IsStoredAt, content_fault, reads_content, opens_fragment, no_contents, with_content, opens_next, opens_fragments}
+use Rattle.esto_status.specs.declared.limits.TheConstants.{DATA_LIMIT}
+use Rattle.esto_status.specs.declared.status.Status.{Status}
+use Rattle.esto_status.specs.declared.status.Status.TheVariants.{BadFragment}
+use Rattle.esto_status.proofs.AskedSteps.{exit_asks}
+use Rattle.esto_status.proofs.FileSteps.{opened_asks, opened_goes, unfetched_asks, unfetched_stops, unread_asks, unread_stops}
+use Rattle.esto_run.proofs.FragmentLemmas.{content_stops, content_there}
+use Rattle.esto_status.proofs.LoopSteps.{IsAlong, along_end_asks, along_ends, along_goes, along_starts, along_stop_asks, along_stops, kept_asks}
 use Rattle.esto_data.specs.Audit.{AddsRows, OpensNextRows, OpensRows, all_fragments}
 
 -- ---- the content of one file
@@ -51,12 +49,10 @@ rows_added stored bytes same is texts more old new added =
 pub rows_refused : (stored : Stored) (bytes same : List ℕ) → same ≡ bytes → (texts more : List (List ℕ)) (old new : List CodedRows) (error : FileError)
     (fault : FileFault) → error ≡ Fault fault → CodesFile (IsRowIn stored.store.shape same) (content_fault stored same) texts more old new (Err error)
     → (name : List ℕ) → name ≡ stored.definition.name → Answers (reads_content stored bytes) ⊥ (Err (BadFragment name fault))
-unfolding judges
 rows_refused stored bytes same is texts more old new error fault error_is added name name_is =
     let found : content_fault stored same ≡ Some fault =
     subst (λ (it : FileError). CodesFile (IsRowIn stored.store.shape same) (content_fault stored same) texts more old new (Err it)) error_is added in
-    refused (record { cause = tt })
-    (fault, subst (λ (it : List ℕ). content_fault stored it ≡ Some fault) is found, ap (λ it. BadFragment it fault) name_is)
+    content_stops stored bytes name fault (subst (λ (it : List ℕ). content_fault stored it ≡ Some fault) is found) name_is
 
 -- ---- one file
 

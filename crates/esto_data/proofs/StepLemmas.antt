@@ -2,12 +2,12 @@
 use Rattle.std.proofs.Common.{◌≡◌, ◌<◌, ℕ, List, length, slice_get, Option, Some, None, Result, Ok, Err, refl, subst, arith}
 use Rattle.std.specs.Prelude.{IfSome}
 use Rattle.esto_mapping.specs.declared.catalogue.Catalogue.{Catalogue}
-use Rattle.esto_opening.specs.Fragments.{Stored, IsStoredAt}
+use Rattle.esto_run.specs.Fragments.{Stored, IsStoredAt}
 use Rattle.esto_course.specs.Course.{Course, Stops, judges, gives, and_then}
 use Rattle.esto_course.specs.Course.Stops.{is_free, refused}
 use Rattle.esto_course.proofs.Asking.{quiet_gives, quiet_judges}
 use Rattle.esto_course.proofs.Steps.{then_stops, then_goes, first_stops, gives_goes}
-use Rattle.esto_mapping.specs.declared.catalogue.Store.{Store}
+use Rattle.esto_docmodel.specs.declared.file.Store.{Store}
 use Rattle.esto_fill.specs.Databases.{database_of}
 use Rattle.esto_fill.specs.Filled.{Fills, IsOpenedAs}
 use Rattle.esto_ports.specs.Marks.{without_mark}
@@ -24,18 +24,18 @@ use Rattle.esto_semantics.specs.declared.fact.Value.{Value}
 use Rattle.esto_term.specs.declared.term.Term.{Term}
 use Rattle.esto_views.specs.declared.fragments.FragmentDef.{FragmentDef}
 use Rattle.esto_data.specs.Answer.{lists_texts}
-use Rattle.esto_opening.specs.Answers.{IsWant, IsCaused}
-use Rattle.esto_opening.specs.Asked.{AsksIn}
+use Rattle.esto_status.specs.Answers.{IsWant, IsCaused}
+use Rattle.esto_status.specs.Asked.{AsksIn}
 use Rattle.esto_data.specs.Audit.{AuditsFiles, compares, judges_views}
 use Rattle.esto_data.specs.Datasets.{Names, loads}
 use Rattle.esto_data.specs.Fill.{IsRowOfView, fill_status, fills_file, fills_fragment}
-use Rattle.esto_opening.specs.declared.reply.Reply.{Reply}
-use Rattle.esto_opening.specs.declared.reply.Reply.TheVariants.{Done}
-use Rattle.esto_opening.proofs.AskedSteps.{exit_asks, later_asks, quiet_asks}
-use Rattle.esto_opening.proofs.Steps.{still_stops}
+use Rattle.esto_status.specs.declared.reply.Reply.{Reply}
+use Rattle.esto_status.specs.declared.reply.Reply.TheVariants.{Done}
+use Rattle.esto_status.proofs.AskedSteps.{exit_asks, later_asks, quiet_asks}
+use Rattle.esto_status.proofs.Steps.{still_stops}
 use Rattle.esto_term.proofs.ListLemmas.{thing_at}
-use Rattle.esto_opening.specs.declared.status.Status.{Status}
-use Rattle.esto_opening.specs.declared.status.Status.TheVariants as status
+use Rattle.esto_status.specs.declared.status.Status.{Status}
+use Rattle.esto_status.specs.declared.status.Status.TheVariants as status
 
 -- ---- `answer`
 

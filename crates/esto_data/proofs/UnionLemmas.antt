@@ -17,12 +17,12 @@ use Rattle.esto_semantics.specs.declared.fact.Value.TheVariants.{Text}
 use Rattle.esto_stores.specs.Rows.{Row}
 use Rattle.esto_term.proofs.ListLemmas.{Contains-head, Contains-map_from, Contains-one}
 use Rattle.esto_term.specs.declared.term.Term.{Term}
-use Rattle.esto_opening.specs.Alike.{AreSameQueries}
-use Rattle.esto_opening.specs.Unions.{FormUnion}
-use Rattle.esto_opening.specs.Texts.{FitHeads, union_rows_text}
-use Rattle.esto_opening.specs.declared.status.Status.{Status}
+use Rattle.esto_query.specs.Same.{AreSameQueries}
+use Rattle.esto_query.specs.Unions.{FormUnion}
+use Rattle.esto_run.specs.Texts.{FitHeads, union_rows_text}
+use Rattle.esto_status.specs.declared.status.Status.{Status}
 use Rattle.esto_opening.proofs.AlikeLemmas.{same_query}
-use Rattle.esto_opening.proofs.TextLemmas.{same_rows_text}
+use Rattle.esto_run.proofs.RowsTextLemmas.{same_rows_text}
 use Rattle.esto_data.specs.Answer.{IsAnswerOfFacts, IsUnionAnswerOfFacts, lists_texts}
 use Rattle.esto_data.specs.Datasets.{AreNeeded, Names, OneNames}
 use Rattle.esto_data.specs.Exact.{GivesExactly, HoldFacts}

@@ -1,7 +1,7 @@
 -- What is said over the facts that are left, said over all facts.
 use Rattle.std.proofs.Common.{◌≡◌, ◌↔◌, inl, inr, ℕ, List, [], ◌∷◌, length, map, Contains, Result, Ok, Err, subst}
 use Rattle.esto_mapping.specs.declared.catalogue.Catalogue.{Catalogue}
-use Rattle.esto_mapping.specs.declared.catalogue.Shape.{Shape}
+use Rattle.esto_docmodel.specs.declared.file.Shape.{Shape}
 use Rattle.esto_constraint.specs.Constraints.{rules_of}
 use Rattle.esto_course.specs.Course.{Course, and_then, gives, judges}
 use Rattle.esto_course.specs.Course.Stops.{is_free, refused}
@@ -19,13 +19,13 @@ use Rattle.esto_fill.specs.declared.filled.FillError.TheVariants as filled
 use Rattle.esto_fill.specs.declared.trial.Trial.{Trial}
 use Rattle.esto_fill.specs.declared.wanted.Wanted.{Wanted}
 use Rattle.esto_fill.specs.declared.wanted.Wanted.TheVariants.{Asked}
-use Rattle.esto_opening.specs.Answers.{Answers}
-use Rattle.esto_opening.specs.Fragments.{Stored}
-use Rattle.esto_opening.specs.Texts.{union_rows_text}
-use Rattle.esto_opening.specs.declared.reply.Reply.{Reply}
-use Rattle.esto_opening.specs.declared.reply.Reply.TheVariants.{Done}
-use Rattle.esto_opening.specs.declared.status.Status.{Status}
-use Rattle.esto_opening.specs.declared.status.Status.TheVariants as status
+use Rattle.esto_status.specs.Answers.{Answers}
+use Rattle.esto_run.specs.Fragments.{Stored}
+use Rattle.esto_run.specs.Texts.{union_rows_text}
+use Rattle.esto_status.specs.declared.reply.Reply.{Reply}
+use Rattle.esto_status.specs.declared.reply.Reply.TheVariants.{Done}
+use Rattle.esto_status.specs.declared.status.Status.{Status}
+use Rattle.esto_status.specs.declared.status.Status.TheVariants as status
 use Rattle.esto_query.specs.Making.{query_of}
 use Rattle.esto_query.specs.declared.query.Query.{Query}
 use Rattle.esto_semantics.specs.Queries.{ConjunctiveQuery, IsAnswer}

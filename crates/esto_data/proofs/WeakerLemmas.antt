@@ -3,11 +3,11 @@ use Rattle.std.proofs.Common.{inl, inr, ℕ, List, Option, Result, Ok, Err}
 use Rattle.esto_course.specs.Course.{AsksLater, Course, Names, Point, and_then, asks_nothing, judges}
 use Rattle.esto_course.specs.Course.Point.{went, stopped, missing, underway}
 use Rattle.esto_course.specs.Course.Stops.{is_free, refused}
-use Rattle.esto_opening.specs.Answers.{Answers}
-use Rattle.esto_opening.specs.Asked.{AsksAt, AsksIn}
-use Rattle.esto_opening.specs.Asked.AsksToStop.{wanting, stopping}
-use Rattle.esto_opening.specs.declared.status.Status.{Status}
-use Rattle.esto_opening.specs.declared.reply.Reply.{Reply}
+use Rattle.esto_status.specs.Answers.{Answers}
+use Rattle.esto_status.specs.Asked.{AsksAt, AsksIn}
+use Rattle.esto_status.specs.Asked.AsksToStop.{wanting, stopping}
+use Rattle.esto_status.specs.declared.status.Status.{Status}
+use Rattle.esto_status.specs.declared.reply.Reply.{Reply}
 use Rattle.esto_ports.specs.Files.{Files}
 use Rattle.esto_data.specs.Fill.{IsFilled, IsMade, fill_course, make_course}
 

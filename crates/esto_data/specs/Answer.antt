@@ -15,11 +15,11 @@ use Rattle.esto_stores.specs.Rows.{Row}
 use Rattle.esto_term.specs.declared.term.Term.{Term}
 use Rattle.esto_data.specs.Datasets.{OneNames, loads}
 use Rattle.esto_opening.specs.Opening.{opens_catalogue, opens_union}
-use Rattle.esto_opening.specs.Texts.{union_rows_text}
-use Rattle.esto_opening.specs.declared.reply.Reply.{Reply}
-use Rattle.esto_opening.specs.declared.reply.Reply.TheVariants.{Done}
-use Rattle.esto_opening.specs.declared.status.Status.{Status}
-use Rattle.esto_opening.specs.declared.status.Status.TheVariants.{NodeInRow}
+use Rattle.esto_run.specs.Texts.{union_rows_text}
+use Rattle.esto_status.specs.declared.reply.Reply.{Reply}
+use Rattle.esto_status.specs.declared.reply.Reply.TheVariants.{Done}
+use Rattle.esto_status.specs.declared.status.Status.{Status}
+use Rattle.esto_status.specs.declared.status.Status.TheVariants.{NodeInRow}
 
 -- The row of values is an answer of the query over the facts.
 abbrev pub IsAnswerOfFacts : Query → List (Fact Term) → List Value → Type 0

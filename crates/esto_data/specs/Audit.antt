@@ -3,9 +3,9 @@ use Rattle.std.specs.Prelude.{◌≡◌, ◌↔◌, ℕ, List, [], ◌∷◌, �
 use Rattle.std.specs.Fmt.{decimal}
 use Rattle.std.specs.List.{range_with_len}
 use Rattle.esto_mapping.specs.declared.catalogue.Catalogue.{Catalogue}
-use Rattle.esto_mapping.specs.declared.catalogue.Shape.{Shape}
-use Rattle.esto_mapping.specs.declared.catalogue.Store.{Store}
-use Rattle.esto_opening.specs.Fragments.{opens_fragment, opens_fragments}
+use Rattle.esto_docmodel.specs.declared.file.Shape.{Shape}
+use Rattle.esto_docmodel.specs.declared.file.Store.{Store}
+use Rattle.esto_run.specs.Fragments.{opens_fragment, opens_fragments}
 use Rattle.esto_constraint.specs.Constraints.{rules_of}
 use Rattle.esto_constraint.specs.EncodingRules.{written}
 use Rattle.esto_columns.specs.CodedRows.{CodedRows}
@@ -22,20 +22,20 @@ use Rattle.esto_fill.specs.declared.wanted.Wanted.{Wanted}
 use Rattle.esto_ports.specs.declared.difference.Difference.{Difference}
 use Rattle.esto_steps.specs.Rows.{IsRowOf, held_by}
 use Rattle.esto_ports.specs.Files.{Files}
-use Rattle.esto_run.specs.Stores.{IsFileRow, IsRowIn}
+use Rattle.esto_docs.specs.Stores.{IsFileRow, IsRowIn}
 use Rattle.esto_semantics.specs.declared.fact.Fact.{Fact}
 use Rattle.esto_stores.specs.Rows.{Row}
 use Rattle.esto_term.specs.declared.term.Term.{Term}
 use Rattle.esto_views.specs.Fragments.{views_of}
-use Rattle.esto_opening.specs.Answers.{IsWant, IsCaused}
-use Rattle.esto_opening.specs.Asked.{AsksIn}
+use Rattle.esto_status.specs.Answers.{IsWant, IsCaused}
+use Rattle.esto_status.specs.Asked.{AsksIn}
 use Rattle.esto_data.specs.Datasets.{AreFactsOfFiles, AreLawful, HoldsFiles, IsAny, loads}
 use Rattle.esto_data.specs.Fill.{names_of}
 use Rattle.esto_opening.specs.Opening.{opens_catalogue}
-use Rattle.esto_opening.specs.declared.reply.Reply.{Reply}
-use Rattle.esto_opening.specs.declared.reply.Reply.TheVariants.{Done}
-use Rattle.esto_opening.specs.declared.status.Status.{Status}
-use Rattle.esto_opening.specs.declared.status.Status.TheVariants.{Differs, NodeInRow}
+use Rattle.esto_status.specs.declared.reply.Reply.{Reply}
+use Rattle.esto_status.specs.declared.reply.Reply.TheVariants.{Done}
+use Rattle.esto_status.specs.declared.status.Status.{Status}
+use Rattle.esto_status.specs.declared.status.Status.TheVariants.{Differs, NodeInRow}
 
 -- ---- the text
 

@@ -4,7 +4,7 @@ use Rattle.esto_constraint.specs.declared.rule.Constraint.{Constraint}
 use Rattle.esto_fill.specs.Laws.{AuditsAreOne, FactsAreOne, FillsAreOne, JudgementsAreOne, UnionAnswersAreOne}
 use Rattle.esto_semantics.specs.Rules.{IsRule}
 use Rattle.esto_opening.specs.Alike.{CataloguesOpenAlike}
-use Rattle.esto_opening.specs.FragmentsAlike.{FragmentOpensAlike, FragmentsOpenAlike, StoresHaveOneContent, StoresHaveOneFault, StoresHaveOneFile}
+use Rattle.esto_run.specs.FragmentsAlike.{FragmentOpensAlike, FragmentsOpenAlike, StoresHaveOneContent, StoresHaveOneFault, StoresHaveOneFile}
 use Rattle.esto_opening.specs.Alike.{UnionsOpenAlike}
 
 -- Constraints are rules; the same files say the same; and what they say has one outcome each: facts, answers, judgements, filled files and audits.

@@ -23,12 +23,12 @@ use Rattle.esto_semantics.specs.Queries.{ConjunctiveQuery}
 use Rattle.esto_semantics.specs.Rules.{Rule}
 use Rattle.esto_semantics.specs.declared.fact.Fact.{Fact}
 use Rattle.esto_term.specs.declared.term.Term.{Term}
-use Rattle.esto_opening.specs.Answers.{IsWant, IsCaused}
-use Rattle.esto_opening.specs.Asked.{AsksIn}
-use Rattle.esto_opening.specs.Fetch.{fetches}
-use Rattle.esto_opening.specs.declared.opening.TheConstants.{DATA_LIMIT}
-use Rattle.esto_opening.specs.declared.status.Status.{Status}
-use Rattle.esto_opening.specs.declared.status.Status.TheVariants.{NoData, BadDataset}
+use Rattle.esto_status.specs.Answers.{IsWant, IsCaused}
+use Rattle.esto_status.specs.Asked.{AsksIn}
+use Rattle.esto_status.specs.Fetch.{fetches}
+use Rattle.esto_status.specs.declared.limits.TheConstants.{DATA_LIMIT}
+use Rattle.esto_status.specs.declared.status.Status.{Status}
+use Rattle.esto_status.specs.declared.status.Status.TheVariants.{NoData, BadDataset}
 
 -- ---- which datasets are needed
 

@@ -16,22 +16,22 @@ use Rattle.esto_ports.specs.Files.{Files}
 use Rattle.esto_query.specs.Making.{query_of}
 use Rattle.esto_query.specs.declared.query.Query.{Query}
 use Rattle.esto_run.specs.Answers.{rows_text}
-use Rattle.esto_run.specs.Stores.{IsFileRow}
+use Rattle.esto_docs.specs.Stores.{IsFileRow}
 use Rattle.esto_semantics.specs.declared.fact.Fact.{Fact}
 use Rattle.esto_semantics.specs.declared.fact.Value.{Value}
 use Rattle.esto_stores.specs.Rows.{Row}
 use Rattle.esto_term.specs.declared.term.Term.{Term}
 use Rattle.esto_views.specs.Fragments.{views_of}
-use Rattle.esto_opening.specs.Fetch.{HasWithin}
-use Rattle.esto_opening.specs.Fragments.{Stored, IsReadableFragment, IsStoredAt}
-use Rattle.esto_opening.specs.Texts.{union_rows_text}
-use Rattle.esto_opening.specs.declared.status.Status.{Status}
-use Rattle.esto_opening.specs.declared.status.Status.TheVariants as status
+use Rattle.esto_status.specs.Fetch.{HasWithin}
+use Rattle.esto_run.specs.Fragments.{Stored, IsReadableFragment, IsStoredAt}
+use Rattle.esto_run.specs.Texts.{union_rows_text}
+use Rattle.esto_status.specs.declared.status.Status.{Status}
+use Rattle.esto_status.specs.declared.status.Status.TheVariants as status
 use Rattle.esto_data.specs.Answer.{IsAnswerOfFacts, IsUnionAnswerOfFacts}
 use Rattle.esto_data.specs.Audit.{audit_text}
 use Rattle.esto_data.specs.Datasets.{AreFactsOfFiles, AreNeeded, IsAny, Names, OneNames}
 use Rattle.esto_data.specs.Fill.{IsFilled, IsFirstOf, IsRowOfView, names_of}
-use Rattle.esto_opening.specs.declared.opening.TheConstants.{DATA_LIMIT}
+use Rattle.esto_status.specs.declared.limits.TheConstants.{DATA_LIMIT}
 
 -- ---- the files
 

@@ -6,4 +6,5 @@ pub mod Answer
 pub mod Audit
 pub mod Exact
 pub mod DataLaws
+pub mod Agreement
 pub mod Laws

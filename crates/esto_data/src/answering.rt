@@ -4,17 +4,20 @@ ghost use Rattle.esto_ports.specs.Faults.{Rises};
 ghost use Rattle.esto_data.specs.Coding.{IsCoded, IsCodedOf};
 ghost use Rattle.esto_fill.specs.declared.loaded.Loaded.{Loaded};
 ghost use Rattle.esto_data.specs.Answer.{IsUnionAnswerOfFacts, answer_course, answers_facts, answers_read, answers_union, lists_texts};
-ghost use Rattle.esto_opening.specs.Answers.{Answers};
-ghost use Rattle.esto_opening.specs.Asked.{AsksIn};
-ghost use Rattle.esto_opening.specs.Unions.{FormUnion};
+ghost use Rattle.esto_status.specs.Answers.{Answers};
+ghost use Rattle.esto_status.specs.Asked.{AsksIn};
+ghost use Rattle.esto_query.specs.Unions.{FormUnion};
 
 use crate::coded_answering::answer_union_coded;
 use crate::coded_data::CodedData;
 use crate::unions::load_union;
 use esto_fill::{AnswerError, answers_rest_on_wanted_facts};
 use esto_mapping::Catalogue;
-use esto_opening::{Queries, Reply, Status, open_catalogue, open_union, union_rows_text};
+use esto_opening::{open_catalogue, open_union};
 use esto_ports::Shelf;
+use esto_query::Queries;
+use esto_run::union_rows_text;
+use esto_status::{Reply, Status};
 use esto_term::{Text, TextRows};
 use std::alloc::Global;
 

@@ -7,8 +7,8 @@ ghost use Rattle.esto_fill.specs.Trials.{IsTrialOf};
 ghost use Rattle.esto_fill.specs.declared.loaded.Loaded.{Loaded};
 ghost use Rattle.esto_semantics.specs.declared.fact.Fact.{Fact};
 ghost use Rattle.esto_term.specs.declared.term.Term.{Term};
-ghost use Rattle.esto_opening.specs.Answers.{Answers};
-ghost use Rattle.esto_opening.specs.Asked.{AsksIn};
+ghost use Rattle.esto_status.specs.Answers.{Answers};
+ghost use Rattle.esto_status.specs.Asked.{AsksIn};
 ghost use Rattle.esto_data.specs.Audit.{HoldContents, HoldsAudit, audit_course, audit_text, audits_catalogue, audits_facts, audits_rows, judges_views, tells};
 ghost use Rattle.esto_data.specs.Datasets.{HoldsFiles};
 
@@ -20,8 +20,9 @@ use crate::kept::load_all;
 use crate::opened::open_all_rows;
 use esto_fill::{AnswerError, LoadList, Trial, trial_of};
 use esto_mapping::Catalogue;
-use esto_opening::{Reply, Status, open_catalogue};
+use esto_opening::open_catalogue;
 use esto_ports::Shelf;
+use esto_status::{Reply, Status};
 use esto_term::{Bytes, OutOfMemory, Text};
 use std::alloc::Global;
 

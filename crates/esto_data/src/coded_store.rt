@@ -1,8 +1,8 @@
 //! The rows of fragments' files, put as rows of codes.
 ghost use Rattle.std.specs.Prelude.{◌≡◌, ◌++◌, ◌∷◌, [], List, length, Contains, OnOk};
-ghost use Rattle.esto_mapping.specs.Soundness.{IsShapeFor};
+ghost use Rattle.esto_docmodel.specs.Stores.{IsShapeFor};
 ghost use Rattle.esto_columns.specs.Interned.{Grows};
-ghost use Rattle.esto_run.specs.Stores.{IsRowIn, first_fault_in};
+ghost use Rattle.esto_docs.specs.Stores.{IsRowIn, first_fault_in};
 ghost use Rattle.esto_stores.specs.Keys.{key_fault, key_rows};
 ghost use Rattle.esto_stores.specs.Rows.{Row};
 ghost use Rattle.esto_stores.specs.Table.{table_fault, table_rows};
@@ -11,9 +11,9 @@ ghost use Rattle.esto_fill.specs.declared.loaded.Loaded.{Loaded};
 
 use crate::coded_audit::CodedRowsList;
 use crate::coded_data::CodedData;
+use esto_docs::open_store;
 use esto_mapping::{Shape, Store};
 use esto_ports::FileError;
-use esto_run::open_store;
 use esto_term::{OutOfMemory, TextRow, TextRows};
 use esto_views::FragmentDef;
 use std::alloc::Global;

@@ -10,7 +10,7 @@ ghost use Rattle.esto_semantics.specs.declared.fact.Fact.{Fact};
 ghost use Rattle.esto_stores.specs.Rows.{Row};
 ghost use Rattle.esto_term.specs.declared.term.Term.{Term};
 ghost use Rattle.esto_views.specs.Fragments.{views_of};
-ghost use Rattle.esto_opening.specs.Answers.{Answers};
+ghost use Rattle.esto_status.specs.Answers.{Answers};
 ghost use Rattle.esto_data.specs.Audit.{AddsTexts, AreFactsToAudit, AreRowsOfFiles, HoldContents, HoldSameRows, HoldsAudit, compares};
 
 use crate::coded_audit::{CodedRowsList, agree_coded};
@@ -21,7 +21,7 @@ use esto_fill::{
     LoadList, Loaded, TextRowsList, Trial, audit_tried, audits_are_over_files, outcomes_are_one,
 };
 use esto_mapping::Catalogue;
-use esto_opening::Status;
+use esto_status::Status;
 use esto_term::{List, OutOfMemory};
 use std::alloc::Global;
 

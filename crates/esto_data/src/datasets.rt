@@ -3,8 +3,8 @@
 ghost use Rattle.std.specs.Prelude.{◌≡◌, ◌↔◌, ◌<◌, ◌≤◌, [], ◌∷◌, ℕ, IsTrue, length, slice_get, Some, Contains, IfOk, OnOk};
 ghost use Rattle.esto_mapping.specs.declared.dataset.Dataset.{Dataset};
 ghost use Rattle.esto_ports.specs.Faults.{Rises};
-ghost use Rattle.esto_opening.specs.Answers.{Answers};
-ghost use Rattle.esto_opening.specs.Asked.{AsksIn};
+ghost use Rattle.esto_status.specs.Answers.{Answers};
+ghost use Rattle.esto_status.specs.Asked.{AsksIn};
 ghost use Rattle.esto_data.specs.Coding.{IsOver};
 ghost use Rattle.esto_fill.specs.declared.wanted.Wanted.TheVariants.{Asked};
 ghost use Rattle.esto_data.specs.Datasets.{AddsNeeded, AreNeeded, HasRelation, HoldsLeft, IsSourceAt, Loads, LoadsAsking, LoadsFiles, LoadsMore, Names};
@@ -14,9 +14,9 @@ use crate::coded_data::{CodedData, no_data};
 use crate::coded_load::load_coded;
 use esto_fill::{Wanted, wanted_by_body};
 use esto_mapping::{Catalogue, Dataset, Datasets, relation_count};
-use esto_opening::{DATA_LIMIT, Status, fetch};
 use esto_ports::{FileError, Shelf};
 use esto_semantics::{Atom, Atoms};
+use esto_status::{DATA_LIMIT, Status, fetch};
 use esto_term::{Bytes, OutOfMemory, Places, Replicate, Values};
 use std::alloc::Global;
 

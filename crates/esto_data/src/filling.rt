@@ -1,9 +1,9 @@
 //! The command `fill`.
 ghost use Rattle.std.specs.Prelude.{◌≡◌, ◌<◌, ◌≤◌, length, IsTrue, ◌↔◌};
-ghost use Rattle.esto_opening.specs.Fragments.{Stored, IsStoredAt};
+ghost use Rattle.esto_run.specs.Fragments.{Stored, IsStoredAt};
 ghost use Rattle.esto_ports.specs.Faults.{Rises};
-ghost use Rattle.esto_opening.specs.Answers.{Answers};
-ghost use Rattle.esto_opening.specs.Asked.{AsksIn};
+ghost use Rattle.esto_status.specs.Answers.{Answers};
+ghost use Rattle.esto_status.specs.Asked.{AsksIn};
 ghost use Rattle.esto_data.specs.Coding.{IsCoded, IsCodedOf};
 ghost use Rattle.esto_fill.specs.declared.loaded.Loaded.{Loaded};
 ghost use Rattle.esto_data.specs.Fill.{fill_course, fill_status, fills_file, fills_fragment, fills_named, finds_fragment, make_course};
@@ -13,8 +13,9 @@ use crate::coded_filled::fill_coded;
 use crate::datasets::load_named;
 use esto_fill::{FillError, answers_rest_on_wanted_facts};
 use esto_mapping::{Catalogue, catalogues_are_sound};
-use esto_opening::{Reply, Status, open_catalogue};
+use esto_opening::open_catalogue;
 use esto_ports::Shelf;
+use esto_status::{Reply, Status};
 use esto_term::{Bytes, Replicate, Text};
 use esto_views::FragmentDef;
 use std::alloc::Global;

@@ -2,8 +2,8 @@
 ghost use Rattle.std.specs.Prelude.{◌≡◌, ◌≤◌, ◌<◌, ◌∷◌, [], ◌++◌, ℕ, List, None, Some, length, slice_get, Contains, IfOk};
 ghost use Rattle.esto_mapping.specs.declared.dataset.Dataset.{Dataset};
 ghost use Rattle.esto_ports.specs.Faults.{Rises};
-ghost use Rattle.esto_opening.specs.Answers.{Answers};
-ghost use Rattle.esto_opening.specs.Asked.{AsksIn};
+ghost use Rattle.esto_status.specs.Answers.{Answers};
+ghost use Rattle.esto_status.specs.Asked.{AsksIn};
 ghost use Rattle.esto_data.specs.Coding.{IsCodedFrom, IsOver};
 ghost use Rattle.esto_fill.specs.Files.{AreReadable, IsLoadedFrom, dataset_fault};
 ghost use Rattle.esto_fill.specs.declared.datasets.DatasetBytes.{DatasetBytes};
@@ -13,8 +13,8 @@ use crate::coded_data::CodedData;
 use crate::datasets::{demand_files, load_next};
 use esto_fill::{DatasetBytes, LoadList, Loaded, Wanted, load_dataset, nothing_loaded};
 use esto_mapping::{Catalogue, Datasets};
-use esto_opening::Status;
 use esto_ports::{FileError, Shelf};
+use esto_status::Status;
 use esto_term::{List, OutOfMemory, Places, Values};
 use std::alloc::Global;
 

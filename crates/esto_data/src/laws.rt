@@ -1,4 +1,5 @@
 //! Laws of the commands on data.
+ghost use Rattle.esto_data.specs.Agreement.{AgreeingAnswersAreOne, AgreeingAnswersAreTexts};
 ghost use Rattle.esto_data.specs.DataLaws.{DataLaws};
 ghost use Rattle.esto_data.specs.Laws.{AnswersAreExact, AnswersAreOne, AuditsAreExact, AuditsAreOne, AuditsRefuse, FillsAreExact, FillsAreOne};
 ghost use Rattle.esto_data.specs.Laws.{MakesAreOne, RepliesAreAudited, UnionAnswersAreExact};
@@ -6,7 +7,8 @@ ghost use Rattle.esto_data.specs.Laws.{MakesAreOne, RepliesAreAudited, UnionAnsw
 use esto_constraint::rules_are_sound;
 use esto_fill::{answers_rest_on_their_datasets, outcomes_are_one};
 use esto_mapping::catalogues_are_sound;
-use esto_opening::{fragment_files_are_one, opened_unions_are_queries, openings_are_one};
+use esto_opening::{opened_unions_are_queries, openings_are_one};
+use esto_run::{fragment_files_are_one, rewritings_answer_queries};
 
 // The laws by which the commands on data are determined, together.
 fn data_laws_hold()
@@ -54,4 +56,13 @@ pub fn audited_datasets_answer()
     opened_unions_are_queries();
     answers_rest_on_their_datasets();
     data_laws_hold();
+}
+
+/// A law: where a database meets the rules and the files of fragments hold exactly their views' rows, a query that has a
+/// rewriting has answers of texts alone, and these are exactly the answers of each rewriting's candidate over the files.
+pub fn agreeing_answers_are_one()
+    ensures texts { AgreeingAnswersAreTexts }
+    ensures rows { AgreeingAnswersAreOne }
+{
+    rewritings_answer_queries();
 }

@@ -24,4 +24,7 @@ mod unions;
 pub use answering::answer;
 pub use auditing::audit;
 pub use filling::fill;
-pub use laws::{audited_datasets_answer, data_outcomes_are_exact, data_outcomes_are_one};
+pub use laws::{
+    agreeing_answers_are_one, audited_datasets_answer, data_outcomes_are_exact,
+    data_outcomes_are_one,
+};

@@ -1,19 +1,19 @@
 //! The rows of the files of all fragments, as rows of codes.
 ghost use Rattle.std.specs.Prelude.{◌≡◌, ◌<◌, ◌≤◌, length, OnOk};
-ghost use Rattle.esto_mapping.specs.Soundness.{IsShapeFor};
+ghost use Rattle.esto_docmodel.specs.Stores.{IsShapeFor};
 ghost use Rattle.esto_data.specs.CodedParts.{Stays};
 ghost use Rattle.esto_data.specs.Coding.{IsCoded};
-ghost use Rattle.esto_opening.specs.Fragments.{reads_content};
+ghost use Rattle.esto_run.specs.Fragments.{reads_content};
 ghost use Rattle.esto_ports.specs.Faults.{Rises};
-ghost use Rattle.esto_opening.specs.Answers.{Answers};
+ghost use Rattle.esto_status.specs.Answers.{Answers};
 ghost use Rattle.esto_data.specs.Audit.{AddsRows, OpensNextRows, OpensRows};
 
 use crate::coded_audit::CodedRowsList;
 use crate::coded_data::CodedData;
 use crate::coded_store::code_store;
 use esto_mapping::{Catalogue, Store, catalogues_are_sound};
-use esto_opening::{DATA_LIMIT, Status, fetch};
 use esto_ports::{FileError, Shelf};
+use esto_status::{DATA_LIMIT, Status, fetch};
 use esto_term::{Bytes, List, Replicate};
 use esto_views::FragmentDef;
 use std::alloc::Global;

@@ -8,9 +8,9 @@ use crate::coded_data::CodedData;
 use crate::datasets::{demand_files, load_files, names};
 use esto_fill::wanted_by_queries;
 use esto_mapping::{Catalogue, Dataset, Datasets};
-use esto_opening::{Queries, Status};
 use esto_ports::Shelf;
-use esto_query::Query;
+use esto_query::{Queries, Query};
+use esto_status::Status;
 use esto_term::{OutOfMemory, Places, Values};
 use std::alloc::Global;
 

@@ -10,7 +10,7 @@ ghost use Rattle.esto_chase_laws.specs.WorldMatches.{Fits};
 ghost use Rattle.esto_chase_laws.specs.WorldSteps.{AreJoined};
 ghost use Rattle.esto_chase_laws.specs.Worlds.{AreOfCount, InWorld, Linked};
 ghost use Rattle.esto_derive.specs.Marking.{AreUsed};
-ghost use Rattle.esto_backchase.specs.Evidence.{AreEntriesOf};
+ghost use Rattle.esto_condchase.specs.Evidence.{AreEntriesOf};
 ghost use Rattle.esto_cert.specs.Judging.{DecidesFor};
 ghost use Rattle.esto_derive.specs.Searching.{AreLinks};
 ghost use Rattle.esto_derive.specs.Writing.{terms_at, IsWritten, IsWrittenFor};
@@ -23,9 +23,9 @@ ghost use Rattle.esto_views.specs.Plans.{plan_query};
 use crate::marking::close;
 use crate::searching::World;
 use crate::writing::{Writer, terms_at};
-use esto_backchase::entries_decide_answers;
 use esto_bits::RowBits;
 use esto_chase_laws::derived_entries_are_reasoned;
+use esto_condchase::entries_decide_answers;
 use esto_constraint::Constraint;
 use esto_mapping::Catalogue;
 use esto_prov::{Entries, Entry, followed, terms_of};
@@ -142,7 +142,8 @@ pub fn write_certificate(
     requires satisfiable { IsSatisfiable (rules_of catalogue.now.rules) (query_of query.now) }
     requires listed { IsListed (rules_of catalogue.now.rules) (views_of catalogue.now.fragments)
         (patterns_of catalogue.now.fragments) (query_of query.now) (plan_query plan.now) set.now }
-    requires entries { AreEntriesOf catalogue.now plan.now entries.now }
+    requires entries { AreEntriesOf catalogue.now.fragments catalogue.now.rules catalogue.now.ranks
+        plan.now entries.now }
     requires joined { AreJoined entries.now entries.now }
     ensures written { IfOk result
         (IsWrittenFor catalogue.now query.now plan.now set.now entries.now) }

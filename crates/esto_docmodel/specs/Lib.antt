@@ -14,3 +14,4 @@ pub mod Valuations
 pub mod Matching
 pub mod Asking
 pub mod Words
+pub mod Stores

@@ -22,7 +22,7 @@ pub use documents::{encode_document, encode_documents, put_document};
 pub use encode::{Encoded, EncodedAtoms, encode_pattern};
 pub use fact_sink::FactSink;
 pub use field::FieldOf;
-pub use file::Layout;
+pub use file::{Layout, Shape, Store, Stores};
 pub use kept::{Kept, KeptTexts};
 pub use laws::{documents_meet_the_rules, encodings_mean_the_same, matches_rest_on_their_terms};
 pub use layout::{MAX_LAYOUT_DEPTH, is_layout, path_of};

@@ -16,3 +16,5 @@ pub mod PlaceLemmas
 pub mod GroupLemmas
 pub mod WriteLemmas
 pub mod EncodingLemmas
+pub mod StoreLemmas
+pub mod CodedStoreLemmas

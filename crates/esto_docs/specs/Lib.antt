@@ -8,3 +8,5 @@ pub mod Plain
 pub mod Laws
 pub mod Written
 pub mod Encoding
+pub mod Stores
+pub mod Coded

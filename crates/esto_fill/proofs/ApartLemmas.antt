@@ -30,9 +30,6 @@ module _ {A : Type 0} (cmp : A → A → Ordering) (total : IsTotalOrder cmp) wh
   abbrev pub AreSameBelow : List A → List A → ℕ → Type 0
   AreSameBelow xs ys bound = (place : ℕ) → place < bound → slice_get xs place ≡ slice_get ys place
 
-  pub none_below : (xs ys : List A) → AreSameBelow xs ys 0
-  none_below xs ys place below = absurd (omega (arith, below))
-
   pub one_below : (xs ys : List A) (bound : ℕ) → slice_get xs bound ≡ slice_get ys bound → AreSameBelow xs ys bound → AreSameBelow xs ys (bound + 1)
   one_below xs ys bound here same place below = elim (cases_order place bound) [
     | inl is ↦ ap (slice_get xs) is ∙ here ∙ ap (slice_get ys) (sym is)

@@ -162,9 +162,6 @@ module _ (fragments : List FragmentDef) (database : Database) (rows : List (List
   abbrev pub AreOneBelow : ℕ → Type 0
   AreOneBelow count = (number : ℕ) → number < count → AreOne (OfView number) (OfFile number)
 
-  pub none_below : AreOneBelow 0
-  none_below number below = absurd (omega (arith, below))
-
   module _ (number : ℕ) (fragment : FragmentDef) (held : List Row) (there : slice_get fragments number ≡ Some fragment)
       (rows_there : slice_get rows number ≡ Some held) where
     abbrev OwnRows : List Value → Type 0

@@ -1,12 +1,12 @@
 -- The text of a fragment's file, and what it says when it is read.
 use Rattle.std.proofs.Common.{◌≡◌, ◌↔◌, ℕ, Bool, true, false, if◌then◌else◌, List, ◌++◌, length, map, get_or, Option, None, Some, Contains, refl, sym}
 use Rattle.std.proofs.Common.{ap, ◌∙◌, subst}
-use Rattle.std.specs.Prelude.{All, IfSome, Ok, Err, drop, nat_eq}
+use Rattle.std.specs.Prelude.{All, IfSome, Ok, drop, nat_eq}
 use Rattle.std.specs.List.{starts_with}
 use Rattle.std.proofs.lemmas.List.{length-map}
 use Rattle.std.proofs.lemmas.List.Elements.{Contains-get_or}
-use Rattle.esto_mapping.specs.declared.catalogue.Shape.{Shape}
-use Rattle.esto_mapping.specs.declared.catalogue.Shape.TheVariants.{Table, Documents, Keys}
+use Rattle.esto_docmodel.specs.declared.file.Shape.{Shape}
+use Rattle.esto_docmodel.specs.declared.file.Shape.TheVariants.{Documents}
 use Rattle.esto_ports.specs.declared.mark.TheConstants.{MARK}
 use Rattle.esto_docmodel.specs.Layouts.{IsLayout}
 use Rattle.esto_docmodel.specs.Shapes.{entries_of}
@@ -14,22 +14,16 @@ use Rattle.esto_docmodel.specs.declared.pattern.Pattern.{Pattern}
 use Rattle.esto_docs.specs.Files.{file_trees, trees_fault}
 use Rattle.esto_docs.specs.Rows.{IsRowOf}
 use Rattle.esto_docmodel.specs.declared.file.Layout.{Layout}
-use Rattle.esto_run.proofs.StoreLemmas.{documents_give}
+use Rattle.esto_docs.proofs.StoreLemmas.{documents_give}
 use Rattle.esto_semantics.specs.Facts.{Database}
 use Rattle.esto_semantics.specs.Queries.{ConjunctiveQuery, IsAnswer}
 use Rattle.esto_semantics.specs.declared.fact.Value.{Value}
 use Rattle.esto_semantics.specs.declared.fact.Value.TheVariants.{Text}
 use Rattle.esto_semantics.proofs.ValueLemmas.{same_texts}
-use Rattle.esto_stores.specs.Keys.{key_rows, key_fault}
 use Rattle.esto_stores.specs.Rows.{Row}
-use Rattle.esto_stores.specs.Table.{table_rows, table_fault}
-use Rattle.esto_fill.specs.Filled.{Fills, IsOpenedAs, SaysRows, refusal_of, with_mark}
+use Rattle.esto_fill.specs.Filled.{IsOpenedAs, SaysRows, with_mark}
 use Rattle.esto_ports.specs.Marks.{without_mark}
-use Rattle.esto_fill.specs.Placing.{WritesRows}
-use Rattle.esto_fill.specs.Texts.{AreTextsOf, AreExactly, GivesTexts}
-use Rattle.esto_fill.specs.declared.filled.FillError.{FillError}
-use Rattle.esto_fill.specs.declared.filled.FillError.TheVariants.{NodeInRow, KeyText, OutOfMemory}
-use Rattle.esto_fill.specs.declared.rows.AnswerError.{AnswerError}
+use Rattle.esto_fill.specs.Texts.{AreExactly}
 use Rattle.esto_fill.specs.declared.rows.AnswerError.TheVariants as answer
 
 -- ---- marks
@@ -58,19 +52,6 @@ rows_wide query database rows exact k d below =
 
 -- ---- what a text says
 
-pub table_says : (columns : Row) (width : ℕ) (rows : List Row) (text : List ℕ) → table_rows columns text ≡ rows → table_fault columns text ≡ None
-    → SaysRows (Table columns) width rows text
-table_says columns width rows text read none = record {
-  no_fault = none;
-  rows_are = λ row. ((λ inside. subst (λ those. Contains those row) read inside), (λ inside. subst (λ those. Contains those row) (sym read) inside));
-}
-
-pub keys_say : (width : ℕ) (rows : List Row) (text : List ℕ) → key_rows text ≡ rows → key_fault width text ≡ None → SaysRows Keys width rows text
-keys_say width rows text read none = record {
-  no_fault = none;
-  rows_are = λ row. ((λ inside. subst (λ those. Contains those row) read inside), (λ inside. subst (λ those. Contains those row) (sym read) inside));
-}
-
 pub documents_say : (width : ℕ) (layout : Layout) (pattern : Pattern) (rows : List Row) (text : List ℕ) → IsLayout width (entries_of pattern.entries)
     → ((row : Row) → IsRowOf width (entries_of pattern.entries) (file_trees layout text) row ↔ Contains rows row) → trees_fault layout text ≡ None
     → SaysRows (Documents layout pattern) width rows text
@@ -94,18 +75,3 @@ opened_as shape width Rows rows text file exact says is = subst (IsOpenedAs shap
     (λ there. (says.rows_are row).1 ((in_rows Rows rows exact row).1 there)),
   );
 })
-
-pub filled : (shape : Shape) (Rows : List Value → Type 0) (rows : List Row) (text file : List ℕ) → AreTextsOf Rows rows → WritesRows shape rows (Ok text)
-    → file ≡ with_mark text → Fills shape Rows (Ok file)
-filled shape Rows rows text file are written is = (rows, are, written.0, is ∙ ap with_mark written.1)
-
-pub unfilled : (shape : Shape) (Rows : List Value → Type 0) (rows : List Row) (error : FillError) → AreTextsOf Rows rows → WritesRows shape rows (Err error)
-    → Fills shape Rows (Err error)
-unfilled shape Rows rows (NodeInRow column) are written = absurd written
-unfilled shape Rows rows (KeyText cell) are written = (written.0, (rows, are, written.1))
-unfilled shape Rows rows OutOfMemory are written = tt
-
-pub refused : (shape : Shape) (Rows : List Value → Type 0) (error : AnswerError) (refusal : FillError) → GivesTexts Rows (Err error)
-    → refusal ≡ refusal_of error → Fills shape Rows (Err refusal)
-refused shape Rows (answer.NodeInRow column) refusal given is = subst (λ it. Fills shape Rows (Err it)) (sym is) given
-refused shape Rows answer.OutOfMemory refusal given is = subst (λ it. Fills shape Rows (Err it)) (sym is) tt

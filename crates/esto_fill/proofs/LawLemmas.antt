@@ -1,40 +1,34 @@
--- What files, answers, views and filled files come to is one, and agreement.
-use Rattle.std.proofs.Common.{◌≡◌, ◌≢◌, ◌↔◌, inl, inr, ℕ, ◌+◌, List, [], ◌∷◌, ◌++◌, map, None, Some, slice_get, Contains, refl, sym, ap, ◌∙◌, subst, arith}
+-- What files, answers, views and filled files come to is one.
+use Rattle.std.proofs.Common.{◌≡◌, ◌≢◌, inl, inr, ℕ, ◌+◌, List, [], ◌∷◌, ◌++◌, map, None, Some, slice_get, refl, sym, ap, ◌∙◌, subst, arith}
 use Rattle.std.specs.Prelude.{Result, Ok, Err}
 use Rattle.std.proofs.lemmas.Bool.{cases_order}
 use Rattle.std.proofs.lemmas.Option.{get_or_from_slice_get, none-some, same_Some, slice_get_within}
 use Rattle.esto_mapping.specs.Catalogues.{shape_as, stored_as}
-use Rattle.esto_mapping.specs.declared.catalogue.Shape.{Shape}
-use Rattle.esto_mapping.specs.declared.catalogue.Shape.TheVariants.{Table, Documents, Keys}
-use Rattle.esto_mapping.specs.declared.catalogue.Store.{Store}
+use Rattle.esto_docmodel.specs.declared.file.Shape.{Shape}
+use Rattle.esto_docmodel.specs.declared.file.Shape.TheVariants.{Table, Documents, Keys}
+use Rattle.esto_docmodel.specs.declared.file.Store.{Store}
 use Rattle.esto_mapping.specs.declared.dataset.Dataset.{Dataset}
 use Rattle.esto_docmodel.specs.declared.words.DataModel.{DataModel}
 use Rattle.esto_docmodel.specs.Shapes.{entries_of}
 use Rattle.esto_docs.specs.Documents.{document, documents_text}
 use Rattle.esto_relmodel.specs.Once.{StandsBefore, AreEachOnce}
 use Rattle.esto_relmodel.specs.RowFacts.{row_fact, AreRowFacts}
-use Rattle.esto_run.proofs.UsedLemmas.{one_list}
-use Rattle.esto_run.specs.Answers.{AreRising}
-use Rattle.esto_run.specs.Laws.{FilesHoldViewRows, IsAnswerOver, RisingRowsAreOne, RewritingsAnswerQueries}
-use Rattle.esto_run.specs.Stores.{IsFileRow}
+use Rattle.esto_columns.proofs.RisingLemmas.{one_by_before}
+use Rattle.esto_columns.specs.Lent.{RisingRowsAreOne}
 use Rattle.esto_semantics.specs.Facts.{Database}
-use Rattle.esto_semantics.specs.Listed.{candidate}
 use Rattle.esto_semantics.specs.Queries.{ConjunctiveQuery, IsAnswer}
 use Rattle.esto_semantics.specs.Unions.{IsUnionAnswer}
 use Rattle.esto_semantics.specs.declared.fact.Fact.{Fact}
 use Rattle.esto_semantics.specs.declared.fact.Value.{Value}
 use Rattle.esto_semantics.specs.declared.fact.Value.TheVariants.{Text, Node}
-use Rattle.esto_semantics.proofs.ValueLemmas.{same_texts}
 use Rattle.esto_stores.specs.KeyText.{row_fault}
 use Rattle.esto_stores.specs.Rows.{Row}
 use Rattle.esto_stores.specs.TableText.{table_text}
 use Rattle.esto_term.specs.declared.term.Term.{Term}
 use Rattle.esto_term.proofs.ListLemmas.{Contains-at, map_at-from}
-use Rattle.esto_fill.specs.Differences.{HoldViewRows}
 use Rattle.esto_fill.specs.Files.{nodes_in, AreFactsByModel, AreFactsOf, AreFactsFrom, dataset_fault}
 use Rattle.esto_fill.specs.Filled.{CanHold, Fills, IsFirstUnfit, text_in, with_mark}
 use Rattle.esto_fill.specs.Laws.{FactsAreOne, FaultsAreOne, ReadableHaveNone, AnswersAreOne, UnionAnswersAreOne, JudgementsAreOne, FillsAreOne}
-use Rattle.esto_fill.specs.Laws.{AgreeingAnswersAreTexts, AgreeingAnswersAreOne}
 use Rattle.esto_fill.specs.Texts.{AreExactly, AreTextsOf, AreTextViews, GivesTexts, HasNodeIn, HaveTextsOnly, IsFirstNodeColumn, IsFirstNodeView, IsTextRow}
 use Rattle.esto_fill.specs.declared.datasets.DatasetBytes.{DatasetBytes}
 use Rattle.esto_fill.specs.declared.filled.FillError.{FillError}
@@ -55,7 +49,7 @@ before_both things one other (place, there, first) (its, at_its, second) =
 
 pub once_one : {X : Type 0} (things kept others : List X) → AreEachOnce things kept → AreEachOnce things others → kept ≡ others
 once_one things kept others once too =
-    one_list (StandsBefore things) kept others (λ x inside. before_itself things x) (λ x y inside there. before_both things x y) once.in_order too.in_order
+    one_by_before (StandsBefore things) kept others (λ x inside. before_itself things x) (λ x y inside there. before_both things x y) once.in_order too.in_order
     (λ z. ((λ inside. (too.same z).1 ((once.same z).0 inside)), (λ inside. (once.same z).1 ((too.same z).0 inside))))
 
 pub row_facts_one : (relation : ℕ) (rows : List Row) (facts others : List (Fact Term)) → AreRowFacts relation rows facts → AreRowFacts relation rows others
@@ -254,49 +248,3 @@ fills_alike store its Rows (Err filled.OutOfMemory) same given = tt
 pub fills_are_one : (law : RisingRowsAreOne) → FillsAreOne
 fills_are_one law store its view database result other same one two =
     filled_one law store.shape (IsAnswer view database) result other one (fills_alike store its (IsAnswer view database) other same two)
-
--- ---- agreement
-
-files_hold : (views : List ConjunctiveQuery) (database : Database) (query : ConjunctiveQuery) (stores : List Store) (files : ℕ → List ℕ)
-    → HoldViewRows views database (IsFileRow stores files) → FilesHoldViewRows views database query stores files
-files_hold views database query stores files hold fact atom inside same = hold fact
-
-pub texts_agree : (law : RewritingsAnswerQueries) → AgreeingAnswersAreTexts
-texts_agree law rules views patterns query plan set stores files database rewriting agree values answers =
-    let found = (law rules views patterns query plan set stores files database rewriting agree.meets
-    (files_hold views database (candidate plan set) stores files agree.rows) values).0 answers in
-    (found.0, found.1)
-
-pub answers_agree : (law : RewritingsAnswerQueries) → AgreeingAnswersAreOne
-answers_agree law rules views patterns query plan set stores files database rows rewriting agree = (there, back)
-  where
-    Over : Row → Type 0
-    Over row = IsAnswerOver (IsFileRow stores files) (candidate plan set) row
-
-    over : (values : List Value) → IsAnswer query database values ↔ ((row : Row) × (values ≡ map Text row) × Over row)
-    over = law rules views patterns query plan set stores files database rewriting agree.meets
-        (files_hold views database (candidate plan set) stores files agree.rows)
-
-    of_row : (row : Row) → IsAnswer query database (map Text row) ↔ Over row
-    of_row row = (
-      (λ answers. let found = (over (map Text row)).0 answers in subst Over (sym (same_texts row found.0 found.1)) found.2),
-      (λ there. (over (map Text row)).1 (row, refl, there)),
-    )
-
-    there : AreTextsOf (IsAnswer query database) rows → ((row : Row) → Contains rows row ↔ Over row) × AreRising rows
-    there are = (
-      (λ row. (
-        (λ inside. (of_row row).0 ((in_rows (IsAnswer query database) rows are.exact row).0 inside)),
-        (λ answers. (in_rows (IsAnswer query database) rows are.exact row).1 ((of_row row).1 answers)),
-      )),
-      are.rising,
-    )
-
-    back : ((row : Row) → Contains rows row ↔ Over row) × AreRising rows → AreTextsOf (IsAnswer query database) rows
-    back (same, rising) = record {
-      exact = λ values. (
-        (λ answers. let found = (over values).0 answers in (found.0, (same found.0).1 found.2, found.1)),
-        (λ (row, inside, is). (over values).1 (row, is, (same row).0 inside)),
-      );
-      rising = rising;
-    }

@@ -4,7 +4,6 @@ pub mod TextLemmas
 pub mod ApartLemmas
 pub mod RecordLemmas
 pub mod WantedLemmas
-pub mod SameLemmas
 pub mod FileLemmas
 pub mod FilledLemmas
 pub mod NodeLemmas

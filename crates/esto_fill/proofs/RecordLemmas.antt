@@ -36,9 +36,6 @@ module _ (names : List Name) where
   pub adds_none : (old : List Term) → AddsNamed names [] old old
   adds_none old things once = subst (λ those. AreEachOnce those old) (sym (append-nil things)) once
 
-  pub adds_unnamed : (term : Term) (old : List Term) → is_named names term ≡ false → AddsNamed names (term ∷ []) old old
-  adds_unnamed term old told = adds_by term false old old told (adds_none old)
-
   pub adds_known : (term : Term) (old : List Term) → is_named names term ≡ true → Contains old term → AddsNamed names (term ∷ []) old old
   adds_known term old told inside = adds_by term true old old told (λ things once. one_more false old old term (inside, refl) things once)
 
@@ -80,7 +77,3 @@ module _ (names : List Name) where
       same = sym (filter-append (is_named names) (terms_of (take count body)) atom.terms)
           ∙ ap (filter (is_named names)) (ap (λ last. terms_of (take count body) ++ last) (sym (append-nil atom.terms))
           ∙ sym (flat_map-append (λ (fact : Fact Term). fact.terms) (take count body) (atom ∷ [])))
-
-  pub named_all : (body : List (Fact Term)) (count : ℕ) (variables : List Term) → length body ≤ count → AreNamedVariables names (take count body) variables
-      → AreNamedVariables names body variables
-  named_all body count variables past = subst (λ those. AreNamedVariables names those variables) (take_all count body past)

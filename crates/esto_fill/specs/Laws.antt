@@ -1,18 +1,14 @@
 -- What laws on datasets' facts and fragments' rows say.
-use Rattle.std.specs.Prelude.{◌≡◌, ◌≢◌, ◌↔◌, ℕ, Bool, List, map, Contains, Option, Result, Err}
+use Rattle.std.specs.Prelude.{◌≡◌, ◌≢◌, ◌↔◌, ℕ, List, map, Contains, Option, Result, Err}
 use Rattle.esto_mapping.specs.Catalogues.{stored_as}
-use Rattle.esto_mapping.specs.declared.catalogue.Store.{Store}
+use Rattle.esto_docmodel.specs.declared.file.Store.{Store}
 use Rattle.esto_mapping.specs.declared.dataset.Dataset.{Dataset}
 use Rattle.esto_semantics.specs.Rules.{AreMet}
 use Rattle.esto_steps.specs.Rows.{IsRowOf, held_by}
 use Rattle.esto_ports.specs.declared.file_fault.FileFault.{FileFault}
 use Rattle.esto_query.specs.declared.query.Name.{Name}
-use Rattle.esto_run.specs.Answers.{AreRising}
-use Rattle.esto_run.specs.Laws.{IsAnswerOver}
-use Rattle.esto_run.specs.Stores.{IsFileRow}
-use Rattle.esto_semantics.specs.Access.{Patterns}
+use Rattle.esto_docs.specs.Stores.{IsFileRow}
 use Rattle.esto_semantics.specs.Facts.{Database}
-use Rattle.esto_semantics.specs.Listed.{candidate, IsRewriting}
 use Rattle.esto_semantics.specs.Maps.{AreFlat}
 use Rattle.esto_semantics.specs.Queries.{ConjunctiveQuery, IsAnswer}
 use Rattle.esto_semantics.specs.Rules.{Rule, AreRules}
@@ -24,10 +20,10 @@ use Rattle.esto_semantics.specs.declared.fact.Value.TheVariants.{Text}
 use Rattle.esto_stores.specs.Rows.{Row}
 use Rattle.esto_term.specs.declared.term.Term.{Term}
 use Rattle.esto_fill.specs.Databases.{value_of, database_of}
-use Rattle.esto_fill.specs.Differences.{Agree, Audits}
+use Rattle.esto_fill.specs.Differences.{Audits}
 use Rattle.esto_fill.specs.Files.{AreApart, AreFactsFrom, AreReadable, HasRelation, HaveRisingNames, IsFirstFault}
 use Rattle.esto_fill.specs.Filled.{Fills}
-use Rattle.esto_fill.specs.Texts.{AreTextsOf, GivesTexts, HaveTextsOnly, JudgesViews}
+use Rattle.esto_fill.specs.Texts.{GivesTexts, HaveTextsOnly, JudgesViews}
 use Rattle.esto_ports.specs.declared.difference.Difference.{Difference}
 use Rattle.esto_fill.specs.declared.datasets.DatasetBytes.{DatasetBytes}
 use Rattle.esto_fill.specs.declared.filled.FillError.{FillError}
@@ -146,21 +142,3 @@ AuditsAreOverFiles =
     (stores : List Store) (files : ℕ → List ℕ) (rows : List (List Row)) (result : Option Difference)
     → ((fact : Fact (List ℕ)) → IsRowOf (held_by rows) fact ↔ IsFileRow stores files fact)
     → Audits rules names fragments views facts (IsRowOf (held_by rows)) result ↔ Audits rules names fragments views facts (IsFileRow stores files) result
-
--- ---- agreement
-
--- Where facts and files agree, each answer of a query over the facts is a row of texts, where the query has a rewriting.
-abbrev pub AgreeingAnswersAreTexts : Type 0
-AgreeingAnswersAreTexts =
-    (rules : List Rule) (views : List ConjunctiveQuery) (patterns : Patterns) (query plan : ConjunctiveQuery) (set : List Bool) (stores : List Store)
-    (files : ℕ → List ℕ) (database : Database)
-    → IsRewriting rules views patterns query plan set → Agree rules views database (IsFileRow stores files) → HaveTextsOnly (IsAnswer query database)
-
--- And rows are the list of its answers over the facts exactly where they are that of the answers of the rewriting's candidate over the files.
-abbrev pub AgreeingAnswersAreOne : Type 0
-AgreeingAnswersAreOne =
-    (rules : List Rule) (views : List ConjunctiveQuery) (patterns : Patterns) (query plan : ConjunctiveQuery) (set : List Bool) (stores : List Store)
-    (files : ℕ → List ℕ) (database : Database) (rows : List Row)
-    → IsRewriting rules views patterns query plan set → Agree rules views database (IsFileRow stores files)
-    → AreTextsOf (IsAnswer query database) rows
-    ↔ (((row : Row) → Contains rows row ↔ IsAnswerOver (IsFileRow stores files) (candidate plan set) row) × AreRising rows)

@@ -59,6 +59,12 @@ abbrev pub HasAsked : List (List (Fact Term)) → List (Fact Term) → List (Fac
 HasAsked bodies facts some =
     ((fact : Fact Term) → Contains some fact → Contains facts fact) × ((fact : Fact Term) → Contains facts fact → IsAsked bodies fact → Contains some fact)
 
+-- Of the facts of documents, whose relations stand from the base on, those that are wanted are kept, and others of wanted relations alone.
+pub record IsKeptFor (wanted : Wanted) (base : ℕ) (relations : Kept) : Type 0 where
+  pub from_base : relations.base ≡ base
+  pub each : (fact : DocFact Term) → IsWanted wanted (flat base fact) → is_kept relations fact ≡ true
+  pub others : (fact : DocFact Term) → is_kept relations fact ≡ true → is_wanted wanted (base + kind fact) ≡ true
+
 -- ---- for private clauses
 
 -- Each text, or this one among others.
@@ -86,9 +92,3 @@ AdmitsAll relation bodies texts =
 abbrev pub MeetsWant : Wanted → ℕ → KeptTexts → Type 0
 MeetsWant Every relation texts = texts ≡ EveryText
 MeetsWant (Asked bodies) relation texts = AdmitsAll relation bodies texts × (is_wanted (Asked bodies) relation ≡ false → texts ≡ These [])
-
--- Of the facts of documents, whose relations stand from the base on, those that are wanted are kept, and others of wanted relations alone.
-pub record IsKeptFor (wanted : Wanted) (base : ℕ) (relations : Kept) : Type 0 where
-  pub from_base : relations.base ≡ base
-  pub each : (fact : DocFact Term) → IsWanted wanted (flat base fact) → is_kept relations fact ≡ true
-  pub others : (fact : DocFact Term) → is_kept relations fact ≡ true → is_wanted wanted (base + kind fact) ≡ true

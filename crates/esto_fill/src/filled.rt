@@ -1,7 +1,7 @@
 //! A fragment's file, filled with the rows of its view.
 ghost use Rattle.std.specs.Prelude.{◌≡◌, ◌<◌, All, length, slice_get, IfOk, IfSome};
-ghost use Rattle.esto_mapping.specs.Soundness.{IsShapeFor};
-ghost use Rattle.esto_mapping.specs.declared.catalogue.Shape.TheVariants as shapes;
+ghost use Rattle.esto_docmodel.specs.Stores.{IsShapeFor};
+ghost use Rattle.esto_docmodel.specs.declared.file.Shape.TheVariants as shapes;
 ghost use Rattle.esto_query.specs.Making.{query_of};
 ghost use Rattle.esto_semantics.specs.Queries.{IsAnswer};
 ghost use Rattle.esto_fill.specs.Databases.{database_of};

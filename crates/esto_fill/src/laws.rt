@@ -1,9 +1,8 @@
 //! Laws of the facts of datasets and the rows of fragments.
 ghost use Rattle.esto_fill.specs.Laws.{AnswersRestOnDatasets, AnswersRestOnWantedFacts, DocumentsAreLawful, LoadedAreFlat, FactsStand, FactsAreOne, FaultsAreOne, ReadableHaveNone, AnswersAreOne};
-ghost use Rattle.esto_fill.specs.Laws.{UnionAnswersAreOne, JudgementsAreOne, FillsAreOne, AuditsAreOne, AuditsAreOverFiles, AgreeingAnswersAreTexts};
-ghost use Rattle.esto_fill.specs.Laws.{AgreeingAnswersAreOne};
+ghost use Rattle.esto_fill.specs.Laws.{UnionAnswersAreOne, JudgementsAreOne, FillsAreOne, AuditsAreOne, AuditsAreOverFiles};
 
-use esto_run::{rewritings_answer_queries, rising_rows_are_one};
+use esto_columns::rising_rows_are_one;
 use esto_semantics::databases_stand_for_facts;
 
 /// A law: what is loaded keeps what its description says.
@@ -57,12 +56,3 @@ pub fn answers_rest_on_wanted_facts()
 pub fn audits_are_over_files()
     ensures { AuditsAreOverFiles }
 {}
-
-/// A law: where a database meets the rules and the files of fragments hold exactly their views' rows, a query that has a
-/// rewriting has answers of texts alone, and these are exactly the answers of each rewriting's candidate over the files.
-pub fn agreeing_answers_are_one()
-    ensures texts { AgreeingAnswersAreTexts }
-    ensures rows { AgreeingAnswersAreOne }
-{
-    rewritings_answer_queries();
-}

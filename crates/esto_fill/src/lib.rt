@@ -25,9 +25,8 @@ pub use datasets::{DatasetBytes, KEY_CELLS, LoadError, LoadList, dataset_facts, 
 pub use esto_ports::Difference;
 pub use filled::{FillError, fill, marked, text_of};
 pub use laws::{
-    agreeing_answers_are_one, answers_rest_on_their_datasets, answers_rest_on_wanted_facts,
-    audits_are_over_files, documents_are_lawful, facts_stand_as_databases, loaded_facts_are_flat,
-    outcomes_are_one,
+    answers_rest_on_their_datasets, answers_rest_on_wanted_facts, audits_are_over_files,
+    documents_are_lawful, facts_stand_as_databases, loaded_facts_are_flat, outcomes_are_one,
 };
 pub use loaded::{Loaded, nothing_loaded};
 pub use rows::{AnswerError, node_at};

@@ -1,6 +1,5 @@
 -- The whole walk over a catalogue goes on or stops.
-use Rattle.std.proofs.Common.{◌≡◌, ◌≢◌, ◌⊎◌, ℕ, ◌≤◌, inl, inr, pos, Bool, List, length, Option, Some, None, codes, refl, sym, ap, subst}
-use Rattle.std.proofs.Common.{◌∙◌}
+use Rattle.std.proofs.Common.{◌≡◌, ◌≢◌, ◌⊎◌, ℕ, ◌≤◌, inl, inr, pos, Bool, List, length, Option, Some, None, codes, refl, sym, ap, subst, ◌∙◌}
 use Rattle.std.specs.Prelude.{IsUtf8, negsuc}
 use Rattle.std.proofs.lemmas.Bool.{cases_eq}
 use Rattle.std.proofs.lemmas.List.{length-map}
@@ -38,7 +37,7 @@ use Rattle.esto_mapping.specs.declared.catalogue.Catalogue.{Catalogue}
 use Rattle.esto_mapping.specs.declared.dataset.Dataset.{Dataset}
 use Rattle.esto_catalog.specs.declared.fault.CatalogueError.{CatalogueError}
 use Rattle.esto_catalog.specs.declared.fault.CatalogueError.TheVariants.{Fault, NotAcyclic, OutOfMemory}
-use Rattle.esto_catalog.specs.declared.fault.CatalogueKind.TheVariants.{Toml, Version as NoVersion, WrongType, TooMany}
+use Rattle.esto_status.specs.declared.fault.CatalogueKind.TheVariants.{Toml, Version as NoVersion, WrongType, TooMany}
 use Rattle.esto_catalog.specs.declared.fragment.Fragments.{Fragments}
 use Rattle.esto_catalog.specs.declared.scope.Scope.{Scope}
 use Rattle.esto_catalog.specs.declared.walk.Ranked.{Ranked}

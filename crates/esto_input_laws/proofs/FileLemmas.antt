@@ -18,14 +18,14 @@ use Rattle.esto_docmodel.specs.Shapes.{shape}
 use Rattle.esto_docmodel.specs.declared.pattern.Step.{Step}
 use Rattle.esto_docmodel.specs.declared.pattern.Step.TheVariants as step
 use Rattle.esto_docmodel.specs.declared.tree.Tree.{Tree}
-use Rattle.esto_mapping.specs.Soundness.{IsShapeFor}
-use Rattle.esto_mapping.specs.declared.catalogue.Shape.{Shape}
-use Rattle.esto_mapping.specs.declared.catalogue.Shape.TheVariants.{Table, Documents, Keys}
+use Rattle.esto_docmodel.specs.Stores.{IsShapeFor}
+use Rattle.esto_docmodel.specs.declared.file.Shape.{Shape}
+use Rattle.esto_docmodel.specs.declared.file.Shape.TheVariants.{Table, Documents, Keys}
 use Rattle.esto_docmodel.specs.Shapes.{entries_of}
 use Rattle.esto_docs.specs.Files.{file_trees, trees_fault}
 use Rattle.esto_query.specs.declared.query.Query.{Query}
-use Rattle.esto_run.proofs.StoreLemmas.{documents_give}
-use Rattle.esto_run.specs.Stores.{IsRowIn, first_fault_in}
+use Rattle.esto_docs.proofs.StoreLemmas.{documents_give}
+use Rattle.esto_docs.specs.Stores.{IsRowIn, first_fault_in}
 use Rattle.esto_stores.specs.Keys.{key_rows, key_fault}
 use Rattle.esto_stores.specs.Table.{table_rows, table_fault}
 use Rattle.esto_docs.proofs.RowLemmas.{text_column, once_mentioned}

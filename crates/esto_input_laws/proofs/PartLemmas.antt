@@ -52,12 +52,12 @@ use Rattle.esto_catalog.specs.Rows.{fault_at, text_fault_at}
 use Rattle.esto_catalog.specs.Shapes.{head_columns, store_columns, reads_pattern, pattern_row, shape_row}
 use Rattle.esto_catalog.specs.Soundness.{IsSoundView, IsSoundStored, AreSoundFragments, AreSoundRules}
 use Rattle.esto_mapping.specs.declared.catalogue.TheConstants.{MAX_PATTERNS, MAX_WEIGHT}
-use Rattle.esto_mapping.specs.declared.catalogue.Shape.TheVariants.{Table as FromTable, Documents as FromDocuments, Keys as FromKeys}
-use Rattle.esto_mapping.specs.declared.catalogue.Store.{Store}
+use Rattle.esto_docmodel.specs.declared.file.Shape.TheVariants.{Table as FromTable, Documents as FromDocuments, Keys as FromKeys}
+use Rattle.esto_docmodel.specs.declared.file.Store.{Store}
 use Rattle.esto_mapping.specs.declared.dataset.Dataset.{Dataset}
-use Rattle.esto_catalog.specs.declared.fault.CatalogueKind.TheVariants.{BadColumns, BadPattern, WrongType, BadAccess, BadWeight, SameName, BadStore}
+use Rattle.esto_status.specs.declared.fault.CatalogueKind.TheVariants.{BadColumns, BadPattern, WrongType, BadAccess, BadWeight, SameName, BadStore}
 use Rattle.esto_catalog.specs.declared.fault.Place.{Place}
-use Rattle.esto_catalog.specs.declared.fault.Section.TheVariants as section
+use Rattle.esto_status.specs.declared.fault.Section.TheVariants as section
 use Rattle.esto_catalog.specs.declared.row.Keys.TheVariants as keys
 use Rattle.esto_reading_laws.proofs.LayoutLemmas.{layout_reading}
 use Rattle.esto_reading_laws.proofs.QueryLemmas.{query_reading}

@@ -19,7 +19,8 @@ use Rattle.esto_settings.specs.declared.setting.Setting.TheVariants.{Text, Integ
 use Rattle.esto_term.proofs.ChoiceLemmas.{Decided, decided_as, decided_both, decided_not, pairs_cons, pairs_head, pairs_tail}
 use Rattle.esto_catalog.proofs.LeastLemmas.{lesser_new, lesser_old, IsLeastOf, none_unknown, known_next, unknown_next}
 use Rattle.esto_catalog.specs.Datasets.{has_dataset, name_row, needs_columns, columns_row}
-use Rattle.esto_mapping.specs.Datasets.{is_name, begins_plain, AreColumns, schema_of}
+use Rattle.esto_mapping.specs.Datasets.{is_name, AreColumns, schema_of}
+use Rattle.esto_docmodel.specs.Stores.{begins_plain}
 use Rattle.esto_catalog.specs.Datasets.{layout_and_file_rows, rows_after_name, dataset_of, reads_dataset, adds_dataset, reads_datasets}
 use Rattle.esto_catalog.specs.Models.{model_word, layout_word, reads_model, needs_model, reads_layout, allows_layout, unfit_row, layout_row}
 use Rattle.esto_catalog.specs.Rows.{fault_at, is_known, IsUnknown, IsLeastUnknown, knows_keys, needs_text, allows_text, needs_texts, IsLesserOf}
@@ -27,10 +28,10 @@ use Rattle.esto_ports.specs.declared.mark.TheConstants.{MARK}
 use Rattle.esto_mapping.specs.declared.dataset.Dataset.{Dataset}
 use Rattle.esto_catalog.specs.declared.fault.CatalogueError.{CatalogueError}
 use Rattle.esto_catalog.specs.declared.fault.CatalogueError.TheVariants.{OutOfMemory}
-use Rattle.esto_catalog.specs.declared.fault.CatalogueKind.{CatalogueKind}
-use Rattle.esto_catalog.specs.declared.fault.CatalogueKind.TheVariants.{UnknownKey, WrongType, Missing, BadName, SameName, BadModel, BadColumns, BadLayout, Unfit}
+use Rattle.esto_status.specs.declared.fault.CatalogueKind.{CatalogueKind}
+use Rattle.esto_status.specs.declared.fault.CatalogueKind.TheVariants.{UnknownKey, WrongType, Missing, BadName, SameName, BadModel, BadColumns, BadLayout, Unfit}
 use Rattle.esto_catalog.specs.declared.fault.Place.{Place}
-use Rattle.esto_catalog.specs.declared.fault.Section.TheVariants as section
+use Rattle.esto_status.specs.declared.fault.Section.TheVariants as section
 use Rattle.esto_catalog.specs.declared.row.Keys.{Keys}
 use Rattle.esto_catalog.specs.declared.row.Keys.TheVariants as keys
 use Rattle.esto_input_laws.proofs.CourseLemmas.{Ends, Any, ends_gives, ends_refuses, ends_demands, ends_accepts, ends_rejects, ends_then, ends_each}

@@ -1,7 +1,7 @@
 -- That each file has rows or documents, or a first fault; and so has the file of each fragment.
 use Rattle.std.specs.Prelude.{ℕ, length, Ok, Err}
-use Rattle.esto_mapping.specs.Soundness.{IsShapeFor}
-use Rattle.esto_mapping.specs.declared.catalogue.Shape.{Shape}
+use Rattle.esto_docmodel.specs.Stores.{IsShapeFor}
+use Rattle.esto_docmodel.specs.declared.file.Shape.{Shape}
 use Rattle.esto_docmodel.specs.Layouts.{IsLayout}
 use Rattle.esto_docmodel.specs.Patterns.{Entries}
 use Rattle.esto_docs.specs.Files.{file_trees, trees_fault}
@@ -10,7 +10,7 @@ use Rattle.esto_docmodel.specs.declared.file.Layout.{Layout}
 use Rattle.esto_lines.specs.Faults.{Gives}
 use Rattle.esto_ports.specs.declared.file_fault.FileError.TheVariants.{Fault}
 use Rattle.esto_query.specs.declared.query.Query.{Query}
-use Rattle.esto_run.specs.Stores.{IsRowIn, first_fault_in}
+use Rattle.esto_docs.specs.Stores.{IsRowIn, first_fault_in}
 use Rattle.esto_stores.specs.Keys.{key_rows, key_fault}
 use Rattle.esto_stores.specs.Rows.{Row}
 use Rattle.esto_stores.specs.Table.{table_rows, table_fault}

@@ -33,13 +33,15 @@ use Rattle.esto_term.specs.declared.term.Term.{Term}
 use Rattle.esto_views.specs.Fragments.{IsFragment}
 use Rattle.esto_views.specs.declared.fragments.FragmentDef.{FragmentDef}
 use Rattle.esto_mapping.proofs.LayoutLemmas.{layout_known}
-use Rattle.esto_mapping.specs.Datasets.{AreColumns, FitModel, IsDataset, begins_plain}
-use Rattle.esto_mapping.specs.Soundness.{FitView, IsShapeFor, IsSoundCatalogue}
+use Rattle.esto_mapping.specs.Datasets.{AreColumns, FitModel, IsDataset}
+use Rattle.esto_docmodel.specs.Stores.{begins_plain}
+use Rattle.esto_mapping.specs.Soundness.{IsSoundCatalogue}
+use Rattle.esto_docmodel.specs.Stores.{FitView, IsShapeFor}
 use Rattle.esto_mapping.specs.declared.dataset.Dataset.{Dataset}
 use Rattle.esto_mapping.specs.declared.catalogue.Catalogue.{Catalogue}
-use Rattle.esto_mapping.specs.declared.catalogue.Shape.{Shape}
-use Rattle.esto_mapping.specs.declared.catalogue.Shape.TheVariants.{Table as FromTable, Documents as FromDocuments, Keys as FromKeys}
-use Rattle.esto_mapping.specs.declared.catalogue.Store.{Store}
+use Rattle.esto_docmodel.specs.declared.file.Shape.{Shape}
+use Rattle.esto_docmodel.specs.declared.file.Shape.TheVariants.{Table as FromTable, Documents as FromDocuments, Keys as FromKeys}
+use Rattle.esto_docmodel.specs.declared.file.Store.{Store}
 use Rattle.esto_term.proofs.ListLemmas.{Contains-cases, Contains-head, Contains-nil, Contains-rest}
 
 -- ---- codes

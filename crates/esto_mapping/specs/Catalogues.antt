@@ -2,9 +2,9 @@
 use Rattle.std.specs.Prelude.{◌≡◌, ℕ, List, map}
 use Rattle.esto_mapping.specs.Soundness.{IsSoundCatalogue}
 use Rattle.esto_mapping.specs.declared.catalogue.Catalogue.{Catalogue}
-use Rattle.esto_mapping.specs.declared.catalogue.Shape.{Shape}
-use Rattle.esto_mapping.specs.declared.catalogue.Shape.TheVariants.{Table, Documents, Keys}
-use Rattle.esto_mapping.specs.declared.catalogue.Store.{Store}
+use Rattle.esto_docmodel.specs.declared.file.Shape.{Shape}
+use Rattle.esto_docmodel.specs.declared.file.Shape.TheVariants.{Table, Documents, Keys}
+use Rattle.esto_docmodel.specs.declared.file.Store.{Store}
 use Rattle.esto_constraint.specs.Constraints.{rules_of}
 use Rattle.esto_constraint.specs.EncodingRules.{written}
 use Rattle.esto_docmodel.specs.Patterns.{Entries}

@@ -1,7 +1,7 @@
 -- Datasets: names, columns, relations and words, and what each dataset keeps.
 use Rattle.std.specs.Prelude.{◌≡◌, ◌≢◌, ℕ, ◌+◌, ◌≤◌, List, [], ◌∷◌, ◌++◌, Some, Bool, true, false, ◌&&◌, ◌||◌, nat_le, nat_lt, nat_eq, length, map}
 use Rattle.std.specs.Prelude.{codes, AllPairs, slice_get}
-use Rattle.std.specs.List.{list_all, starts_with}
+use Rattle.std.specs.List.{list_all}
 use Rattle.esto_docmodel.specs.declared.file.Layout.TheVariants.{Lines}
 use Rattle.esto_query.specs.declared.schema.Relation.{Relation}
 use Rattle.esto_docmodel.specs.declared.words.DataModel.{DataModel}
@@ -10,7 +10,7 @@ use Rattle.esto_docmodel.specs.declared.words.Word.{Word}
 use Rattle.esto_text.specs.declared.parts.TheConstants.{MAX_NAME}
 use Rattle.esto_mapping.specs.declared.dataset.Dataset.{Dataset}
 use Rattle.esto_query.specs.declared.schema.TheConstants.{MAX_COLUMNS}
-use Rattle.esto_ports.specs.declared.mark.TheConstants.{MARK}
+use Rattle.esto_docmodel.specs.Stores.{begins_plain}
 
 -- The byte is an ASCII letter.
 abbrev pub is_letter : ℕ → Bool
@@ -24,11 +24,6 @@ is_name_byte byte = is_letter byte || ((nat_le 48 byte && nat_le byte 57) || nat
 abbrev pub is_name : List ℕ → Bool
 is_name [] = false
 is_name (first ∷ rest) = is_letter first && (list_all is_name_byte rest && nat_lt (length rest) MAX_NAME)
-
--- The first text, where there is one, does not begin with a byte-order mark.
-abbrev pub begins_plain : List (List ℕ) → Type 0
-begins_plain [] = Unit {0}
-begins_plain (first ∷ rest) = starts_with nat_eq first MARK ≡ false
 
 -- The columns of a table: there is one, and no more than a table may have, no two the same, and no byte-order mark before the first.
 pub record AreColumns (columns : List (List ℕ)) : Type 0 where

@@ -2,37 +2,21 @@
 use Rattle.std.specs.Prelude.{◌≡◌, ◌≢◌, ℕ, ◌≤◌, List, Some, length, slice_get, AllPairs, Contains}
 use Rattle.esto_constraint.specs.Graphs.{IsWithin, AreRanks}
 use Rattle.esto_constraint.specs.Relations.{IsEdge}
-use Rattle.esto_mapping.specs.Datasets.{IsDataset, begins_plain, words_of}
+use Rattle.esto_mapping.specs.Datasets.{IsDataset, words_of}
 use Rattle.esto_mapping.specs.declared.catalogue.TheConstants.{MAX_PATTERNS, MAX_WEIGHT}
 use Rattle.esto_mapping.specs.declared.dataset.Dataset.{Dataset}
-use Rattle.esto_mapping.specs.declared.catalogue.Shape.{Shape}
-use Rattle.esto_mapping.specs.declared.catalogue.Shape.TheVariants.{Table, Documents, Keys}
-use Rattle.esto_mapping.specs.declared.catalogue.Store.{Store}
+use Rattle.esto_docmodel.specs.declared.file.Store.{Store}
 use Rattle.esto_constraint.specs.Constraints.{rule_of, rules_of}
 use Rattle.esto_constraint.specs.declared.rule.Constraint.{Constraint}
-use Rattle.esto_docmodel.specs.Layouts.{IsLayout}
-use Rattle.esto_docmodel.specs.Shapes.{entries_of}
+use Rattle.esto_docmodel.specs.Stores.{IsShapeFor}
 use Rattle.esto_query.specs.Making.{query_of}
 use Rattle.esto_query.specs.Schemas.{IsSchema, arities_of}
-use Rattle.esto_query.specs.declared.query.Query.{Query}
 use Rattle.esto_query.specs.declared.schema.Relation.{Relation}
 use Rattle.esto_docmodel.specs.Words.{IsVocabulary}
 use Rattle.esto_docmodel.specs.declared.words.Word.{Word}
 use Rattle.esto_semantics.specs.WellFormed.{IsQueryOver, IsRuleOver}
 use Rattle.esto_views.specs.Fragments.{AreFragments}
 use Rattle.esto_views.specs.declared.fragments.FragmentDef.{FragmentDef}
-
--- The columns fit the view: they are as many as its head has terms, no two are the same, and the first does not begin with a byte-order mark.
-pub record FitView (view : Query) (columns : List (List ℕ)) : Type 0 where
-  pub many : length columns ≡ length view.head
-  pub distinct : AllPairs ◌≢◌ columns
-  pub plain : begins_plain columns
-
--- The shape is one for the view: the columns of a table fit it, and the pattern of documents is a layout for as many columns.
-abbrev pub IsShapeFor : Shape → Query → Type 0
-IsShapeFor (Table columns) view = FitView view columns
-IsShapeFor (Documents layout pattern) view = IsLayout (length view.head) (entries_of pattern.entries)
-IsShapeFor Keys view = Unit {0}
 
 -- Each store is in a shape for the fragment of its number.
 abbrev pub AreShapes : List Store → List FragmentDef → Type 0

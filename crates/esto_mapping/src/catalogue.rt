@@ -3,9 +3,8 @@ ghost use Rattle.esto_mapping.specs.Soundness.{IsSoundCatalogue};
 
 use crate::dataset::Datasets;
 use esto_constraint::{Ranks, Rules};
-use esto_docmodel::{Layout, Pattern, Vocabulary};
+use esto_docmodel::{Stores, Vocabulary};
 use esto_query::Schema;
-use esto_term::{List, Text, TextRow};
 use esto_views::FragmentDefs;
 
 /// The greatest number of binding patterns of a fragment.
@@ -13,28 +12,6 @@ pub const MAX_PATTERNS: usize = 8;
 
 /// The greatest weight of a fragment.
 pub const MAX_WEIGHT: u64 = 1_000_000;
-
-/// How the rows of a fragment are stored.
-#[derive(Drop)]
-pub enum Shape {
-    /// As a CSV file with these columns.
-    Table(TextRow),
-    /// As a JSON file of documents that stand in it so, each with the cells of rows where the
-    /// pattern has the columns' variables.
-    Documents(Layout, Pattern),
-    /// As a file of lines whose cells are parted by tabs.
-    Keys,
-}
-
-/// Where a fragment is stored.
-#[derive(Drop)]
-pub struct Store {
-    pub shape: Shape,
-    pub file: Text,
-}
-
-/// The stores of a catalogue's fragments, in order.
-pub type Stores = List<Store>;
 
 /// What a catalogue says: the relations of its datasets, the names that texts may use, the
 /// datasets, the fragments and where each is stored, the rules, with the ranks of the relations by

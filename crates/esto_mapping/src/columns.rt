@@ -1,7 +1,8 @@
 //! The names of datasets and the columns of tables.
 ghost use Rattle.std.specs.Prelude.{◌≡◌, ◌≢◌, ◌↔◌, IsTrue, Contains, AllPairs};
 ghost use Rattle.std.specs.List.{list_all};
-ghost use Rattle.esto_mapping.specs.Datasets.{is_letter, is_name_byte, is_name, AreColumns, begins_plain};
+ghost use Rattle.esto_mapping.specs.Datasets.{is_letter, is_name_byte, is_name, AreColumns};
+ghost use Rattle.esto_docmodel.specs.Stores.{begins_plain};
 
 use esto_ports::MARK;
 use esto_query::MAX_COLUMNS;

@@ -6,7 +6,8 @@ mod columns;
 mod dataset;
 mod laws;
 
-pub use catalogue::{Catalogue, MAX_PATTERNS, MAX_WEIGHT, Shape, Store, Stores};
+pub use catalogue::{Catalogue, MAX_PATTERNS, MAX_WEIGHT};
 pub use columns::{are_columns, are_distinct, is_name};
 pub use dataset::{Dataset, Datasets, relation_count};
+pub use esto_docmodel::{Shape, Store, Stores};
 pub use laws::{catalogues_are_sound, catalogues_rank_their_rules};

@@ -6,8 +6,8 @@ use Rattle.esto_catalog.specs.declared.fault.CatalogueError.TheVariants as error
 use Rattle.esto_course.specs.Course.{Stops, judges}
 use Rattle.esto_course.specs.Course.Stops.{is_free, refused}
 use Rattle.esto_opening.specs.Opening.{status_of, reads_catalogue}
-use Rattle.esto_opening.specs.declared.status.Status.{Status}
-use Rattle.esto_opening.specs.Answers.{IsWant, IsCaused}
+use Rattle.esto_status.specs.declared.status.Status.{Status}
+use Rattle.esto_status.specs.Answers.{IsWant, IsCaused}
 
 pub error_stops : (bytes same : List ℕ) (cause : CatalogueError) (said : Status) → same ≡ bytes → IsCatalogueError same cause → said ≡ status_of cause
     → Stops IsWant (IsCaused ⊥) (reads_catalogue bytes) said

@@ -18,14 +18,14 @@ use Rattle.esto_term.proofs.ListLemmas.{Contains-map_from}
 use Rattle.esto_text.specs.Faults.{IsUnionText}
 use Rattle.esto_text.specs.Trees.{QueryTree}
 use Rattle.esto_text.specs.declared.fault.TextFault.{TextFault}
-use Rattle.esto_opening.specs.Alike.{AreSameQueries, IsSameQuery}
-use Rattle.esto_opening.specs.Calm.{AgreeCalmly, Leads}
-use Rattle.esto_opening.specs.Fetch.{fetches}
+use Rattle.esto_query.specs.Same.{AreSameQueries, IsSameQuery}
+use Rattle.esto_status.specs.Calm.{AgreeCalmly, Leads}
+use Rattle.esto_status.specs.Fetch.{fetches}
 use Rattle.esto_opening.specs.Opening.{FilesSayUnion, opens_query, opens_union, reads_query, reads_union, unnamed}
-use Rattle.esto_opening.specs.Unions.{FormUnion, HaveOneHeadLength}
-use Rattle.esto_opening.specs.declared.opening.TheConstants.{QUERY_LIMIT}
-use Rattle.esto_opening.specs.declared.status.Status.TheVariants as status
-use Rattle.esto_opening.proofs.AgreeLemmas.{fetches-agree}
+use Rattle.esto_query.specs.Unions.{FormUnion, HaveOneHeadLength}
+use Rattle.esto_status.specs.declared.limits.TheConstants.{QUERY_LIMIT}
+use Rattle.esto_status.specs.declared.status.Status.TheVariants as status
+use Rattle.esto_status.proofs.AgreeLemmas.{fetches-agree}
 
 -- ---- at least one query, and heads of one length
 

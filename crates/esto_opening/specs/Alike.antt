@@ -1,23 +1,11 @@
 -- What is opened over the same files is the same: catalogues up to what they mean, and queries over such catalogues.
-use Rattle.std.specs.Prelude.{◌≡◌, ℕ, List, [], ◌∷◌, Some}
+use Rattle.std.specs.Prelude.{ℕ, List, Some}
 use Rattle.esto_mapping.specs.Catalogues.{AreSame}
 use Rattle.esto_mapping.specs.declared.catalogue.Catalogue.{Catalogue}
 use Rattle.esto_ports.specs.Files.{Files}
-use Rattle.esto_query.specs.declared.query.Query.{Query}
-use Rattle.esto_opening.specs.Calm.{AgreeCalmly}
+use Rattle.esto_status.specs.Calm.{AgreeCalmly}
 use Rattle.esto_opening.specs.Opening.{opens_catalogue, opens_query, opens_union}
-
--- Two queries with one head, one body and the same names.
-pub record IsSameQuery (query other : Query) : Type 0 where
-  pub head : query.head ≡ other.head
-  pub body : query.body ≡ other.body
-  pub names : query.names ≡ other.names
-
--- Two lists have the same queries, one by one.
-abbrev pub AreSameQueries : List Query → List Query → Type 0
-AreSameQueries [] [] = Unit {0}
-AreSameQueries (query ∷ queries) (other ∷ others) = IsSameQuery query other × AreSameQueries queries others
-AreSameQueries _ _ = ⊥
+use Rattle.esto_query.specs.Same.{IsSameQuery, AreSameQueries}
 
 -- One file says catalogues that say the same, or refuses in one way.
 abbrev pub CataloguesOpenAlike : Type 0

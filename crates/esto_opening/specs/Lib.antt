@@ -1,13 +1,3 @@
-pub mod Line
-pub mod Answers
-pub mod Replies
-pub mod Fetch
-pub mod Calm
-pub mod Asked
 pub mod Opening
 pub mod Alike
 pub mod Unions
-pub mod Fragments
-pub mod Readable
-pub mod FragmentsAlike
-pub mod Texts

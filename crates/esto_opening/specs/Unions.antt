@@ -1,20 +1,12 @@
 -- Unions of queries that are opened, and the text of their rows.
-use Rattle.std.specs.Prelude.{◌≡◌, ◌↔◌, ℕ, ◌<◌, List, [], ◌∷◌, length, Contains, Option, Some}
+use Rattle.std.specs.Prelude.{◌↔◌, ℕ, List, [], ◌∷◌, Option, Some}
 use Rattle.esto_mapping.specs.declared.catalogue.Catalogue.{Catalogue}
 use Rattle.esto_ports.specs.Files.{Files}
 use Rattle.esto_query.specs.declared.query.Query.{Query}
-use Rattle.esto_opening.specs.Alike.{AreSameQueries}
-use Rattle.esto_opening.specs.Calm.{Leads}
+use Rattle.esto_query.specs.Same.{AreSameQueries}
+use Rattle.esto_status.specs.Calm.{Leads}
 use Rattle.esto_opening.specs.Opening.{FilesSayUnion, opens_query, opens_union}
-
--- The heads of the queries are of one length.
-abbrev pub HaveOneHeadLength : List Query → Type 0
-HaveOneHeadLength queries = (query other : Query) → Contains queries query → Contains queries other → length query.head ≡ length other.head
-
--- At least one query, and all heads of one length.
-pub record FormUnion (queries : List Query) : Type 0 where
-  pub some : 0 < length queries
-  pub lengths : HaveOneHeadLength queries
+use Rattle.esto_query.specs.Unions.{FormUnion}
 
 -- ---- laws
 

@@ -1,9 +1,6 @@
 //! Laws of what is opened.
 ghost use Rattle.esto_opening.specs.Alike.{CataloguesOpenAlike, QueriesOpenAlike, UnionsOpenAlike};
 ghost use Rattle.esto_opening.specs.Unions.{OpenedFormUnions, QueriesOpenAlone, SaidUnionsOpen, UnionsOfOneAreQueries};
-ghost use Rattle.esto_opening.specs.FragmentsAlike.{FragmentOpensAlike, FragmentsOpenAlike};
-ghost use Rattle.esto_opening.specs.FragmentsAlike.{StoresHaveOneContent, StoresHaveOneFault, StoresHaveOneFile};
-ghost use Rattle.esto_opening.specs.Readable.{OpenedAreReadable, ReadableAreOpened};
 
 use esto_catalog::catalogues_are_determined;
 use esto_mapping::catalogues_are_sound;
@@ -37,20 +34,3 @@ pub fn opened_unions_are_queries()
     union_readings_are_determined();
     unions_of_one_are_queries();
 }
-
-/// A law: where no fetch is at a fault, over catalogues that say the same the files of fragments have one content, which has
-/// the same rows or the same first fault.
-pub fn fragment_files_are_one()
-    ensures fragment { FragmentOpensAlike }
-    ensures fragments { FragmentsOpenAlike }
-    ensures file { StoresHaveOneFile }
-    ensures fault { StoresHaveOneFault }
-    ensures rows { StoresHaveOneContent }
-{}
-
-/// A law: over catalogues that say the same, files of fragments that are opened are readable, and readable ones are opened, with
-/// the same contents; if a file is not opened, the refusal tells of it.
-pub fn readable_fragments_are_opened()
-    ensures opened { OpenedAreReadable }
-    ensures readable { ReadableAreOpened }
-{}

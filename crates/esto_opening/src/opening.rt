@@ -1,29 +1,19 @@
 //! The catalogue and the query of a command: each file is fetched, and then read.
 ghost use Rattle.std.specs.Prelude.{◌≡◌, ◌≤◌};
 ghost use Rattle.esto_ports.specs.Faults.{Rises};
-ghost use Rattle.esto_opening.specs.Answers.{Answers};
-ghost use Rattle.esto_opening.specs.Asked.{AsksIn};
+ghost use Rattle.esto_status.specs.Answers.{Answers};
+ghost use Rattle.esto_status.specs.Asked.{AsksIn};
 ghost use Rattle.esto_opening.specs.Opening.{status_of, reads_catalogue, opens_catalogue, reads_query, opens_query};
 
-use crate::fetching::fetch;
-use crate::status::Status;
 use esto_catalog::{CatalogueError, read_catalogue};
 use esto_mapping::{Catalogue, catalogues_are_sound};
 use esto_ports::Shelf;
 use esto_query::Query;
 use esto_read::{NamedQuery, read_query};
+use esto_status::{CATALOGUE_LIMIT, QUERY_LIMIT, Status, fetch};
 use esto_term::{Bytes, Text};
 use esto_text::ReadError;
 use std::alloc::Global;
-
-/// The greatest length of a catalogue's file, in bytes.
-pub const CATALOGUE_LIMIT: u64 = 1_048_576;
-
-/// The greatest length of a query's file, in bytes.
-pub const QUERY_LIMIT: u64 = 65_536;
-
-/// The greatest length of the file of a dataset, of a fragment or of a certificate, in bytes.
-pub const DATA_LIMIT: u64 = 8_388_608;
 
 // The status of why a catalogue is not read.
 fn status_of(error: CatalogueError) -> Status
@@ -47,7 +37,7 @@ fn catalogue_of(alloc: Global, bytes: &Bytes) -> Result<Catalogue, Status>
 }
 
 /// Fetches and reads a catalogue.
-#[tactic(auto, using(crate::proofs::Steps::steps, crate::proofs::AskedSteps::asked_steps))]
+#[tactic(auto, using(crate::proofs::Steps::steps, crate::proofs::Steps::asked_steps))]
 pub fn open_catalogue<S: Shelf>(
     alloc: Global,
     shelf: &mut S,
@@ -77,7 +67,7 @@ fn query_of(alloc: Global, bytes: &Bytes, catalogue: &Catalogue) -> Result<Query
 }
 
 /// Fetches and reads a query over a catalogue.
-#[tactic(auto, using(crate::proofs::Steps::steps, crate::proofs::AskedSteps::asked_steps))]
+#[tactic(auto, using(crate::proofs::Steps::steps, crate::proofs::Steps::asked_steps))]
 pub fn open_query<S: Shelf>(
     alloc: Global,
     shelf: &mut S,

@@ -1,24 +1,19 @@
 //! The union of queries of a command: its file is fetched, and then read.
 ghost use Rattle.std.specs.Prelude.{◌≡◌, ◌≤◌, IfOk};
 ghost use Rattle.esto_ports.specs.Faults.{Rises};
-ghost use Rattle.esto_opening.specs.Answers.{Answers};
-ghost use Rattle.esto_opening.specs.Asked.{AsksIn};
+ghost use Rattle.esto_status.specs.Answers.{Answers};
+ghost use Rattle.esto_status.specs.Asked.{AsksIn};
 ghost use Rattle.esto_opening.specs.Opening.{reads_union, opens_union, unnamed};
-ghost use Rattle.esto_opening.specs.Unions.{FormUnion};
+ghost use Rattle.esto_query.specs.Unions.{FormUnion};
 
-use crate::fetching::fetch;
-use crate::opening::QUERY_LIMIT;
-use crate::status::Status;
 use esto_mapping::{Catalogue, catalogues_are_sound};
 use esto_ports::Shelf;
-use esto_query::Query;
+use esto_query::{Queries, Query};
 use esto_read::{NamedQuery, read_union};
+use esto_status::{QUERY_LIMIT, Status, fetch};
 use esto_term::{Bytes, List, OutOfMemory, Replicate, Text};
 use esto_text::ReadError;
 use std::alloc::Global;
-
-/// Queries, in order.
-pub type Queries = List<Query>;
 
 // The queries without the names of their heads.
 fn unnamed(alloc: Global, named: &[NamedQuery]) -> Result<Queries, OutOfMemory>
@@ -49,7 +44,7 @@ fn union_of(alloc: Global, bytes: &Bytes, catalogue: &Catalogue) -> Result<Queri
 
 /// Fetches and reads a union of queries over a catalogue. It has at least one query, and the heads of its queries are of
 /// one length.
-#[tactic(auto, using(crate::proofs::Steps::steps, crate::proofs::AskedSteps::asked_steps))]
+#[tactic(auto, using(crate::proofs::Steps::steps, crate::proofs::Steps::asked_steps))]
 pub fn open_union<S: Shelf>(
     alloc: Global,
     shelf: &mut S,

@@ -15,8 +15,8 @@ use esto_script::{Refused, let_go, put};
 use esto_semantics::Valuation;
 use esto_term::List;
 use esto_views::Plan;
-use std::mem;
 use std::alloc::Global;
+use std::mem;
 
 /// The catalogue, the plan, the entries of a list, the facts, the start of matches, and the rules.
 #[derive(Drop)]

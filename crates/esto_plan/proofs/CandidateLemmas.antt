@@ -10,11 +10,11 @@ use Rattle.esto_semantics.specs.declared.fact.Value.{Value}
 use Rattle.esto_semantics.specs.declared.fact.Value.TheVariants.{Text}
 use Rattle.esto_columns.specs.Interned.{AreCodesOf}
 use Rattle.esto_steps.specs.Meaning.{IsResult}
-use Rattle.esto_plan.specs.Planned.{AreStepsOf, Fits, IsSafeOrder, ordered}
+use Rattle.esto_steps.specs.Planned.{AreStepsOf, Fits, IsSafeOrder, ordered}
 use Rattle.esto_steps.specs.Rows.{IsRowOf}
-use Rattle.esto_plan.specs.Rows.{AreViewRows, AreCoded}
+use Rattle.esto_steps.specs.Texts.{AreViewRows, AreCoded}
 use Rattle.esto_steps.specs.declared.steps.Steps.{Steps}
-use Rattle.esto_plan.proofs.CodedLemmas.{results_are_answers_in_texts, answers_over_a_database}
+use Rattle.esto_steps.proofs.CodedLemmas.{results_are_answers_in_texts, answers_over_a_database}
 use Rattle.esto_plan.proofs.OrderLemmas.{same_answers, set_of_order, fixed_in_order}
 
 module _ (texts : List (List ℕ)) (patterns : Patterns) (plan : ConjunctiveQuery) (order : List ℕ) (is_order : IsSafeOrder patterns plan order) (steps : Steps)

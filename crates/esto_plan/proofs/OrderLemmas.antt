@@ -17,7 +17,7 @@ use Rattle.esto_views.specs.Fragments.{patterns_of}
 use Rattle.esto_views.specs.Plans.{fact_of, plan_query, IsPlanOver}
 use Rattle.esto_views.specs.declared.fragments.FragmentDef.{FragmentDef}
 use Rattle.esto_views.specs.declared.plan.Plan.{Plan}
-use Rattle.esto_plan.specs.Planned.{CanMeet, CanPlan, atoms_of, ordered}
+use Rattle.esto_steps.specs.Planned.{CanMeet, CanPlan, atoms_of, ordered}
 
 -- ---- the atoms of numbers
 

@@ -3,7 +3,7 @@ use Rattle.std.specs.Prelude.{◌≡◌, ◌⊎◌, ℕ, ◌<◌, Bool, List, []
 use Rattle.esto_term.specs.declared.term.Term.{Term}
 use Rattle.esto_steps.specs.declared.steps.Get.{Get}
 use Rattle.esto_steps.specs.declared.steps.Link.{Link}
-use Rattle.esto_plan.specs.Planned.{IsSource, IsLink, IsNew, inputs_of}
+use Rattle.esto_steps.specs.Planned.{IsSource, IsLink, IsNew, inputs_of}
 
 -- The link of the column has come, with a source of its term among the bound ones, or the term is new after them and no link has come.
 abbrev pub IsLinkMade : List (List ℕ) → List Term → List Term → ℕ → List Link → List Link → Type 0

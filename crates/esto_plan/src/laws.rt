@@ -9,9 +9,9 @@ ghost use Rattle.esto_semantics.specs.Views.{IsFragmentAnswer};
 ghost use Rattle.esto_semantics.specs.declared.fact.Value.{Value};
 ghost use Rattle.esto_semantics.specs.declared.fact.Value.TheVariants.{Text};
 ghost use Rattle.esto_steps.specs.Meaning.{IsResult};
-ghost use Rattle.esto_plan.specs.Planned.{AreStepsOf, Fits, IsSafeOrder, ordered};
+ghost use Rattle.esto_steps.specs.Planned.{AreStepsOf, Fits, IsSafeOrder, ordered};
 ghost use Rattle.esto_steps.specs.Rows.{IsRowOf};
-ghost use Rattle.esto_plan.specs.Rows.{AreViewRows, HoldSame, AreCoded, IsNumbering, IsSafeQuery};
+ghost use Rattle.esto_steps.specs.Texts.{AreViewRows, HoldSame, AreCoded, IsNumbering, IsSafeQuery};
 ghost use Rattle.esto_steps.specs.declared.steps.Steps.{Steps};
 
 /// A law: the results of the steps of a query over fragments are exactly its answers over the coded rows.

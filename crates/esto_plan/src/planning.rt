@@ -7,28 +7,15 @@ ghost use Rattle.esto_semantics.specs.Maps.{IsFixedBy};
 ghost use Rattle.esto_views.specs.Fragments.{patterns_of};
 ghost use Rattle.esto_views.specs.Plans.{fact_of, plan_query, IsPlanOver};
 ghost use Rattle.esto_steps.specs.declared.steps.Get.{Get};
-ghost use Rattle.esto_plan.specs.Planned.{IsSource, IsNew, IsKnown, CanMeet, IsFirstMet, IsGetOf, AreStepsOf, CanPlan, atoms_of, ordered, IsSafeOrder};
+ghost use Rattle.esto_steps.specs.Planned.{IsSource, IsNew, IsKnown, CanMeet, IsFirstMet, IsGetOf, AreStepsOf, CanPlan, atoms_of, ordered, IsSafeOrder};
 ghost use Rattle.esto_plan.specs.Planning.{IsGetBelow, IsLinkMade};
 ghost use Rattle.esto_columns.specs.Interned.{Grows};
 
 use esto_columns::Codes;
-use esto_steps::{Get, Gets, Link, Links, Source, Sources, Steps};
+use esto_steps::{Get, Gets, Link, Links, Source, Sources, Steps, place_of};
 use esto_term::{List, OutOfMemory, Replicate, Term, Terms};
 use esto_views::{Access, AccessList, FragmentDefs, Order, Plan, PlanAtom};
 use std::alloc::Global;
-
-/// The first place of the term among the terms.
-pub fn place_of(terms: &[Term], term: &Term) -> Option<usize>
-    ensures { MatchOption result (¬ (Contains terms.now term.now))
-        (λ place. slice_get terms.now place ≡ Some term.now) }
-{
-    'terms: for (place, other) in terms.iter().enumerate() {
-        if other.equal(term) {
-            return Some(place);
-        }
-    }
-    None
-}
 
 /// A source of the term among the bound ones and the atom's own before it, or None where the term is new.
 fn source_of(

@@ -1,6 +1,6 @@
 //! The ways in which a fragment can be asked.
 ghost use Rattle.std.specs.Prelude.{◌≡◌, ◌∷◌, ◌++◌, [], cond, map, IfOk, OnOk};
-ghost use Rattle.esto_plan.specs.Planned.{inputs_of};
+ghost use Rattle.esto_steps.specs.Planned.{inputs_of};
 
 use esto_columns::Ways;
 use esto_term::{List, OutOfMemory, Places, Values};

@@ -29,14 +29,14 @@ use Rattle.esto_semantics.proofs.ValuationLemmas.{Keeps-map_of, Extends-map_of}
 -- ---- how much a search has to do at a match
 
 abbrev pub work : Conclusion → ℕ
-work (ExtendsTo head) = 3 * length head.now + 2
+work (ExtendsTo head) = 3 * length head.now + 3
 work (Equals left right) = 0
 work Never = 0
 
 -- to look for the head of a rule is less
-pub head_less : (conclusion : Conclusion) (head : Bor (List (Fact Term))) (left : List (Fact Term)) → conclusion ≡ ExtendsTo head → left ≡ head.now
-    → 3 * length left + 1 + 0 < work conclusion
-head_less conclusion head left is same = rw (is, same) (omega arith)
+pub head_less : (conclusion : Conclusion) (head : Bor (List (Fact Term))) → conclusion ≡ ExtendsTo head
+    → 3 * length head.now + 2 + 0 < work conclusion
+head_less conclusion head is = rw is (omega arith)
 
 -- what holds of each outcome by two clauses
 pub both_told : {E : Type 0} (result : Result Bool E) (P : Type 0) (Q R : Bool → Type 0) → (P → (is : Bool) → Q is → R is) → OnOk result P → IfOk result Q

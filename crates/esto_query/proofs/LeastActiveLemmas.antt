@@ -92,3 +92,12 @@ found_onto facts rule start atom rest old mid new place places_old places_mid pl
   found.1 ∙ ap (λ places. places ++ found.0) pushed ∙ append_assoc places_old (place ∷ []) found.0,
   onto (with_trail start new) found.0 found.2,
 )
+
+-- what a search from no place finds
+pub least_searched : (facts : List (Fact Term)) (rule : Rule) (start valuation : Assignment) (body : List (Fact Term)) (old new : List Binding)
+    (places_old places_new : List ℕ) → places_old ≡ [] → valuation ≡ with_trail start new → FindsLeast facts rule start body old new places_old places_new true
+    → IsLeastActiveFrom facts rule (with_trail start old) body valuation places_new
+least_searched facts rule start valuation body old new places_old places_new none is found =
+    let whole : found.0 ≡ places_new = sym (found.1 ∙ ap (λ z. z ++ found.0) none) in
+    subst (λ it. IsLeastActiveFrom facts rule (with_trail start old) body it places_new) (sym is)
+    (subst (λ places. IsLeastActiveFrom facts rule (with_trail start old) body (with_trail start new) places) whole found.2)

@@ -8,3 +8,5 @@ pub mod Rows
 pub mod Indexes
 pub mod Orders
 pub mod Active
+pub mod Same
+pub mod Unions

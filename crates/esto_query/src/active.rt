@@ -62,12 +62,11 @@ pub fn is_active<'a>(
 {
     match rule.conclusion {
         Conclusion::Extends(head) => {
-            let mut left = AtomsLeft::of(alloc, start, facts, trail, head)?;
             let any = LentRule {
                 body: &[],
                 conclusion: Conclusion::Never,
             };
-            let extends = seek(alloc, start, &any, &mut left, facts, trail)?;
+            let extends = has_active(alloc, start, &any, head, facts, trail)?;
             Ok(!extends)
         }
         Conclusion::Equals(one, other) => {
@@ -167,6 +166,7 @@ pub fn has_match<'a, 'b>(
 }
 
 /// Whether some match of the atoms extends the trail and is active.
+#[cycle(seek)]
 pub fn has_active<'a>(
     alloc: Global,
     start: &Valuation,

@@ -80,6 +80,31 @@ fn least_from<'a>(
     least_through(alloc, start, rule, atom, rest, facts, trail, places)
 }
 
+/// The least active match of the rule that extends the trail, by the list of places.
+fn least_found<'a>(
+    alloc: Global,
+    start: &Valuation,
+    rule: &LentRule,
+    facts: &IndexedFacts<'a>,
+    trail: &mut Vec<Binding<'a>>,
+) -> Result<Option<Found>, OutOfMemory>
+    requires flat { AreFlat rule.now.body.now }
+    requires aimed { IsAimed rule.now rule.now.body.now (with_trail start.now trail.old.items) }
+    ensures { IfOk result (λ outcome. MatchOption outcome
+        (NoneIsActive facts.now (rule_of rule.now) (with_trail start.now trail.old.items)
+        rule.now.body.now)
+        (λ found. IsLeastActiveFrom facts.now (rule_of rule.now)
+        (with_trail start.now trail.old.items) rule.now.body.now
+        found.valuation found.places)) }
+{
+    let mut places = Values::new(alloc);
+    if !least_from(alloc, start, rule, rule.body, facts, trail, &mut places)? {
+        return Ok(None);
+    }
+    let valuation = extended(alloc, start, trail)?;
+    Ok(Some(Found { valuation, places }))
+}
+
 impl<'a> IndexedFacts<'a> {
     /// The least active match of the rule, by the list of places. None comes exactly where none is active.
     pub fn least_active(&self, alloc: Global, rule: &LentRule) -> Result<Option<Found>, OutOfMemory>
@@ -92,19 +117,6 @@ impl<'a> IndexedFacts<'a> {
     {
         let start = Valuation::new(alloc);
         let mut trail = Vec::new(alloc);
-        let mut places = Values::new(alloc);
-        if !least_from(
-            alloc,
-            &start,
-            rule,
-            rule.body,
-            self,
-            &mut trail,
-            &mut places,
-        )? {
-            return Ok(None);
-        }
-        let valuation = extended(alloc, &start, &trail)?;
-        Ok(Some(Found { valuation, places }))
+        least_found(alloc, &start, rule, self, &mut trail)
     }
 }

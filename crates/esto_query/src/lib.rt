@@ -27,5 +27,5 @@ pub use esto_table::in_order;
 pub use indexed::IndexedFacts;
 pub use make::{MAX_ATOMS, QueryFault, make_query};
 pub use matches::{Found, first_match, matches_send, next_match};
-pub use query::{Name, Names, Query, queries_are_sound};
+pub use query::{Name, Names, Queries, Query, queries_are_sound};
 pub use schema::{MAX_COLUMNS, MAX_RELATIONS, Relation, Schema, SchemaError};

@@ -52,3 +52,6 @@ impl Replicate for Query {
 pub fn queries_are_sound()
     ensures { (query : Query) → IsSound query.head query.body query.names }
 {}
+
+/// Queries, in order.
+pub type Queries = List<Query>;

@@ -17,11 +17,11 @@ use Rattle.esto_contain.specs.declared.minimising.Minimal.{Minimal}
 use Rattle.esto_course.specs.Agreement.{IsDetermined}
 use Rattle.esto_course.specs.Course.{Course, and_then, demands, judges}
 use Rattle.esto_course.proofs.Determined.{demands_determined, judges_agree, judges_determined, then_agree, then_determined}
-use Rattle.esto_opening.specs.Answers.{IsCaused}
-use Rattle.esto_opening.specs.Calm.{AgreeCalmly}
-use Rattle.esto_opening.specs.declared.status.Status.{Status}
-use Rattle.esto_opening.specs.declared.status.Status.TheVariants.{HeadLengths, Unsatisfiable}
-use Rattle.esto_opening.proofs.AgreeLemmas.{calmly}
+use Rattle.esto_status.specs.Answers.{IsCaused}
+use Rattle.esto_status.specs.Calm.{AgreeCalmly}
+use Rattle.esto_status.specs.declared.status.Status.{Status}
+use Rattle.esto_status.specs.declared.status.Status.TheVariants.{HeadLengths, Unsatisfiable}
+use Rattle.esto_status.proofs.AgreeLemmas.{calmly}
 use Rattle.esto_query.specs.Making.{query_of}
 use Rattle.esto_query.specs.Schemas.{names_of}
 use Rattle.esto_query.specs.declared.query.Name.{Name}

@@ -12,10 +12,10 @@ use Rattle.esto_contain.specs.declared.containing.Contain.{Contain}
 use Rattle.esto_contain.specs.declared.containing.Contain.TheVariants.{Yes, No}
 use Rattle.esto_contain.specs.declared.minimising.Minimal.{Minimal}
 use Rattle.esto_course.specs.Course.{and_then, demands, judges}
-use Rattle.esto_opening.specs.Calm.{Leads}
-use Rattle.esto_opening.specs.Line.{line_of}
-use Rattle.esto_opening.specs.declared.status.Status.{Status}
-use Rattle.esto_opening.specs.declared.status.Status.TheVariants as status
+use Rattle.esto_status.specs.Calm.{Leads}
+use Rattle.esto_status.specs.Line.{line_of}
+use Rattle.esto_status.specs.declared.status.Status.{Status}
+use Rattle.esto_status.specs.declared.status.Status.TheVariants as status
 use Rattle.esto_query.specs.declared.query.Name.{Name}
 use Rattle.esto_semantics.specs.Containment.{IsSatisfiable}
 use Rattle.esto_semantics.specs.Queries.{ConjunctiveQuery, IsQuery}
@@ -24,7 +24,7 @@ use Rattle.esto_semantics.specs.declared.fact.Fact.{Fact}
 use Rattle.esto_term.specs.declared.term.Term.{Term}
 use Rattle.esto_universal.specs.PlannedLaws.{ClashOfRunIsOne}
 use Rattle.esto_chase.specs.ChasedLaws.{ClashedIsUnsatisfiable}
-use Rattle.esto_opening.proofs.StatusLemmas.{done_not_clash, same_clash}
+use Rattle.esto_status.proofs.StatusLemmas.{done_not_clash, same_clash}
 use Rattle.esto_reasoning.specs.Contains.{IsNoText, SaysTold}
 use Rattle.esto_reasoning.specs.Exact.{ContainsExactly, IsWithin, MinimisesExactly}
 use Rattle.esto_reasoning.specs.Minimise.{IsMinimalText}

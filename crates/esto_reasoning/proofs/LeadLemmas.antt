@@ -5,14 +5,15 @@ use Rattle.esto_mapping.specs.declared.catalogue.Catalogue.{Catalogue}
 use Rattle.esto_constraint.specs.Constraints.{rules_of}
 use Rattle.esto_course.specs.Course.{Course, gives, and_then}
 use Rattle.esto_course.proofs.Determined.{then_agree, gives_agree}
-use Rattle.esto_opening.specs.Alike.{CataloguesOpenAlike, IsSameQuery, QueriesOpenAlike}
-use Rattle.esto_opening.specs.Calm.{IsOne, Leads, SaysAlways}
-use Rattle.esto_opening.specs.Line.{line_of}
+use Rattle.esto_opening.specs.Alike.{CataloguesOpenAlike, QueriesOpenAlike}
+use Rattle.esto_query.specs.Same.{IsSameQuery}
+use Rattle.esto_status.specs.Calm.{IsOne, Leads, SaysAlways}
+use Rattle.esto_status.specs.Line.{line_of}
 use Rattle.esto_opening.specs.Opening.{opens_catalogue, opens_query}
-use Rattle.esto_opening.specs.declared.reply.Reply.TheVariants.{Done}
-use Rattle.esto_opening.specs.declared.status.Status.{Status}
-use Rattle.esto_opening.specs.declared.status.Status.TheVariants as status
-use Rattle.esto_opening.proofs.LeadLemmas.{then-leads, leads-more, gives-leads, agreed_leads}
+use Rattle.esto_status.specs.declared.reply.Reply.TheVariants.{Done}
+use Rattle.esto_status.specs.declared.status.Status.{Status}
+use Rattle.esto_status.specs.declared.status.Status.TheVariants as status
+use Rattle.esto_status.proofs.LeadLemmas.{then-leads, leads-more, gives-leads, agreed_leads}
 use Rattle.esto_ports.specs.Files.{Files}
 use Rattle.esto_query.specs.Making.{query_of}
 use Rattle.esto_query.specs.Schemas.{names_of}

@@ -9,9 +9,9 @@ use Rattle.esto_contain.specs.Contained.{IsCounterexample}
 use Rattle.esto_contain.specs.Ends.{FinishesAt}
 use Rattle.esto_contain.specs.Minimised.{IsMinimised}
 use Rattle.esto_contain.specs.declared.minimising.Minimal.{Minimal}
-use Rattle.esto_opening.specs.Line.{line_of}
-use Rattle.esto_opening.specs.declared.status.Status.{Status}
-use Rattle.esto_opening.specs.declared.status.Status.TheVariants as status
+use Rattle.esto_status.specs.Line.{line_of}
+use Rattle.esto_status.specs.declared.status.Status.{Status}
+use Rattle.esto_status.specs.declared.status.Status.TheVariants as status
 use Rattle.esto_plan_laws.specs.Cores.{with_head}
 use Rattle.esto_query.specs.Making.{query_of}
 use Rattle.esto_query.specs.Schemas.{names_of}

@@ -9,10 +9,10 @@ use Rattle.esto_contain.specs.Minimised.{instance_of, IsMinimised}
 use Rattle.esto_contain.specs.declared.minimising.Minimal.{Minimal}
 use Rattle.esto_course.specs.Course.{Course, judges, gives, and_then}
 use Rattle.esto_opening.specs.Opening.{opens_catalogue, opens_query}
-use Rattle.esto_opening.specs.declared.reply.Reply.{Reply}
-use Rattle.esto_opening.specs.declared.reply.Reply.TheVariants.{Done}
-use Rattle.esto_opening.specs.declared.status.Status.{Status}
-use Rattle.esto_opening.specs.declared.status.Status.TheVariants.{Unsatisfiable}
+use Rattle.esto_status.specs.declared.reply.Reply.{Reply}
+use Rattle.esto_status.specs.declared.reply.Reply.TheVariants.{Done}
+use Rattle.esto_status.specs.declared.status.Status.{Status}
+use Rattle.esto_status.specs.declared.status.Status.TheVariants.{Unsatisfiable}
 use Rattle.esto_ports.specs.Files.{Files}
 use Rattle.esto_query.specs.Making.{query_of}
 use Rattle.esto_query.specs.Schemas.{names_of}

@@ -1,8 +1,8 @@
 //! The command `contains`.
 ghost use Rattle.std.specs.Prelude.{◌≡◌, ◌≢◌, ◌≤◌, [], IfOk};
 ghost use Rattle.esto_contain.specs.Contained.{IfNo};
-ghost use Rattle.esto_opening.specs.Answers.{Answers};
-ghost use Rattle.esto_opening.specs.Asked.{AsksIn};
+ghost use Rattle.esto_status.specs.Answers.{Answers};
+ghost use Rattle.esto_status.specs.Asked.{AsksIn};
 ghost use Rattle.esto_ports.specs.Faults.{Rises};
 ghost use Rattle.esto_query.specs.Schemas.{names_of};
 ghost use Rattle.esto_reasoning.specs.Contains.{IsNoText, SaysTold, compares, compares_both, compares_right, contains_course, have_one_length, prints_told};
@@ -11,9 +11,10 @@ ghost use Rattle.esto_reasoning.specs.Contains.{tells_contained};
 use crate::printing::no_text;
 use esto_contain::{Contain, contained};
 use esto_mapping::Catalogue;
-use esto_opening::{Reply, Status, open_catalogue, open_query};
+use esto_opening::{open_catalogue, open_query};
 use esto_ports::Shelf;
 use esto_query::{Facts, Query, queries_are_sound};
+use esto_status::{Reply, Status};
 use esto_term::{Bytes, OutOfMemory, Terms, Text};
 use esto_views::{plan_facts, renamed_plan};
 use std::alloc::Global;

@@ -1,8 +1,8 @@
 //! The command `minimise`.
 ghost use Rattle.std.specs.Prelude.{◌≡◌, ◌≤◌, IfOk};
 ghost use Rattle.esto_constraint.specs.Constraints.{rules_of};
-ghost use Rattle.esto_opening.specs.Answers.{Answers};
-ghost use Rattle.esto_opening.specs.Asked.{AsksIn};
+ghost use Rattle.esto_status.specs.Answers.{Answers};
+ghost use Rattle.esto_status.specs.Asked.{AsksIn};
 ghost use Rattle.esto_ports.specs.Faults.{Rises};
 ghost use Rattle.esto_query.specs.Making.{query_of};
 ghost use Rattle.esto_query.specs.Schemas.{names_of};
@@ -12,9 +12,10 @@ use crate::printing::minimal_text;
 use either::{Left, Right};
 use esto_contain::Minimal;
 use esto_mapping::Catalogue;
-use esto_opening::{Reply, Status, open_catalogue, open_query};
+use esto_opening::{open_catalogue, open_query};
 use esto_ports::Shelf;
 use esto_query::Query;
+use esto_status::{Reply, Status};
 use esto_term::{Bytes, OutOfMemory, Text};
 use std::alloc::Global;
 

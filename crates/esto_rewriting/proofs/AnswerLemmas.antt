@@ -4,7 +4,7 @@ use Rattle.esto_mapping.specs.declared.catalogue.Catalogue.{Catalogue}
 use Rattle.esto_constraint.specs.Constraints.{rules_of}
 use Rattle.esto_list.specs.Items.{sets_of}
 use Rattle.esto_list.specs.declared.listing.Listed.{Listed}
-use Rattle.esto_plan.specs.Rows.{IsSafeQuery}
+use Rattle.esto_steps.specs.Texts.{IsSafeQuery}
 use Rattle.esto_rewriting.specs.PlannedLaws.{ClashExcludesAnswers, PlanHasForm, PlanReceivesUnions, PlanTellsAnswers}
 use Rattle.esto_query.specs.Making.{query_of}
 use Rattle.esto_query.specs.declared.query.Query.{Query}

@@ -7,12 +7,12 @@ use Rattle.esto_course.proofs.Steps.{gives_goes}
 use Rattle.esto_ports.specs.Files.{Files}
 use Rattle.esto_query.specs.declared.query.Query.{Query}
 use Rattle.esto_views.specs.declared.plan.Plan.{Plan}
-use Rattle.esto_opening.specs.Answers.{Answers}
-use Rattle.esto_opening.specs.Asked.{AsksIn}
+use Rattle.esto_status.specs.Answers.{Answers}
+use Rattle.esto_status.specs.Asked.{AsksIn}
 use Rattle.esto_opening.specs.Opening.{opens_query}
-use Rattle.esto_opening.specs.declared.reply.Reply.TheVariants.{Done}
-use Rattle.esto_opening.specs.declared.status.Status.{Status}
-use Rattle.esto_opening.proofs.AskedSteps.{exit_asks, later_asks, quiet_asks}
+use Rattle.esto_status.specs.declared.reply.Reply.TheVariants.{Done}
+use Rattle.esto_status.specs.declared.status.Status.{Status}
+use Rattle.esto_status.proofs.AskedSteps.{exit_asks, later_asks, quiet_asks}
 use Rattle.esto_rewriting.specs.Planning.{plans_query}
 use Rattle.esto_rewriting.specs.Verify.{names_set, verifies_query, verifies_read, verifies_set}
 

@@ -14,9 +14,9 @@ use Rattle.esto_term.proofs.ListLemmas.{Contains-at, Contains-map}
 use Rattle.esto_term.proofs.PlaceLemmas.{all_at}
 use Rattle.esto_views.specs.Fragments.{patterns_of}
 use Rattle.esto_views.specs.Plans.{plan_query}
-use Rattle.esto_opening.specs.Answers.{IsWant, IsCaused}
-use Rattle.esto_opening.specs.declared.status.Status.{Status}
-use Rattle.esto_opening.specs.declared.status.Status.TheVariants.{NoRewriting, NoSuchNumber}
+use Rattle.esto_status.specs.Answers.{IsWant, IsCaused}
+use Rattle.esto_status.specs.declared.status.Status.{Status}
+use Rattle.esto_status.specs.declared.status.Status.TheVariants.{NoRewriting, NoSuchNumber}
 use Rattle.esto_rewriting.specs.Alike.{ChoiceIsOne}
 use Rattle.esto_rewriting.specs.PlannedLaws.{ItemIsListed, PlaceIsWithin}
 use Rattle.esto_rewriting.specs.Choice.{HasNoPlace, IsPlace}

@@ -7,8 +7,8 @@ use Rattle.esto_course.proofs.Steps.{first_stops, then_goes, then_stops}
 use Rattle.esto_list.specs.declared.listing.Listed.{Listed}
 use Rattle.esto_query.specs.declared.query.Query.{Query}
 use Rattle.esto_views.specs.declared.plan.Plan.{Plan}
-use Rattle.esto_opening.specs.Answers.{IsWant, IsCaused}
-use Rattle.esto_opening.specs.declared.status.Status.{Status}
+use Rattle.esto_status.specs.Answers.{IsWant, IsCaused}
+use Rattle.esto_status.specs.declared.status.Status.{Status}
 use Rattle.esto_rewriting.specs.Listing.{IsListOf}
 use Rattle.esto_rewriting.specs.Planning.{chooses, lists_plan}
 use Rattle.esto_rewriting.specs.Explain.{certifies_item, explains_plan, explains_query}

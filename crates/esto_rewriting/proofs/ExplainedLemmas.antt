@@ -10,12 +10,13 @@ use Rattle.esto_list.specs.declared.listing.Listed.{Listed}
 use Rattle.esto_query.specs.declared.query.Query.{Query}
 use Rattle.esto_views.specs.Plans.{fact_of}
 use Rattle.esto_views.specs.declared.plan.Plan.{Plan}
-use Rattle.esto_opening.specs.Alike.{CataloguesOpenAlike, IsSameQuery, QueriesOpenAlike}
-use Rattle.esto_opening.specs.Calm.{Leads}
-use Rattle.esto_opening.specs.Line.{line_of}
-use Rattle.esto_opening.specs.declared.reply.Reply.TheVariants.{Done}
-use Rattle.esto_opening.specs.declared.status.Status.TheVariants as status
-use Rattle.esto_opening.proofs.LeadLemmas.{gives-leads, leads-more, then-leads, agreed_leads}
+use Rattle.esto_opening.specs.Alike.{CataloguesOpenAlike, QueriesOpenAlike}
+use Rattle.esto_query.specs.Same.{IsSameQuery}
+use Rattle.esto_status.specs.Calm.{Leads}
+use Rattle.esto_status.specs.Line.{line_of}
+use Rattle.esto_status.specs.declared.reply.Reply.TheVariants.{Done}
+use Rattle.esto_status.specs.declared.status.Status.TheVariants as status
+use Rattle.esto_status.proofs.LeadLemmas.{gives-leads, leads-more, then-leads, agreed_leads}
 use Rattle.esto_rewriting.specs.Alike.{ClashIsMoved, IsSamePlan, ListIsMoved, PlanIsMoved, PlanIsOne}
 use Rattle.esto_rewriting.specs.PlannedLaws.{ItemIsListed}
 use Rattle.esto_rewriting.specs.Listing.{IsListOf, IsPlanned}

@@ -9,8 +9,8 @@ use Rattle.esto_course.specs.Course.{Stops, judges}
 use Rattle.esto_course.specs.Course.Stops.{refused}
 use Rattle.esto_query.specs.declared.query.Query.{Query}
 use Rattle.esto_views.specs.declared.plan.Plan.{Plan}
-use Rattle.esto_opening.specs.Answers.{IsCaused, IsWant}
-use Rattle.esto_opening.specs.declared.status.Status.TheVariants.{Rejected}
+use Rattle.esto_status.specs.Answers.{IsCaused, IsWant}
+use Rattle.esto_status.specs.declared.status.Status.TheVariants.{Rejected}
 use Rattle.esto_rewriting.specs.Verify.{HasVerdict, judges_certificate}
 
 module _ (catalogue : Catalogue) (query : Query) (plan : Plan) (set : List Bool) (bytes shown : List ℕ) (same : shown ≡ bytes) where

@@ -9,8 +9,8 @@ use Rattle.esto_term.proofs.SetLemmas.{none_has}
 use Rattle.esto_course.specs.Course.{Stops, judges}
 use Rattle.esto_course.specs.Course.Stops.{refused}
 use Rattle.esto_views.specs.declared.plan.Plan.{Plan}
-use Rattle.esto_opening.specs.Answers.{IsCaused, IsWant}
-use Rattle.esto_opening.specs.declared.status.Status.TheVariants.{NoSuchNumber}
+use Rattle.esto_status.specs.Answers.{IsCaused, IsWant}
+use Rattle.esto_status.specs.declared.status.Status.TheVariants.{NoSuchNumber}
 use Rattle.esto_rewriting.specs.Verify.{first_above, IsSetOf, names_set}
 
 -- a number that is not above the count is passed

@@ -13,9 +13,9 @@ use Rattle.esto_list.specs.Items.{sets_of}
 use Rattle.esto_list.specs.Text.{IsListText}
 use Rattle.esto_views.specs.Printing.{each_from}
 use Rattle.esto_list.specs.declared.listing.Listed.{Listed}
-use Rattle.esto_opening.specs.Alike.{AreSameQueries, IsSameQuery}
-use Rattle.esto_opening.specs.Line.{line_of}
-use Rattle.esto_opening.specs.declared.status.Status.TheVariants as status
+use Rattle.esto_query.specs.Same.{AreSameQueries, IsSameQuery}
+use Rattle.esto_status.specs.Line.{line_of}
+use Rattle.esto_status.specs.declared.status.Status.TheVariants as status
 use Rattle.esto_plan_laws.specs.UnionLaws.{UnionListIsOne}
 use Rattle.esto_plan_laws.specs.UnionSets.{AreUnionListed}
 use Rattle.esto_rewriting.specs.Alike.{EndIsOne, IsSamePlan, ItemsAreOne, ListTextIsOne}

@@ -8,9 +8,9 @@ use Rattle.std.specs.Result.{IsErrAnd}
 use Rattle.esto_course.specs.Course.{Stops, judges}
 use Rattle.esto_course.specs.Course.Stops.{is_free, refused}
 use Rattle.esto_list.specs.declared.listing.Listed.{Listed}
-use Rattle.esto_opening.specs.Answers.{IsCaused, IsWant}
-use Rattle.esto_opening.specs.declared.status.Status.{Status}
-use Rattle.esto_opening.specs.declared.status.Status.TheVariants.{NoRewriting, NoSuchNumber}
+use Rattle.esto_status.specs.Answers.{IsCaused, IsWant}
+use Rattle.esto_status.specs.declared.status.Status.{Status}
+use Rattle.esto_status.specs.declared.status.Status.TheVariants.{NoRewriting, NoSuchNumber}
 use Rattle.esto_rewriting.specs.Choice.HasNoPlace.{is_empty as list_is_empty, is_above as number_is_above}
 use Rattle.esto_rewriting.specs.Planning.{chooses}
 use Rattle.esto_run.specs.Picks.{candidate_of}
@@ -139,9 +139,6 @@ module _ (members : List Member) (number : Option ℕ) where
   pub choice_refused : (refusal : Status) → HasNoChoice members number refusal → Stops IsWant (IsCaused ⊥) (chooses_each members number) refusal
   unfolding judges
   choice_refused refusal none = refused (choice_caused refusal none) none
-
-  pub choice_wants : (refusal : Status) → IsWant refusal → Stops IsWant (IsCaused ⊥) (chooses_each members number) refusal
-  choice_wants refusal want = is_free want
 
 -- an error that `?` hands on
 pub handed_holds : {A E : Type 0} (P : E → Type 0) (error : E) (result : Result A E) → IsErrAnd result (λ handed. handed ≡ error) → P error

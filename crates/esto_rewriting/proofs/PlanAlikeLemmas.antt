@@ -18,9 +18,9 @@ use Rattle.esto_semantics.specs.Rules.{AreRules}
 use Rattle.esto_views.specs.Fragments.{views_of, patterns_of}
 use Rattle.esto_views.specs.Plans.{plan_query}
 use Rattle.esto_views.specs.declared.plan.Plan.{Plan}
-use Rattle.esto_opening.specs.Alike.{IsSameQuery}
-use Rattle.esto_opening.specs.Calm.{AgreeCalmly}
-use Rattle.esto_opening.specs.declared.status.Status.TheVariants as status
+use Rattle.esto_query.specs.Same.{IsSameQuery}
+use Rattle.esto_status.specs.Calm.{AgreeCalmly}
+use Rattle.esto_status.specs.declared.status.Status.TheVariants as status
 use Rattle.esto_constraint.proofs.RuleLemmas.{are_rules}
 use Rattle.esto_rewriting.specs.Alike.{EndIsOne, IsSameEnd, IsSamePlan, ListIsOne, ListingIsOne, PlanIsOne}
 use Rattle.esto_rewriting.specs.PlannedLaws.{PlanLaws}

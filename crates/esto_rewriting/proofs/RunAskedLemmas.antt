@@ -6,14 +6,14 @@ use Rattle.esto_course.specs.Course.{Names, Stops, judges, gives}
 use Rattle.esto_course.specs.Course.Stops.{is_free}
 use Rattle.esto_course.proofs.Asking.{quiet_gives, quiet_judges}
 use Rattle.esto_course.proofs.Steps.{gives_goes}
-use Rattle.esto_opening.specs.Answers.{IsCaused, IsWant}
-use Rattle.esto_opening.specs.Asked.{AsksIn}
-use Rattle.esto_opening.specs.Fragments.{opens_fragments}
-use Rattle.esto_opening.specs.declared.reply.Reply.{Reply}
-use Rattle.esto_opening.specs.declared.reply.Reply.TheVariants.{Done}
-use Rattle.esto_opening.specs.declared.status.Status.{Status}
-use Rattle.esto_opening.specs.declared.status.Status.TheVariants.{OutOfMemory}
-use Rattle.esto_opening.proofs.AskedSteps.{accepted, exit_asks, later_asks, quiet_asks, wanted}
+use Rattle.esto_status.specs.Answers.{IsCaused, IsWant}
+use Rattle.esto_status.specs.Asked.{AsksIn}
+use Rattle.esto_run.specs.Fragments.{opens_fragments}
+use Rattle.esto_status.specs.declared.reply.Reply.{Reply}
+use Rattle.esto_status.specs.declared.reply.Reply.TheVariants.{Done}
+use Rattle.esto_status.specs.declared.status.Status.{Status}
+use Rattle.esto_status.specs.declared.status.Status.TheVariants.{OutOfMemory}
+use Rattle.esto_status.proofs.AskedSteps.{accepted, exit_asks, later_asks, quiet_asks, wanted}
 use Rattle.esto_ports.specs.Files.{Files}
 use Rattle.esto_query.specs.declared.query.Query.{Query}
 use Rattle.esto_run.specs.Used.{AreUsedByAll}

@@ -6,26 +6,26 @@ use Rattle.std.proofs.lemmas.Option.{none-some, same_Some}
 use Rattle.esto_mapping.specs.declared.catalogue.Catalogue.{Catalogue}
 use Rattle.esto_chase_laws.specs.declared.clash.Clash.{Clash}
 use Rattle.esto_constraint.specs.Constraints.{rules_of}
-use Rattle.esto_opening.specs.Alike.{AreSameQueries}
-use Rattle.esto_opening.specs.Answers.{IsCaused}
-use Rattle.esto_opening.specs.Calm.{Leads}
-use Rattle.esto_opening.specs.Fragments.{opens_fragments, IsReadableFragment}
-use Rattle.esto_opening.specs.Line.{line_of}
-use Rattle.esto_opening.specs.Readable.{OpenedAreReadable, ReadableAreOpened, TellsOfFile}
-use Rattle.esto_opening.specs.Readable.TellsOfFile.{fails, is_longer, has_fault}
-use Rattle.esto_opening.specs.Replies.{reply_status, reply_text}
-use Rattle.esto_opening.specs.declared.reply.Reply.{Reply}
-use Rattle.esto_opening.specs.declared.reply.Reply.TheVariants.{Done}
-use Rattle.esto_opening.specs.declared.status.Status.{Status}
-use Rattle.esto_opening.specs.declared.status.Status.TheVariants as status
-use Rattle.esto_opening.proofs.LeadLemmas.{gives-leads, judges-leads, leads-more, then-leads}
+use Rattle.esto_query.specs.Same.{AreSameQueries}
+use Rattle.esto_status.specs.Answers.{IsCaused}
+use Rattle.esto_status.specs.Calm.{Leads}
+use Rattle.esto_run.specs.Fragments.{opens_fragments, IsReadableFragment}
+use Rattle.esto_status.specs.Line.{line_of}
+use Rattle.esto_run.specs.Readable.{OpenedAreReadable, ReadableAreOpened, TellsOfFile}
+use Rattle.esto_run.specs.Readable.TellsOfFile.{fails, is_longer, has_fault}
+use Rattle.esto_status.specs.Replies.{reply_status, reply_text}
+use Rattle.esto_status.specs.declared.reply.Reply.{Reply}
+use Rattle.esto_status.specs.declared.reply.Reply.TheVariants.{Done}
+use Rattle.esto_status.specs.declared.status.Status.{Status}
+use Rattle.esto_status.specs.declared.status.Status.TheVariants as status
+use Rattle.esto_status.proofs.LeadLemmas.{gives-leads, judges-leads, leads-more, then-leads}
 use Rattle.esto_rewriting.specs.Alike.{ChoiceIsOne}
 use Rattle.esto_rewriting.specs.Listing.{IsClash}
 use Rattle.esto_ports.specs.Files.{Files}
 use Rattle.esto_query.specs.declared.query.Query.{Query}
 use Rattle.esto_run.specs.Answers.{rows_text}
 use Rattle.esto_run.specs.Laws.{FilesHoldViewRows, IsAnswerOfOne}
-use Rattle.esto_run.specs.Stores.{IsFileRow, IsRowIn}
+use Rattle.esto_docs.specs.Stores.{IsFileRow, IsRowIn}
 use Rattle.esto_run.specs.Used.{AreUsedByAll, fragments_of}
 use Rattle.esto_semantics.specs.Facts.{Database}
 use Rattle.esto_semantics.specs.Queries.{ConjunctiveQuery}
@@ -42,7 +42,7 @@ use Rattle.esto_term.specs.declared.term.Term.{Term}
 use Rattle.esto_union.specs.Unions.{queries_of}
 use Rattle.esto_views.specs.Fragments.{views_of}
 use Rattle.esto_opening.proofs.UnionLemmas.{itself}
-use Rattle.esto_opening.proofs.StatusLemmas.{done_not_clash, same_clash, done_not_above, clash_not_above, none_not_above, same_asked, same_least}
+use Rattle.esto_status.proofs.StatusLemmas.{done_not_clash, same_clash, done_not_above, clash_not_above, none_not_above, same_asked, same_least}
 use Rattle.esto_rewriting.specs.Exact.{HasNoRewriting, HaveAnswers}
 use Rattle.esto_rewriting.specs.UnionLaws.{EmptyListsAreTold, IsSameMember, MembersAreOne, MembersTellSatisfiable}
 use Rattle.esto_rewriting.specs.Members.{AreMembersOf, ClashAt, HavePlan, OneIsEmpty, has_plan}

@@ -1,18 +1,17 @@
 -- The run of the sets that are chosen for the members of a union.
-use Rattle.std.proofs.Common.{◌≡◌, ◌↔◌, ◌<◌, ℕ, Bool, List, length, get_or, map, filter, Contains, slice_get, Option, Some, None, refl, sym, ap, subst}
-use Rattle.std.proofs.Common.{◌∙◌}
+use Rattle.std.proofs.Common.{◌≡◌, ◌↔◌, ◌<◌, ℕ, Bool, List, length, get_or, map, filter, Contains, slice_get, Option, Some, None, refl, sym, ap, subst, ◌∙◌}
 use Rattle.std.proofs.lemmas.Option.{slice_get_within, slice_get_read}
 use Rattle.esto_mapping.specs.declared.catalogue.Catalogue.{Catalogue}
 use Rattle.esto_chase_laws.specs.declared.clash.Clash.{Clash}
 use Rattle.esto_course.specs.Course.{Stops, judges, gives, and_then}
 use Rattle.esto_course.proofs.Steps.{first_stops, then_goes, then_stops}
 use Rattle.esto_list.specs.declared.listing.Listed.{Listed}
-use Rattle.esto_opening.specs.Answers.{IsCaused, IsWant}
-use Rattle.esto_opening.specs.Fragments.{opens_fragments}
-use Rattle.esto_opening.specs.declared.reply.Reply.{Reply}
-use Rattle.esto_opening.specs.declared.reply.Reply.TheVariants.{Done}
-use Rattle.esto_opening.specs.declared.status.Status.{Status}
-use Rattle.esto_opening.proofs.Steps.{still_stops}
+use Rattle.esto_status.specs.Answers.{IsCaused, IsWant}
+use Rattle.esto_run.specs.Fragments.{opens_fragments}
+use Rattle.esto_status.specs.declared.reply.Reply.{Reply}
+use Rattle.esto_status.specs.declared.reply.Reply.TheVariants.{Done}
+use Rattle.esto_status.specs.declared.status.Status.{Status}
+use Rattle.esto_status.proofs.Steps.{still_stops}
 use Rattle.esto_steps.specs.Rows.{IsRowOf, held_by}
 use Rattle.esto_rewriting.specs.PlannedLaws.{PlanHasForm, PlanIsOver}
 use Rattle.esto_ports.specs.Files.{Files}
@@ -21,7 +20,7 @@ use Rattle.esto_run.specs.Answers.{IsAnswersText}
 use Rattle.esto_run.specs.Laws.{AnswersAreOverFiles, IsAnswerOfOne, IsAnswerOver, UsesOnly}
 use Rattle.esto_run.specs.Opened.{AreOpened}
 use Rattle.esto_run.specs.Picks.{IsRunnable, candidate_of}
-use Rattle.esto_run.specs.Stores.{IsFileRow}
+use Rattle.esto_docs.specs.Stores.{IsFileRow}
 use Rattle.esto_run.specs.Used.{AreUsedByAll, fragments_of}
 use Rattle.esto_run.specs.declared.picks.Pick.{Pick}
 use Rattle.esto_semantics.specs.Access.{IsOrder, IsStatedOrder}

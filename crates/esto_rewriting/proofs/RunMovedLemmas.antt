@@ -5,24 +5,24 @@ use Rattle.esto_mapping.specs.Catalogues.{AreSame}
 use Rattle.esto_mapping.specs.declared.catalogue.Catalogue.{Catalogue}
 use Rattle.esto_chase_laws.specs.declared.clash.Clash.{Clash}
 use Rattle.esto_course.specs.Course.{Course, and_then, each, gives, judges}
-use Rattle.esto_opening.proofs.StoreLemmas.{same_fault, same_file, same_named}
-use Rattle.esto_opening.proofs.ReadableLemmas.{stored_here}
-use Rattle.esto_opening.proofs.TextLemmas.{same_rows_text}
-use Rattle.esto_opening.specs.Alike.{AreSameQueries, IsSameQuery}
-use Rattle.esto_opening.specs.FragmentsAlike.{StoresHaveOneContent}
-use Rattle.esto_opening.specs.Calm.{Leads}
-use Rattle.esto_opening.specs.Fetch.{fetches}
-use Rattle.esto_opening.specs.Fragments.{IsStoredAt, Stored, no_contents, opens_fragment, opens_fragments, opens_next, opens_stored, with_content}
-use Rattle.esto_opening.specs.declared.opening.TheConstants.{DATA_LIMIT}
-use Rattle.esto_opening.specs.declared.reply.Reply.{Reply}
-use Rattle.esto_opening.specs.declared.reply.Reply.TheVariants.{Unsatisfiable}
-use Rattle.esto_opening.specs.declared.status.Status.{Status}
-use Rattle.esto_opening.specs.declared.status.Status.TheVariants as status
+use Rattle.esto_run.proofs.StoreAlikeLemmas.{same_fault, same_file, same_named}
+use Rattle.esto_run.proofs.ReadableLemmas.{stored_here}
+use Rattle.esto_run.proofs.RowsTextLemmas.{same_rows_text}
+use Rattle.esto_query.specs.Same.{AreSameQueries, IsSameQuery}
+use Rattle.esto_run.specs.FragmentsAlike.{StoresHaveOneContent}
+use Rattle.esto_status.specs.Calm.{Leads}
+use Rattle.esto_status.specs.Fetch.{fetches}
+use Rattle.esto_run.specs.Fragments.{IsStoredAt, Stored, no_contents, opens_fragment, opens_fragments, opens_next, opens_stored, with_content}
+use Rattle.esto_status.specs.declared.limits.TheConstants.{DATA_LIMIT}
+use Rattle.esto_status.specs.declared.reply.Reply.{Reply}
+use Rattle.esto_status.specs.declared.reply.Reply.TheVariants.{Unsatisfiable}
+use Rattle.esto_status.specs.declared.status.Status.{Status}
+use Rattle.esto_status.specs.declared.status.Status.TheVariants as status
 use Rattle.esto_rewriting.specs.Alike.{ClashIsMoved, PlanIsMoved}
 use Rattle.esto_ports.specs.Files.{Files}
 use Rattle.esto_query.specs.declared.query.Query.{Query}
 use Rattle.esto_run.specs.Laws.{IsAnswerOfOne}
-use Rattle.esto_run.specs.Stores.{IsFileRow}
+use Rattle.esto_docs.specs.Stores.{IsFileRow}
 use Rattle.esto_semantics.specs.Facts.{image}
 use Rattle.esto_semantics.specs.Queries.{ConjunctiveQuery}
 use Rattle.esto_stores.specs.Rows.{Row}

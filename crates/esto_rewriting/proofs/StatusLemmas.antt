@@ -8,9 +8,10 @@ use Rattle.esto_course.proofs.Determined.{judges_agree, then_agree}
 use Rattle.esto_list.specs.declared.listing.Listed.{Listed}
 use Rattle.esto_query.specs.declared.query.Query.{Query}
 use Rattle.esto_views.specs.declared.plan.Plan.{Plan}
-use Rattle.esto_opening.specs.Alike.{CataloguesOpenAlike, IsSameQuery, QueriesOpenAlike}
-use Rattle.esto_opening.specs.Calm.{AgreeCalmly}
-use Rattle.esto_opening.specs.declared.reply.Reply.TheVariants.{Done}
+use Rattle.esto_opening.specs.Alike.{CataloguesOpenAlike, QueriesOpenAlike}
+use Rattle.esto_query.specs.Same.{IsSameQuery}
+use Rattle.esto_status.specs.Calm.{AgreeCalmly}
+use Rattle.esto_status.specs.declared.reply.Reply.TheVariants.{Done}
 use Rattle.esto_rewriting.specs.Alike.{ChoiceIsOne, IsSamePlan, ListIsOne, PlanIsOne}
 use Rattle.esto_rewriting.specs.Planning.{chooses}
 use Rattle.esto_rewriting.specs.Explain.{explains_plan, explains_query}

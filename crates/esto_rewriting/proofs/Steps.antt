@@ -1,8 +1,8 @@
 -- The steps of commands, for the search.
 use Rattle.esto_course.proofs.Asking.{quiet_judges, quiet_gives, quiet_refuses, quiet_demands, quiet_then}
 use Rattle.esto_course.proofs.Steps.{then_goes, gives_goes, at_exit}
-use Rattle.esto_opening.proofs.AskedSteps.{exit_asks, handed_asks, later_asks, quiet_asks}
-use Rattle.esto_opening.proofs.Steps.{end_stops, last_stops, later_stops, rose_stops, still_stops}
+use Rattle.esto_status.proofs.AskedSteps.{exit_asks, handed_asks, later_asks, quiet_asks}
+use Rattle.esto_status.proofs.Steps.{end_stops, last_stops, later_stops, rose_stops, still_stops}
 
 -- the steps of a command
 pub ruleset steps = (at_exit, rose_stops, still_stops, last_stops, later_stops, then_goes, gives_goes)

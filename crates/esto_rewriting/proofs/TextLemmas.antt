@@ -1,5 +1,5 @@
 -- The text of a union is put member by member.
-use Rattle.std.proofs.Common.{◌≡◌, ◌<◌, ◌≤◌, ◌+◌, ℕ, List, [], ◌∷◌, ◌++◌, length, drop, get_or, refl, sym, subst}
+use Rattle.std.proofs.Common.{◌≡◌, ◌<◌, ◌≤◌, ◌+◌, ℕ, List, [], ◌∷◌, ◌++◌, length, drop, get_or, sym, subst}
 use Rattle.std.proofs.lemmas.List.{append_assoc, append-nil, drop_all}
 use Rattle.std.specs.List.{AllZip}
 use Rattle.esto_term.proofs.PlaceLemmas.{drop-item}
@@ -15,9 +15,6 @@ GoesOn catalogue members place text =
     → IsUnionText catalogue members (text ++ each_from disjunct_text place more)
 
 module _ (catalogue : Catalogue) (members : List Member) where
-  pub starts : GoesOn catalogue members 0 []
-  starts more texts = (more, texts, refl)
-
   pub goes : (place : ℕ) (member : Member) (old new : List ℕ) → place < length members → member ≡ get_or members place member
       → ((own : List ℕ) × IsMemberText catalogue member own × (new ≡ old ++ disjunct_text place own)) → GoesOn catalogue members place old
       → GoesOn catalogue members (place + 1) new

@@ -7,17 +7,17 @@ use Rattle.esto_chase_laws.specs.declared.clash.Clash.{Clash}
 use Rattle.esto_constraint.specs.Constraints.{rules_of}
 use Rattle.esto_course.specs.Course.{and_then, judges}
 use Rattle.esto_list.specs.declared.listing.Listed.{Listed}
-use Rattle.esto_opening.specs.Calm.{Leads}
-use Rattle.esto_opening.specs.Line.{line_of}
-use Rattle.esto_opening.specs.declared.status.Status.{Status}
-use Rattle.esto_opening.specs.declared.status.Status.TheVariants as status
+use Rattle.esto_status.specs.Calm.{Leads}
+use Rattle.esto_status.specs.Line.{line_of}
+use Rattle.esto_status.specs.declared.status.Status.{Status}
+use Rattle.esto_status.specs.declared.status.Status.TheVariants as status
 use Rattle.esto_rewriting.specs.Listing.{IsClash}
 use Rattle.esto_query.specs.Making.{query_of}
 use Rattle.esto_query.specs.declared.query.Query.{Query}
 use Rattle.esto_semantics.specs.Containment.{IsSatisfiable}
 use Rattle.esto_term.proofs.ListLemmas.{Contains-cases, Contains-head, Contains-nil, Contains-rest}
 use Rattle.esto_views.specs.declared.plan.Plan.{Plan}
-use Rattle.esto_opening.proofs.StatusLemmas.{done_not_clash, same_clash}
+use Rattle.esto_status.proofs.StatusLemmas.{done_not_clash, same_clash}
 use Rattle.esto_rewriting.specs.Exact.{HaveAnswers, ListsUnionExactly, TellsSatisfiable}
 use Rattle.esto_rewriting.specs.UnionLaws.{EmptyListsAreTold, MembersAreCores, MembersAreUniversal, MembersCoverUnions, MembersTellSatisfiable}
 use Rattle.esto_rewriting.specs.List.{IsUnionText, lists_union}

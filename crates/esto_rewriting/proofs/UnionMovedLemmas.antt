@@ -4,9 +4,9 @@ use Rattle.std.specs.List.{AllZip}
 use Rattle.esto_mapping.specs.Catalogues.{AreSame}
 use Rattle.esto_mapping.specs.declared.catalogue.Catalogue.{Catalogue}
 use Rattle.esto_course.specs.Course.{and_then, judges}
-use Rattle.esto_opening.specs.Alike.{AreSameQueries, IsSameQuery}
-use Rattle.esto_opening.specs.Answers.{IsCaused}
-use Rattle.esto_opening.specs.declared.status.Status.{Status}
+use Rattle.esto_query.specs.Same.{AreSameQueries, IsSameQuery}
+use Rattle.esto_status.specs.Answers.{IsCaused}
+use Rattle.esto_status.specs.declared.status.Status.{Status}
 use Rattle.esto_rewriting.specs.Alike.{ClashIsMoved, ListTextIsMoved, PlanIsMoved}
 use Rattle.esto_query.specs.declared.query.Query.{Query}
 use Rattle.esto_term.proofs.ZipLemmas.{zip_weaker}

@@ -8,19 +8,20 @@ use Rattle.esto_ports.specs.Files.{Files}
 use Rattle.esto_query.specs.declared.query.Query.{Query}
 use Rattle.esto_term.specs.SetLaws.{NumbersTellSets}
 use Rattle.esto_views.specs.declared.plan.Plan.{Plan}
-use Rattle.esto_opening.specs.Alike.{CataloguesOpenAlike, IsSameQuery, QueriesOpenAlike}
-use Rattle.esto_opening.specs.Calm.{Leads}
-use Rattle.esto_opening.specs.Line.{line_of}
-use Rattle.esto_opening.specs.declared.reply.Reply.TheVariants.{Done}
-use Rattle.esto_opening.specs.declared.status.Status.{Status}
-use Rattle.esto_opening.specs.declared.status.Status.TheVariants as status
-use Rattle.esto_opening.proofs.LeadLemmas.{fetches-leads, gives-leads, leads-more, then-leads, agreed_leads}
+use Rattle.esto_opening.specs.Alike.{CataloguesOpenAlike, QueriesOpenAlike}
+use Rattle.esto_query.specs.Same.{IsSameQuery}
+use Rattle.esto_status.specs.Calm.{Leads}
+use Rattle.esto_status.specs.Line.{line_of}
+use Rattle.esto_status.specs.declared.reply.Reply.TheVariants.{Done}
+use Rattle.esto_status.specs.declared.status.Status.{Status}
+use Rattle.esto_status.specs.declared.status.Status.TheVariants as status
+use Rattle.esto_status.proofs.LeadLemmas.{fetches-leads, gives-leads, leads-more, then-leads, agreed_leads}
 use Rattle.esto_rewriting.specs.Alike.{IsSamePlan, PlanIsOne}
 use Rattle.esto_rewriting.specs.Listing.{IsPlanned}
 use Rattle.esto_rewriting.specs.Planning.{plans_query}
 use Rattle.esto_rewriting.specs.CertificateLaws.{Certifies, IsSaid, SaysVerdict, VerifySaysVerdicts}
 use Rattle.esto_rewriting.specs.Verify.{HasVerdict, IsAbove, IsSetOf, judges_certificate, names_set, verifies_query, verifies_set}
-use Rattle.esto_opening.specs.declared.opening.TheConstants.{DATA_LIMIT}
+use Rattle.esto_status.specs.declared.limits.TheConstants.{DATA_LIMIT}
 use Rattle.esto_rewriting.proofs.VerifyAlikeLemmas.{same_length, set_not_above, sets_one, verdict_one}
 
 -- ---- certificates that are accepted

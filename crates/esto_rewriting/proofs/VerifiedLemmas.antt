@@ -4,15 +4,16 @@ use Rattle.esto_mapping.specs.Catalogues.{AreSame}
 use Rattle.esto_mapping.specs.declared.catalogue.Catalogue.{Catalogue}
 use Rattle.esto_cert.specs.Showing.{AcceptedCertificatesDerive, AcceptedCertificatesShow, VerdictsAreMoved}
 use Rattle.esto_course.specs.Course.{and_then, judges}
-use Rattle.esto_opening.specs.Alike.{CataloguesOpenAlike, IsSameQuery, QueriesOpenAlike}
-use Rattle.esto_opening.specs.Answers.{IsCaused}
-use Rattle.esto_opening.specs.Calm.{Leads}
-use Rattle.esto_opening.specs.Fetch.{FetchStops, HasWithin, fetches}
-use Rattle.esto_opening.specs.Line.{line_of}
-use Rattle.esto_opening.specs.declared.reply.Reply.TheVariants.{Done}
-use Rattle.esto_opening.specs.declared.status.Status.{Status}
-use Rattle.esto_opening.specs.declared.status.Status.TheVariants as status
-use Rattle.esto_opening.proofs.LeadLemmas.{gives-leads, leads-more, then-leads, agreed_leads}
+use Rattle.esto_opening.specs.Alike.{CataloguesOpenAlike, QueriesOpenAlike}
+use Rattle.esto_query.specs.Same.{IsSameQuery}
+use Rattle.esto_status.specs.Answers.{IsCaused}
+use Rattle.esto_status.specs.Calm.{Leads}
+use Rattle.esto_status.specs.Fetch.{FetchStops, HasWithin, fetches}
+use Rattle.esto_status.specs.Line.{line_of}
+use Rattle.esto_status.specs.declared.reply.Reply.TheVariants.{Done}
+use Rattle.esto_status.specs.declared.status.Status.{Status}
+use Rattle.esto_status.specs.declared.status.Status.TheVariants as status
+use Rattle.esto_status.proofs.LeadLemmas.{gives-leads, leads-more, then-leads, agreed_leads}
 use Rattle.esto_rewriting.specs.Alike.{ClashIsMoved, IsSamePlan, PlanIsMoved, PlanIsOne}
 use Rattle.esto_rewriting.specs.Listing.{IsPlanned}
 use Rattle.esto_ports.specs.Files.{Files}
@@ -22,7 +23,7 @@ use Rattle.esto_rewriting.specs.CertificateLaws.{IsChecked, IsVerified, VerifyCh
 use Rattle.esto_rewriting.specs.CertificateLaws.IsChecked.{is_above, not_fetched, accepts, rejects}
 use Rattle.esto_rewriting.specs.CertificateLaws.IsVerified.{clashes, has_plan}
 use Rattle.esto_rewriting.specs.Verify.{first_above, HasVerdict, IsAbove, IsSetOf, verifies_query}
-use Rattle.esto_opening.specs.declared.opening.TheConstants.{DATA_LIMIT}
+use Rattle.esto_status.specs.declared.limits.TheConstants.{DATA_LIMIT}
 use Rattle.esto_rewriting.proofs.VerifyAlikeLemmas.{same_length, verdict_moved}
 use Rattle.esto_rewriting.proofs.VerdictLemmas.{certifies}
 

@@ -12,16 +12,17 @@ use Rattle.esto_semantics.specs.Queries.{ConjunctiveQuery}
 use Rattle.esto_term.specs.SetLaws.{NumbersTellSets}
 use Rattle.esto_views.specs.Plans.{fact_of}
 use Rattle.esto_views.specs.declared.plan.Plan.{Plan}
-use Rattle.esto_opening.specs.Alike.{CataloguesOpenAlike, IsSameQuery, QueriesOpenAlike}
-use Rattle.esto_opening.specs.Calm.{AgreeCalmly, IsOne}
-use Rattle.esto_opening.specs.declared.reply.Reply.TheVariants.{Done}
-use Rattle.esto_opening.specs.declared.status.Status.{Status}
-use Rattle.esto_opening.specs.declared.status.Status.TheVariants.{NoSuchNumber, Rejected}
-use Rattle.esto_opening.proofs.AgreeLemmas.{fetches-agree}
+use Rattle.esto_opening.specs.Alike.{CataloguesOpenAlike, QueriesOpenAlike}
+use Rattle.esto_query.specs.Same.{IsSameQuery}
+use Rattle.esto_status.specs.Calm.{AgreeCalmly, IsOne}
+use Rattle.esto_status.specs.declared.reply.Reply.TheVariants.{Done}
+use Rattle.esto_status.specs.declared.status.Status.{Status}
+use Rattle.esto_status.specs.declared.status.Status.TheVariants.{NoSuchNumber, Rejected}
+use Rattle.esto_status.proofs.AgreeLemmas.{fetches-agree}
 use Rattle.esto_rewriting.specs.Alike.{IsSamePlan, PlanIsOne}
 use Rattle.esto_opening.proofs.AlikeLemmas.{same_query}
 use Rattle.esto_rewriting.specs.Verify.{HasVerdict, IsAbove, IsSetOf, judges_certificate, names_set, verifies_query, verifies_set, verify_course}
-use Rattle.esto_opening.specs.declared.opening.TheConstants.{DATA_LIMIT}
+use Rattle.esto_status.specs.declared.limits.TheConstants.{DATA_LIMIT}
 
 pub same_length : (plan other : Plan) → IsSamePlan plan other → length plan.atoms ≡ length other.atoms
 same_length plan other same =

@@ -1,6 +1,6 @@
 -- Lists that go together place by place.
-use Rattle.std.proofs.Common.{◌≡◌, ◌<◌, ◌≤◌, ◌+◌, ℕ, List, [], ◌∷◌, ◌++◌, length, take, get_or, sym, ap, subst, ◌∙◌, arith}
-use Rattle.std.proofs.lemmas.List.{take_all, take_more}
+use Rattle.std.proofs.Common.{◌≡◌, ◌<◌, ◌+◌, ℕ, List, [], ◌∷◌, ◌++◌, length, take, get_or, sym, ap, subst, ◌∙◌, arith}
+use Rattle.std.proofs.lemmas.List.{take_more}
 use Rattle.std.proofs.lemmas.Slice.Zip.{all_zipped_more}
 use Rattle.std.specs.List.{AllZip}
 
@@ -11,9 +11,6 @@ module _ {A B : Type 0} (R : A → B → Type 0) where
   zip_next ones others place one other below read zip is =
       subst (λ it. AllZip R it (others ++ other ∷ [])) (ap (λ it. take place ones ++ it ∷ []) read ∙ sym (take_more ones place one below))
       (all_zipped_more R (take place ones) others one other zip is)
-
-  pub zip_all : (ones : List A) (others : List B) (place : ℕ) → length ones ≤ place → AllZip R (take place ones) others → AllZip R ones others
-  zip_all ones others place le zip = subst (λ it. AllZip R it others) (take_all place ones le) zip
 
   -- where there is a thing of the first list, there is one of the second
   pub zip_some : (ones : List A) (others : List B) → AllZip R ones others → 0 < length ones → 0 < length others

@@ -12,8 +12,8 @@ use Rattle.esto_query.specs.declared.query.Query.{Query}
 use Rattle.esto_views.specs.Plans.{plan_query}
 use Rattle.esto_views.specs.declared.fragments.FragmentDef.{FragmentDef}
 use Rattle.esto_views.specs.declared.plan.Plan.{Plan}
-use Rattle.esto_opening.specs.Alike.{IsSameQuery}
-use Rattle.esto_opening.specs.Calm.{AgreeCalmly}
+use Rattle.esto_query.specs.Same.{IsSameQuery}
+use Rattle.esto_status.specs.Calm.{AgreeCalmly}
 use Rattle.esto_rewriting.specs.Listing.{IsClash, IsListing, IsListOf, IsPlanned}
 use Rattle.esto_rewriting.specs.Planning.{chooses, ends_query, lists_plan, plans_query}
 

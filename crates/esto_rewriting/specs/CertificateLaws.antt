@@ -13,21 +13,21 @@ use Rattle.esto_views.specs.Fragments.{views_of}
 use Rattle.esto_views.specs.Plans.{plan_query}
 use Rattle.esto_views.specs.declared.plan.Plan.{Plan}
 use Rattle.esto_views.specs.Contained.{IsSafelyContained}
-use Rattle.esto_opening.specs.Calm.{AgreeCalmly, IsOne, SaysAlways}
-use Rattle.esto_opening.specs.Answers.{IsCaused}
-use Rattle.esto_opening.specs.Fetch.{FetchStops, HasWithin}
-use Rattle.esto_opening.specs.Line.{line_of}
+use Rattle.esto_status.specs.Calm.{AgreeCalmly, IsOne, SaysAlways}
+use Rattle.esto_status.specs.Answers.{IsCaused}
+use Rattle.esto_status.specs.Fetch.{FetchStops, HasWithin}
+use Rattle.esto_status.specs.Line.{line_of}
 use Rattle.esto_opening.specs.Opening.{opens_catalogue, opens_query}
-use Rattle.esto_opening.specs.declared.reply.Reply.{Reply}
-use Rattle.esto_opening.specs.declared.reply.Reply.TheVariants.{Done}
-use Rattle.esto_opening.specs.declared.status.Status.{Status}
-use Rattle.esto_opening.specs.declared.status.Status.TheVariants as status
+use Rattle.esto_status.specs.declared.reply.Reply.{Reply}
+use Rattle.esto_status.specs.declared.reply.Reply.TheVariants.{Done}
+use Rattle.esto_status.specs.declared.status.Status.{Status}
+use Rattle.esto_status.specs.declared.status.Status.TheVariants as status
 use Rattle.esto_rewriting.specs.Choice.{HasNoPlace, IsPlace}
 use Rattle.esto_rewriting.specs.PlannedLaws.{HoldsOfPlans}
 use Rattle.esto_rewriting.specs.Listing.{IsClash, IsListOf, IsPlanned}
 use Rattle.esto_rewriting.specs.Explain.{explain_course}
 use Rattle.esto_rewriting.specs.Verify.{first_above, HasVerdict, IsSetOf, verify_course}
-use Rattle.esto_opening.specs.declared.opening.TheConstants.{DATA_LIMIT}
+use Rattle.esto_status.specs.declared.limits.TheConstants.{DATA_LIMIT}
 
 -- ---- one outcome
 

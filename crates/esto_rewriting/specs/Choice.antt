@@ -11,8 +11,8 @@ use Rattle.esto_semantics.specs.Listed.{IsListed, IsPick}
 use Rattle.esto_views.specs.Fragments.{views_of, patterns_of}
 use Rattle.esto_views.specs.Plans.{plan_query}
 use Rattle.esto_views.specs.declared.plan.Plan.{Plan}
-use Rattle.esto_opening.specs.declared.status.Status.{Status}
-use Rattle.esto_opening.specs.declared.status.Status.TheVariants.{NoRewriting, NoSuchNumber}
+use Rattle.esto_status.specs.declared.status.Status.{Status}
+use Rattle.esto_status.specs.declared.status.Status.TheVariants.{NoRewriting, NoSuchNumber}
 
 -- The place of the item that is chosen: the pick, or the place of the item of the number, counted from 1.
 abbrev pub IsPlace : List Listed → Option ℕ → ℕ → Type 0

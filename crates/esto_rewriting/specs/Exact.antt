@@ -6,9 +6,9 @@ use Rattle.esto_chase_laws.specs.declared.clash.Clash.{Clash}
 use Rattle.esto_constraint.specs.Constraints.{rules_of}
 use Rattle.esto_core.specs.Cored.{IsOnlyCore}
 use Rattle.esto_list.specs.Items.{sets_of}
-use Rattle.esto_opening.specs.Line.{line_of}
-use Rattle.esto_opening.specs.declared.status.Status.{Status}
-use Rattle.esto_opening.specs.declared.status.Status.TheVariants as status
+use Rattle.esto_status.specs.Line.{line_of}
+use Rattle.esto_status.specs.declared.status.Status.{Status}
+use Rattle.esto_status.specs.declared.status.Status.TheVariants as status
 use Rattle.esto_plan_laws.specs.Cores.{HasNoRetract}
 use Rattle.esto_rewriting.specs.Listing.{IsClash}
 use Rattle.esto_query.specs.Making.{query_of}

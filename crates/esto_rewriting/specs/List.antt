@@ -6,9 +6,9 @@ use Rattle.esto_chase_laws.specs.declared.clash.Clash.{Clash}
 use Rattle.esto_course.specs.Course.{Course, judges, and_then}
 use Rattle.esto_list.specs.Text.{IsListText}
 use Rattle.esto_views.specs.Printing.{count_line, each_from}
-use Rattle.esto_opening.specs.Line.{line_of}
-use Rattle.esto_opening.specs.declared.status.Status.{Status}
-use Rattle.esto_opening.specs.declared.status.Status.TheVariants.{Unsatisfiable}
+use Rattle.esto_status.specs.Line.{line_of}
+use Rattle.esto_status.specs.declared.status.Status.{Status}
+use Rattle.esto_status.specs.declared.status.Status.TheVariants.{Unsatisfiable}
 use Rattle.esto_query.specs.declared.query.Query.{Query}
 use Rattle.esto_rewriting.specs.Members.{AreMembersOf, ClashAt, HavePlan}
 use Rattle.esto_rewriting.specs.declared.members.Member.{Member}

@@ -8,8 +8,8 @@ use Rattle.esto_course.specs.Course.{Course, judges}
 use Rattle.esto_list.specs.declared.listing.Listed.{Listed}
 use Rattle.esto_query.specs.declared.query.Query.{Query}
 use Rattle.esto_views.specs.declared.plan.Plan.{Plan}
-use Rattle.esto_opening.specs.declared.status.Status.{Status}
-use Rattle.esto_opening.specs.declared.status.Status.TheVariants.{Unsatisfiable}
+use Rattle.esto_status.specs.declared.status.Status.{Status}
+use Rattle.esto_status.specs.declared.status.Status.TheVariants.{Unsatisfiable}
 use Rattle.esto_rewriting.specs.Choice.{HasNoPlace, IsPlace}
 use Rattle.esto_rewriting.specs.Listing.{IsClash, IsListOf, IsPlanned}
 

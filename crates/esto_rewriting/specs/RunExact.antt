@@ -3,12 +3,12 @@ use Rattle.std.specs.Prelude.{◌≡◌, ◌≢◌, ◌↔◌, ℕ, ◌<◌, Lis
 use Rattle.esto_mapping.specs.declared.catalogue.Catalogue.{Catalogue}
 use Rattle.esto_chase_laws.specs.declared.clash.Clash.{Clash}
 use Rattle.esto_constraint.specs.Constraints.{rules_of}
-use Rattle.esto_opening.specs.Calm.{Leads}
-use Rattle.esto_opening.specs.Fragments.{IsReadableFragment}
-use Rattle.esto_opening.specs.Line.{line_of}
-use Rattle.esto_opening.specs.Replies.{reply_status, reply_text}
-use Rattle.esto_opening.specs.declared.status.Status.{Status}
-use Rattle.esto_opening.specs.declared.status.Status.TheVariants as status
+use Rattle.esto_status.specs.Calm.{Leads}
+use Rattle.esto_run.specs.Fragments.{IsReadableFragment}
+use Rattle.esto_status.specs.Line.{line_of}
+use Rattle.esto_status.specs.Replies.{reply_status, reply_text}
+use Rattle.esto_status.specs.declared.status.Status.{Status}
+use Rattle.esto_status.specs.declared.status.Status.TheVariants as status
 use Rattle.esto_rewriting.specs.Listing.{IsClash}
 use Rattle.esto_ports.specs.Files.{Files}
 use Rattle.esto_query.specs.declared.query.Query.{Query}

@@ -3,12 +3,12 @@ use Rattle.std.specs.Prelude.{◌≡◌, ◌↔◌, ℕ, List, map, Option, Some
 use Rattle.esto_mapping.specs.Catalogues.{AreSame}
 use Rattle.esto_mapping.specs.declared.catalogue.Catalogue.{Catalogue}
 use Rattle.esto_constraint.specs.Constraints.{rules_of}
-use Rattle.esto_opening.specs.Alike.{AreSameQueries}
-use Rattle.esto_opening.specs.Calm.{AgreeCalmly, Leads}
+use Rattle.esto_query.specs.Same.{AreSameQueries}
+use Rattle.esto_status.specs.Calm.{AgreeCalmly, Leads}
 use Rattle.esto_ports.specs.Files.{Files}
 use Rattle.esto_query.specs.declared.query.Query.{Query}
 use Rattle.esto_run.specs.Laws.{FilesHoldViewRows, IsAnswerOfOne}
-use Rattle.esto_run.specs.Stores.{IsFileRow}
+use Rattle.esto_docs.specs.Stores.{IsFileRow}
 use Rattle.esto_semantics.specs.Facts.{Database}
 use Rattle.esto_semantics.specs.Queries.{ConjunctiveQuery}
 use Rattle.esto_semantics.specs.Rules.{Meets}

@@ -3,10 +3,10 @@ use Rattle.std.specs.Prelude.{◌≡◌, ◌↔◌, List, Contains}
 use Rattle.std.specs.List.{AllZip}
 use Rattle.esto_mapping.specs.Catalogues.{AreSame}
 use Rattle.esto_mapping.specs.declared.catalogue.Catalogue.{Catalogue}
-use Rattle.esto_opening.specs.Alike.{AreSameQueries}
-use Rattle.esto_opening.specs.Calm.{AgreeCalmly, Leads}
-use Rattle.esto_opening.specs.Line.{line_of}
-use Rattle.esto_opening.specs.declared.status.Status.TheVariants.{Done}
+use Rattle.esto_query.specs.Same.{AreSameQueries}
+use Rattle.esto_status.specs.Calm.{AgreeCalmly, Leads}
+use Rattle.esto_status.specs.Line.{line_of}
+use Rattle.esto_status.specs.declared.status.Status.TheVariants.{Done}
 use Rattle.esto_query.specs.declared.query.Query.{Query}
 use Rattle.esto_rewriting.specs.Alike.{IsSamePlan}
 use Rattle.esto_rewriting.specs.Exact.{CoversUnions, HasNoRewriting, HasOnlyCore, HasUniversalPlan, ListsUnionExactly, TellsSatisfiable}

@@ -1,9 +1,9 @@
 //! The choice of an item of a list.
-ghost use Rattle.esto_opening.specs.Answers.{Answers};
+ghost use Rattle.esto_status.specs.Answers.{Answers};
 ghost use Rattle.esto_rewriting.specs.Planning.{chooses};
 
 use esto_list::Listing;
-use esto_opening::Status;
+use esto_status::Status;
 
 /// The place of the item of the list that is chosen: the pick, or that of the number, counted from 1.
 pub fn choose(listing: &Listing, number: Option<u64>) -> Result<usize, Status>

@@ -2,9 +2,9 @@
 ghost use Rattle.std.specs.Prelude.{◌≡◌, ◌≤◌, IfOk, None};
 ghost use Rattle.esto_ports.specs.Faults.{Rises};
 ghost use Rattle.esto_chase_laws.specs.WorldSteps.{AreJoined};
-ghost use Rattle.esto_backchase.specs.Evidence.{AreEntriesOf};
-ghost use Rattle.esto_opening.specs.Answers.{Answers};
-ghost use Rattle.esto_opening.specs.Asked.{AsksIn};
+ghost use Rattle.esto_condchase.specs.Evidence.{AreEntriesOf};
+ghost use Rattle.esto_status.specs.Answers.{Answers};
+ghost use Rattle.esto_status.specs.Asked.{AsksIn};
 ghost use Rattle.esto_rewriting.specs.Choice.{IsItemOf};
 ghost use Rattle.esto_rewriting.specs.Listing.{IsPlanned};
 ghost use Rattle.esto_rewriting.specs.Explain.{explains_plan, explains_query, explain_course, explains_read};
@@ -18,10 +18,11 @@ use crate::planning::{list_of, plan_of};
 use esto_derive::write_certificate;
 use esto_list::Listed;
 use esto_mapping::Catalogue;
-use esto_opening::{Reply, Status, open_catalogue, open_query};
+use esto_opening::{open_catalogue, open_query};
 use esto_ports::Shelf;
 use esto_prov::Entries;
 use esto_query::Query;
+use esto_status::{Reply, Status};
 use esto_term::{Bytes, OutOfMemory, Text};
 use esto_views::Plan;
 use std::alloc::Global;
@@ -36,7 +37,8 @@ fn certificate_of(
     item: &Listed,
 ) -> Result<Bytes, OutOfMemory>
     requires planned { IsPlanned catalogue.now query.now plan.now }
-    requires entries { AreEntriesOf catalogue.now plan.now entries.now }
+    requires entries { AreEntriesOf catalogue.now.fragments catalogue.now.rules catalogue.now.ranks
+        plan.now entries.now }
     requires joined { AreJoined entries.now entries.now }
     requires item { IsItemOf catalogue.now query.now plan.now item.now }
     ensures { IfOk result

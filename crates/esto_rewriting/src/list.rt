@@ -1,13 +1,13 @@
 //! The command `list` over a union.
 ghost use Rattle.std.specs.Prelude.{◌≡◌, ◌<◌, ◌++◌, ℕ, List, length, IfOk, OnOk};
 ghost use Rattle.esto_rewriting.specs.List.{IsMemberText, IsUnionText, disjunct_text, lists_union, prints_members};
-ghost use Rattle.esto_opening.specs.Unions.{FormUnion};
-ghost use Rattle.esto_opening.specs.Answers.{Answers};
+ghost use Rattle.esto_query.specs.Unions.{FormUnion};
+ghost use Rattle.esto_status.specs.Answers.{Answers};
 
 use crate::members::{Member, Members, clash_of, copy_clash, members_of};
 use esto_mapping::Catalogue;
-use esto_opening::{Status, status_line};
 use esto_query::Query;
+use esto_status::{Status, status_line};
 use esto_term::{Bytes, OutOfMemory};
 use esto_views::put_count;
 use std::alloc::Global;

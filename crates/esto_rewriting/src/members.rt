@@ -1,13 +1,13 @@
 //! The members of a union.
 ghost use Rattle.std.specs.Prelude.{◌≡◌, ◌<◌, length, IfOk, Contains, MatchOption};
-ghost use Rattle.esto_opening.specs.Unions.{FormUnion};
+ghost use Rattle.esto_query.specs.Unions.{FormUnion};
 ghost use Rattle.std.specs.List.{list_any};
 ghost use Rattle.esto_rewriting.specs.Members.{AreMembersOf, ClashAt, HavePlan, IsListIn, IsMemberOf, IsPlannedForOne, has_plan};
 
 use crate::planned_laws::{planned_plans_are_universal, planned_plans_have_their_form};
 use crate::printed::{printed_plan, printed_plans_are_over_fragments};
 use either::{Left, Right};
-use esto_chase::Clash;
+use esto_chase_laws::Clash;
 use esto_list::Listing;
 use esto_mapping::Catalogue;
 use esto_query::Query;

@@ -1,7 +1,7 @@
 //! The choice of a set for each member of a union.
 ghost use Rattle.std.specs.Prelude.{◌++◌, ◌∷◌, [], List, IfOk, IfErr, OnOk};
 ghost use Rattle.esto_course.specs.Course.{Stops};
-ghost use Rattle.esto_opening.specs.Answers.{IsCaused, IsWant};
+ghost use Rattle.esto_status.specs.Answers.{IsCaused, IsWant};
 ghost use Rattle.esto_rewriting.specs.Picking.{AddsPick, ArePicksOf, HasChoice, HaveChoice, IsLeast, IsLesser, IsPickFrom};
 ghost use Rattle.esto_rewriting.specs.Run.{HasNoChoice, chooses_each};
 ghost use Rattle.esto_rewriting.specs.declared.members.Member.{Member};
@@ -11,8 +11,8 @@ use crate::choice::choose;
 use crate::members::Member;
 use crate::planned_laws::chosen_items_are_listed;
 use esto_list::Listing;
-use esto_opening::Status;
 use esto_run::Pick;
+use esto_status::Status;
 use esto_term::List;
 use esto_views::Plan;
 use std::alloc::Global;

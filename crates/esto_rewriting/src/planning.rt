@@ -1,8 +1,8 @@
 //! The printed plan of a query, and its list.
 ghost use Rattle.std.specs.Prelude.{IfOk};
 ghost use Rattle.esto_chase_laws.specs.WorldSteps.{AreJoined};
-ghost use Rattle.esto_backchase.specs.Evidence.{AreEntriesOf};
-ghost use Rattle.esto_opening.specs.Answers.{Answers};
+ghost use Rattle.esto_condchase.specs.Evidence.{AreEntriesOf};
+ghost use Rattle.esto_status.specs.Answers.{Answers};
 ghost use Rattle.esto_rewriting.specs.Listing.{IsListOf, IsPlanned};
 ghost use Rattle.esto_rewriting.specs.Planning.{plans_query};
 
@@ -12,9 +12,9 @@ use either::{Left, Right};
 use esto_backchase::minimal_sets;
 use esto_list::Listing;
 use esto_mapping::Catalogue;
-use esto_opening::Status;
 use esto_prov::Entries;
 use esto_query::Query;
+use esto_status::Status;
 use esto_term::OutOfMemory;
 use esto_views::Plan;
 use std::alloc::Global;
@@ -46,7 +46,8 @@ pub fn list_of(
 ) -> Result<PlanList, OutOfMemory>
     requires { IsPlanned catalogue.now query.now plan.now }
     ensures list { IfOk result (λ it. IsListOf catalogue.now query.now plan.now it.listing) }
-    ensures entries { IfOk result (λ it. AreEntriesOf catalogue.now plan.now it.entries) }
+    ensures entries { IfOk result (λ it. AreEntriesOf catalogue.now.fragments catalogue.now.rules
+        catalogue.now.ranks plan.now it.entries) }
     ensures joined { IfOk result (λ it. AreJoined it.entries it.entries) }
 {
     planned_plans_are_universal();

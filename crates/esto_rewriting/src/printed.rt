@@ -18,7 +18,7 @@ ghost use Rattle.esto_rewriting.specs.PrintedLaws.{PrintedPlanIsUniversal, Print
 ghost use Rattle.esto_rewriting.specs.PrintedLaws.{PrintedPlanIsOver, PrintedPlanHasDistinctAtoms};
 
 use either::{Either, Left, Right};
-use esto_chase::Clash;
+use esto_chase_laws::Clash;
 use esto_constraint::rules_are_sound;
 use esto_core::{
     core_of, cored_plans_are_cores, cored_plans_are_determined, cored_plans_are_universal,

@@ -1,25 +1,27 @@
 //! The command `run` over a union.
 ghost use Rattle.std.specs.Prelude.{◌≡◌, ◌≤◌, ◌<◌, length, map, Contains, IfOk};
-ghost use Rattle.esto_opening.specs.Answers.{Answers};
-ghost use Rattle.esto_opening.specs.Asked.{AsksIn};
+ghost use Rattle.esto_status.specs.Answers.{Answers};
+ghost use Rattle.esto_status.specs.Asked.{AsksIn};
 ghost use Rattle.esto_ports.specs.Faults.{Rises};
 ghost use Rattle.esto_query.specs.declared.query.Query.{Query};
 ghost use Rattle.esto_run.specs.Picks.{IsRunnable, candidate_of};
 ghost use Rattle.esto_run.specs.declared.picks.Pick.{Pick};
 ghost use Rattle.esto_rewriting.specs.Members.{AreMembersOf};
 ghost use Rattle.esto_rewriting.specs.Run.{IsNoRows, runs_chosen, runs_members, runs_union};
-ghost use Rattle.esto_opening.specs.Unions.{FormUnion};
+ghost use Rattle.esto_query.specs.Unions.{FormUnion};
 
 use crate::members::{Members, clash_of, members_of};
 use crate::picking::pick_each;
 use crate::planned_laws::planned_plans_have_their_form;
-use esto_chase::Clash;
+use esto_chase_laws::Clash;
 use esto_mapping::Catalogue;
-use esto_opening::{Reply, Status, open_fragments};
 use esto_ports::Shelf;
 use esto_query::Query;
-use esto_run::{Pick, answers_are_over_files, answers_text, fragments_of_picks, text_of_picks};
+use esto_run::{
+    Pick, answers_are_over_files, answers_text, fragments_of_picks, open_fragments, text_of_picks,
+};
 use esto_semantics::chosen_atoms_are_named;
+use esto_status::{Reply, Status};
 use esto_term::{List, OutOfMemory};
 use std::alloc::Global;
 

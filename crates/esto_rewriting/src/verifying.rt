@@ -2,8 +2,8 @@
 ghost use Rattle.std.specs.Prelude.{◌≡◌, ◌⊎◌, ◌↔◌, ◌+◌, ◌≤◌, ℕ, length};
 ghost use Rattle.esto_ports.specs.Faults.{Rises};
 ghost use Rattle.esto_term.specs.Sets.{Has};
-ghost use Rattle.esto_opening.specs.Answers.{Answers};
-ghost use Rattle.esto_opening.specs.Asked.{AsksIn};
+ghost use Rattle.esto_status.specs.Answers.{Answers};
+ghost use Rattle.esto_status.specs.Asked.{AsksIn};
 ghost use Rattle.esto_rewriting.specs.Listing.{IsPlanned};
 ghost use Rattle.esto_rewriting.specs.Verify.{judges_certificate, names_set, verifies_query, verifies_read, verifies_set, verify_course};
 
@@ -12,9 +12,10 @@ use crate::planning::plan_of;
 use esto_bits::RowBits;
 use esto_cert::{CertError, check_certificate};
 use esto_mapping::Catalogue;
-use esto_opening::{DATA_LIMIT, Reply, Status, fetch, open_catalogue, open_query};
+use esto_opening::{open_catalogue, open_query};
 use esto_ports::Shelf;
 use esto_query::Query;
+use esto_status::{DATA_LIMIT, Reply, Status, fetch};
 use esto_term::{Bytes, Text};
 use esto_views::Plan;
 use std::alloc::Global;

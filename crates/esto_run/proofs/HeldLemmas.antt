@@ -7,7 +7,7 @@ use Rattle.std.proofs.lemmas.Option.{get_or_from_slice_get, slice_get_within}
 use Rattle.esto_columns.specs.CodedRows.{CodedRows}
 use Rattle.esto_columns.specs.Interned.{Grows, AreCodesOf, AreCodedRows}
 use Rattle.esto_columns.specs.declared.stored.StoredRows.{StoredRows}
-use Rattle.esto_plan.specs.Planned.{inputs_of}
+use Rattle.esto_steps.specs.Planned.{inputs_of}
 use Rattle.esto_steps.specs.Rows.{held_by}
 use Rattle.esto_stores.specs.Rows.{Row}
 use Rattle.esto_term.proofs.ListLemmas.{Contains-nil, Contains-head, Contains-rest, Contains-map, Contains-map_from, map_agree, map_then, thing_at, at_left}

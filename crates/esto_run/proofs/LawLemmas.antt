@@ -1,19 +1,14 @@
 -- Laws of runs.
 use Rattle.std.proofs.Common.{◌≡◌, ◌↔◌, Some, map, slice_get, Contains}
-use Rattle.std.specs.Cmp.{IsTotalOrder}
-use Rattle.std.specs.Cmp.Lexicographic.{slice_cmp}
-use Rattle.std.specs.Ordering.{nat_cmp}
-use Rattle.std.proofs.lemmas.Cmp.{lists_total, nat_cmp_total}
-use Rattle.esto_plan.proofs.CodedLemmas.{answers_over_held}
+use Rattle.esto_steps.proofs.CodedLemmas.{answers_over_held}
 use Rattle.esto_semantics.specs.Listed.{candidate}
-use Rattle.esto_term.proofs.ChoiceLemmas.{one_list}
 use Rattle.esto_semantics.specs.Queries.{ConjunctiveQuery}
 use Rattle.esto_semantics.specs.Views.{IsFragmentAnswer}
 use Rattle.esto_semantics.specs.declared.fact.Value.TheVariants.{Text}
 use Rattle.esto_stores.specs.Rows.{Row}
-use Rattle.esto_run.specs.Laws.{AnswersAreOverFiles, IsAnswerOver, RewritingsAnswerQueries, RisingRowsAreOne, UnionsAnswerOverFiles}
-use Rattle.esto_mapping.specs.declared.catalogue.Store.{Store}
-use Rattle.esto_run.specs.Stores.{IsFileRow, IsRowIn}
+use Rattle.esto_run.specs.Laws.{AnswersAreOverFiles, IsAnswerOver, RewritingsAnswerQueries, UnionsAnswerOverFiles}
+use Rattle.esto_docmodel.specs.declared.file.Store.{Store}
+use Rattle.esto_docs.specs.Stores.{IsFileRow, IsRowIn}
 
 pub answers_over_files : AnswersAreOverFiles
 answers_over_files stores files numbers opened query are uses row = (
@@ -28,12 +23,6 @@ rewritings_answer rules views patterns query plan set stores files database is m
       (λ answer. over.0 (is.equivalent.1 database meets values answer)),
       (λ found. is.equivalent.0 database meets values (over.1 found)),
     )
-
-rows_total : IsTotalOrder (slice_cmp (slice_cmp nat_cmp))
-rows_total = lists_total (lists_total nat_cmp_total)
-
-pub rising_once : RisingRowsAreOne
-rising_once rows others rises too same = one_list (slice_cmp (slice_cmp nat_cmp)) rows_total rows others rises too same
 
 pub unions_answer : UnionsAnswerOverFiles
 unions_answer views database queries stores files each values = (

@@ -1,5 +1,3 @@
-pub mod StoreLemmas
-pub mod CodedStoreLemmas
 pub mod HeldLemmas
 pub mod OpenedLemmas
 pub mod UsedLemmas
@@ -7,3 +5,9 @@ pub mod RunnableLemmas
 pub mod RunLemmas
 pub mod UnionLemmas
 pub mod LawLemmas
+pub mod FragmentAlikeLemmas
+pub mod FragmentLemmas
+pub mod FragmentRefusalLemmas
+pub mod ReadableLemmas
+pub mod StoreAlikeLemmas
+pub mod RowsTextLemmas

@@ -5,13 +5,13 @@ use Rattle.std.proofs.lemmas.Bool.{cases_order}
 use Rattle.std.proofs.lemmas.List.{get_or-set_other, get_or-set_same, length-map, map-set}
 use Rattle.std.proofs.lemmas.List.Elements.{Contains-push_cases}
 use Rattle.std.proofs.lemmas.Option.{same_Some, slice_get_within}
-use Rattle.esto_mapping.specs.declared.catalogue.Store.{Store}
+use Rattle.esto_docmodel.specs.declared.file.Store.{Store}
 use Rattle.esto_steps.specs.Rows.{held_by}
 use Rattle.esto_stores.specs.Rows.{Row}
 use Rattle.esto_term.proofs.ListLemmas.{Contains-nil, map_at, map_then}
 use Rattle.esto_views.specs.declared.fragments.FragmentDef.{FragmentDef}
-use Rattle.esto_run.specs.Opened.{Held, HaveWidth, AreRowsFor, AreOpened, rows_held, shape_of, unopened}
-use Rattle.esto_run.specs.Stores.{IsRowIn, IsFileRow}
+use Rattle.esto_run.specs.Opened.{Held, AreRowsFor, AreOpened, rows_held, shape_of, unopened}
+use Rattle.esto_docs.specs.Stores.{HaveWidth, IsRowIn, IsFileRow}
 
 -- ---- no rows
 

@@ -10,9 +10,9 @@ use Rattle.esto_columns.specs.Asked.{Shape}
 use Rattle.esto_columns.specs.Interned.{Grows}
 use Rattle.esto_columns.specs.declared.stored.StoredRows.{StoredRows}
 use Rattle.esto_run.specs.Runnable.{HaveShapes}
-use Rattle.esto_plan.specs.Planned.{AreStepsAfter, Fits, IsSource, atoms_of, inputs_of}
+use Rattle.esto_steps.specs.Planned.{AreStepsAfter, Fits, IsSource, atoms_of, inputs_of}
 use Rattle.esto_steps.specs.Rows.{IsRowOf, held_by}
-use Rattle.esto_plan.specs.Rows.{AreCoded}
+use Rattle.esto_steps.specs.Texts.{AreCoded}
 use Rattle.esto_steps.specs.declared.steps.Get.{Get}
 use Rattle.esto_steps.specs.declared.steps.Source.{Source}
 use Rattle.esto_semantics.specs.Access.{Patterns, IsOrder}

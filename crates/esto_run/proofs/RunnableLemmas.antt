@@ -13,7 +13,7 @@ use Rattle.esto_steps.specs.declared.steps.Get.{Get}
 use Rattle.esto_steps.specs.declared.steps.Link.{Link}
 use Rattle.esto_steps.specs.declared.steps.Source.{Source}
 use Rattle.esto_steps.specs.declared.steps.Steps.{Steps}
-use Rattle.esto_plan.specs.Planned.{IsGetOf, AreStepsAfter, AreStepsOf, inputs_from, inputs_of}
+use Rattle.esto_steps.specs.Planned.{IsGetOf, AreStepsAfter, AreStepsOf, inputs_from, inputs_of}
 use Rattle.esto_exec.specs.Runnable.{AreRunnable}
 use Rattle.esto_run.specs.Runnable.{HaveShapes}
 

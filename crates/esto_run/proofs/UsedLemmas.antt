@@ -12,54 +12,16 @@ use Rattle.esto_term.specs.declared.term.Term.{Term}
 use Rattle.esto_semantics.specs.Listed.{chosen}
 use Rattle.esto_term.specs.Sets.{Has}
 use Rattle.esto_semantics.specs.declared.fact.Fact.{Fact}
-use Rattle.esto_term.proofs.ChoiceLemmas.{Decided, least_below, pairs_head, pairs_tail, pairs_append}
-use Rattle.esto_term.proofs.ListLemmas.{Contains-at, Contains-nil, Contains-head, Contains-rest, Contains-cases, at_left, place-from_Contains, thing_at}
+use Rattle.esto_term.proofs.ChoiceLemmas.{Decided, least_below, pairs_append}
+use Rattle.esto_term.proofs.ListLemmas.{Contains-at, Contains-nil, Contains-head, Contains-cases, at_left, place-from_Contains, thing_at}
 use Rattle.esto_term.proofs.PlaceLemmas.{take-item}
 use Rattle.esto_semantics.specs.Queries.{ConjunctiveQuery}
+use Rattle.esto_columns.proofs.RisingLemmas.{one_by_before}
 use Rattle.esto_run.specs.Picks.{candidate_of}
 use Rattle.esto_run.specs.Used.{Uses, UsesFirst, AreUsed, AreUsedByAll, AddsUse, StandsFirst, AreFirsts, fragments_of}
 use Rattle.esto_run.specs.declared.picks.Pick.{Pick}
 
 -- ---- one list of fragments
-
--- lists with the same items, each before later ones by a relation that holds one way alone, are one
-module _ {A : Type 0} (Before : A → A → Type 0) where
-  pub one_list : (xs ys : List A) → ((x : A) → Contains xs x → Before x x → ⊥) → ((x y : A) → Contains xs x → Contains xs y → Before x y → Before y x → ⊥)
-      → AllPairs Before xs → AllPairs Before ys → ((z : A) → Contains xs z ↔ Contains ys z) → xs ≡ ys
-  one_list [] [] itself both rises others same = refl
-  one_list [] (y ∷ ys) itself both rises others same = absurd (Contains-nil y ((same y).1 (Contains-head y ys)))
-  one_list (x ∷ xs) [] itself both rises others same = absurd (Contains-nil x ((same x).0 (Contains-head x xs)))
-  one_list (x ∷ xs) (y ∷ ys) itself both rises others same =
-      ap (λ z. z ∷ xs) heads ∙ ap (λ zs. y ∷ zs)
-      (one_list xs ys (λ z inside. itself z (Contains-rest x xs z inside))
-      (λ z w inside there. both z w (Contains-rest x xs z inside) (Contains-rest x xs w there))
-      (pairs_tail Before x xs rises) (pairs_tail Before y ys others) tails)
-    where
-      in_first : (z : A) → Contains ys z → Contains (x ∷ xs) z
-      in_first z inside = (same z).1 (Contains-rest y ys z inside)
-
-      heads : x ≡ y
-      heads = elim (Contains-cases y ys x ((same x).0 (Contains-head x xs))) [
-        | inl e ↦ sym e
-        | inr later ↦ elim (Contains-cases x xs y ((same y).1 (Contains-head y ys))) [
-          | inl e ↦ e
-          | inr other ↦ absurd (both x y (Contains-head x xs) (Contains-rest x xs y other)
-              (pairs_head Before x xs rises y other) (pairs_head Before y ys others x later))
-        ]
-      ]
-
-      tails : (z : A) → Contains xs z ↔ Contains ys z
-      tails z = (
-        (λ inside. elim (Contains-cases y ys z ((same z).0 (Contains-rest x xs z inside))) [
-          | inl e ↦ absurd (itself x (Contains-head x xs) (subst (Before x) (sym (heads ∙ e)) (pairs_head Before x xs rises z inside)))
-          | inr there ↦ there
-        ]),
-        (λ inside. elim (Contains-cases x xs z (in_first z inside)) [
-          | inl e ↦ absurd (itself x (Contains-head x xs)
-              (subst (λ it. Before it x) (sym heads) (subst (Before y) (sym e) (pairs_head Before y ys others z inside))))
-          | inr there ↦ there
-        ]),
-      )
 
 same_number : (x y : ℕ) → Decided (x ≡ y)
 same_number x y = elim (cases_order x y) [
@@ -91,7 +53,7 @@ module _ (atoms : List (Fact Term)) (set : List Bool) where
   Before fragment other = (number later : ℕ) → UsesFirst atoms set fragment number → UsesFirst atoms set other later → number < later
 
   pub used_once : (fragments others : List ℕ) → AreUsed atoms set fragments → AreUsed atoms set others → fragments ≡ others
-  used_once fragments others are too = one_list Before fragments others
+  used_once fragments others are too = one_by_before Before fragments others
       (λ fragment inside before. let found = (are.exact fragment).0 inside in let first = first_use fragment found.0 found.1 in
       let less = before first.0 first.0 first.2 first.2 in omega (arith, less))
       (λ fragment other inside there before after.
@@ -224,7 +186,7 @@ module _ (numbers : List ℕ) where
       let there = place-from_Contains numbers number ((are.exact number).0 inside) in stands_first number there.0 there.1
 
   pub firsts_once : (firsts others : List ℕ) → AreFirsts numbers firsts → AreFirsts numbers others → firsts ≡ others
-  firsts_once firsts others are too = one_list ComesBefore firsts others
+  firsts_once firsts others are too = one_by_before ComesBefore firsts others
       (λ number inside before. let first = first_of firsts are number inside in
       let less = before first.0 first.0 first.1 first.1 in omega (arith, less))
       (λ number other inside there before after.

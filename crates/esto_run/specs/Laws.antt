@@ -1,8 +1,8 @@
 -- What laws on runs say.
 use Rattle.std.specs.Prelude.{◌≡◌, ◌↔◌, ℕ, Bool, List, map, Contains}
-use Rattle.esto_mapping.specs.declared.catalogue.Store.{Store}
+use Rattle.esto_docmodel.specs.declared.file.Store.{Store}
 use Rattle.esto_steps.specs.Rows.{IsRowOf, held_by}
-use Rattle.esto_plan.specs.Rows.{IsSafeQuery}
+use Rattle.esto_steps.specs.Texts.{IsSafeQuery}
 use Rattle.esto_semantics.specs.Access.{Patterns}
 use Rattle.esto_semantics.specs.Facts.{Database}
 use Rattle.esto_semantics.specs.Listed.{candidate, IsRewriting}
@@ -15,9 +15,9 @@ use Rattle.esto_semantics.specs.declared.fact.Value.{Value}
 use Rattle.esto_semantics.specs.declared.fact.Value.TheVariants.{Text}
 use Rattle.esto_term.specs.declared.term.Term.{Term}
 use Rattle.esto_stores.specs.Rows.{Row}
-use Rattle.esto_run.specs.Answers.{AreRising}
+pub use Rattle.esto_columns.specs.Lent.{RisingRowsAreOne}
 use Rattle.esto_run.specs.Opened.{AreOpened}
-use Rattle.esto_run.specs.Stores.{IsFileRow}
+use Rattle.esto_docs.specs.Stores.{IsFileRow}
 use Rattle.esto_run.specs.Used.{AreUsed, AreUsedByAll}
 
 -- The row is an answer of the query over the fragments, where a predicate tells which rows they hold.
@@ -76,8 +76,3 @@ UsedAreOne = (atoms : List (Fact Term)) (set : List Bool) (fragments others : Li
 abbrev pub UsedByAllAreOne : Type 0
 UsedByAllAreOne = (queries : List ConjunctiveQuery) (fragments others : List ℕ)
     → AreUsedByAll queries fragments → AreUsedByAll queries others → fragments ≡ others
-
--- Rising rows are one list where they are the same rows.
-abbrev pub RisingRowsAreOne : Type 0
-RisingRowsAreOne =
-    (rows others : List Row) → AreRising rows → AreRising others → ((row : Row) → Contains rows row ↔ Contains others row) → rows ≡ others

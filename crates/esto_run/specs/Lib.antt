@@ -1,4 +1,3 @@
-pub mod Stores
 pub mod Opened
 pub mod Used
 pub mod Stored
@@ -7,3 +6,7 @@ pub mod Laws
 pub mod Picks
 pub mod Coded
 pub mod Runnable
+pub mod Fragments
+pub mod FragmentsAlike
+pub mod Readable
+pub mod Texts

@@ -1,14 +1,14 @@
 -- The rows of fragments, as far as their files are opened.
 use Rattle.std.specs.Prelude.{◌≡◌, ◌<◌, ◌↔◌, ℕ, List, [], Some, length, map, slice_get, slice_set, slice_index_or, Contains}
-use Rattle.esto_mapping.specs.declared.catalogue.Store.{Store}
+use Rattle.esto_docmodel.specs.declared.file.Store.{Store}
 use Rattle.esto_columns.specs.Asked.{Shape}
 use Rattle.esto_columns.specs.declared.stored.StoredRows.{StoredRows}
-use Rattle.esto_plan.specs.Planned.{inputs_of}
+use Rattle.esto_steps.specs.Planned.{inputs_of}
 use Rattle.esto_steps.specs.Rows.{IsRowOf, held_by}
 use Rattle.esto_semantics.specs.declared.fact.Fact.{Fact}
 use Rattle.esto_stores.specs.Rows.{Row}
 use Rattle.esto_views.specs.declared.fragments.FragmentDef.{FragmentDef}
-use Rattle.esto_run.specs.Stores.{IsFileRow}
+use Rattle.esto_docs.specs.Stores.{IsFileRow}
 
 -- What is held of a fragment: how it is asked, and its rows.
 pub record Held : Type 0 where
@@ -42,10 +42,6 @@ shape_of fragment = record { arity = length fragment.view.head; ways = map input
 -- What is held of a fragment whose file is not opened.
 abbrev pub unopened : FragmentDef → Held
 unopened fragment = record { shape = shape_of fragment; rows = [] }
-
--- Each row has so many cells.
-abbrev pub HaveWidth : ℕ → List Row → Type 0
-HaveWidth width rows = (row : Row) → Contains rows row → length row ≡ width
 
 -- The rows are those of the fragments, each asked in its ways, with as many cells as the fragment's view has columns.
 pub record AreRowsFor (fragments : List FragmentDef) (opened : List Held) : Type 0 where

@@ -3,7 +3,7 @@ use Rattle.std.specs.Prelude.{◌≡◌, Bool, List, [], Some, length, map, slic
 use Rattle.esto_term.specs.declared.term.Term.{Term}
 use Rattle.esto_semantics.specs.declared.fact.Fact.{Fact}
 use Rattle.esto_columns.specs.Asked.{Shape}
-use Rattle.esto_plan.specs.Planned.{inputs_of}
+use Rattle.esto_steps.specs.Planned.{inputs_of}
 
 -- Each fragment that an atom names is there, has as many columns as the atom has terms, and can be asked in the ways of its patterns.
 abbrev pub HaveShapes : List (List (List Bool)) → List (Fact Term) → List Shape → Type 0

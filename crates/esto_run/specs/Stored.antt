@@ -1,7 +1,7 @@
 -- Rows of codes that an executor asks.
 use Rattle.std.specs.Prelude.{◌≡◌, List, [], length, map, Contains}
 use Rattle.esto_columns.specs.declared.stored.StoredRows.{StoredRows}
-use Rattle.esto_plan.specs.Planned.{inputs_of}
+use Rattle.esto_steps.specs.Planned.{inputs_of}
 use Rattle.esto_views.specs.declared.fragments.FragmentDef.{FragmentDef}
 
 -- There is no row in any of them.

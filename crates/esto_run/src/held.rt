@@ -1,15 +1,15 @@
 //! Rows of fragments, kept as codes of their texts.
 ghost use Rattle.std.specs.Prelude.{◌≡◌, ◌<◌, [], length, map, OnOk, OnErr};
-ghost use Rattle.esto_mapping.specs.Soundness.{IsShapeFor};
+ghost use Rattle.esto_docmodel.specs.Stores.{IsShapeFor};
 ghost use Rattle.esto_lines.specs.Faults.{Gives};
 ghost use Rattle.esto_run.specs.Opened.{ArePut, HaveTexts, held_of};
 ghost use Rattle.esto_run.specs.Stored.{AreEmpty};
-ghost use Rattle.esto_run.specs.Stores.{IsRowIn, first_fault_in};
+ghost use Rattle.esto_docs.specs.Stores.{IsRowIn, first_fault_in};
 
-use crate::coded_store::code_store;
 use crate::stored::stored_rows;
 use esto_columns::{Codes, StoredRows};
-use esto_mapping::Shape;
+use esto_docmodel::Shape;
+use esto_docs::code_store;
 use esto_ports::FileError;
 use esto_term::List;
 use esto_views::FragmentDef;

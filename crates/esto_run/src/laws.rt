@@ -2,11 +2,11 @@
 ghost use Rattle.std.specs.Prelude.{List, ℕ};
 ghost use Rattle.esto_columns.specs.Asked.{Shape};
 ghost use Rattle.esto_exec.specs.Runnable.{AreRunnable};
-ghost use Rattle.esto_plan.specs.Planned.{AreStepsOf};
+ghost use Rattle.esto_steps.specs.Planned.{AreStepsOf};
 ghost use Rattle.esto_semantics.specs.Access.{Patterns};
 ghost use Rattle.esto_semantics.specs.Queries.{ConjunctiveQuery};
 ghost use Rattle.esto_steps.specs.declared.steps.Steps.{Steps};
-ghost use Rattle.esto_run.specs.Laws.{AnswersAreOverFiles, RewritingsAnswerQueries, UnionsAnswerOverFiles, UsedAreOne, UsedByAllAreOne, RisingRowsAreOne};
+ghost use Rattle.esto_run.specs.Laws.{AnswersAreOverFiles, RewritingsAnswerQueries, UnionsAnswerOverFiles, UsedAreOne, UsedByAllAreOne};
 ghost use Rattle.esto_run.specs.Runnable.{HaveShapes};
 
 /// A law: where the rows of the fragments that a query over fragments uses are those of their files, its answers over
@@ -35,11 +35,6 @@ pub fn used_fragments_are_one()
 /// A law: the fragments that several queries use are one list.
 pub fn used_by_all_are_one()
     ensures { UsedByAllAreOne }
-{}
-
-/// A law: rows that rise are one list where they are the same rows, so a set of rows has one text.
-pub fn rising_rows_are_one()
-    ensures { RisingRowsAreOne }
 {}
 
 /// A law: the steps of a query over fragments can be run over fragments that have the ways of their definitions.

@@ -1,10 +1,10 @@
 //! The rows of all fragments, opened one by one.
 ghost use Rattle.std.specs.Prelude.{◌≡◌, ◌≢◌, ℕ, List, [], ◌∷◌, ◌++◌, ◌<◌, length, map, slice_get, IfOk, IfSome, OnOk, OnErr};
-ghost use Rattle.esto_mapping.specs.declared.catalogue.Store.{Store};
+ghost use Rattle.esto_docmodel.specs.declared.file.Store.{Store};
 ghost use Rattle.esto_lines.specs.Faults.{Gives};
 ghost use Rattle.esto_steps.specs.Rows.{held_by};
 ghost use Rattle.esto_run.specs.Opened.{AreRowsFor, AreOpened, rows_held, unopened};
-ghost use Rattle.esto_run.specs.Stores.{first_fault_in};
+ghost use Rattle.esto_docs.specs.Stores.{first_fault_in};
 
 use crate::held::FragmentRows;
 use crate::stored::stored_rows;

@@ -1,7 +1,7 @@
 //! The run of a set of a plan's atoms over the rows of fragments.
 ghost use Rattle.std.specs.Prelude.{◌≡◌, ◌↔◌, ℕ, List, Bool, length, map, Contains, IfOk};
 ghost use Rattle.esto_columns.specs.Interned.{Grows};
-ghost use Rattle.esto_plan.specs.Planned.{IsSafeOrder};
+ghost use Rattle.esto_steps.specs.Planned.{IsSafeOrder};
 ghost use Rattle.esto_steps.specs.Rows.{IsRowOf, held_by};
 ghost use Rattle.esto_semantics.specs.Access.{IsOrder};
 ghost use Rattle.esto_semantics.specs.Listed.{candidate};

@@ -1,6 +1,6 @@
 //! Rows of codes that an executor asks.
 ghost use Rattle.std.specs.Prelude.{◌≡◌, map, IfOk};
-ghost use Rattle.esto_plan.specs.Planned.{inputs_of};
+ghost use Rattle.esto_steps.specs.Planned.{inputs_of};
 
 use esto_columns::{Rows, StoredRows};
 use esto_plan::ways_of;

@@ -5,3 +5,7 @@ pub mod JoinLemmas
 pub mod AskedLemmas
 pub mod ReadLemmas
 pub mod ProbeLemmas
+pub mod GrowthLemmas
+pub mod MeaningLemmas
+pub mod CodeLemmas
+pub mod CodedLemmas

@@ -6,3 +6,5 @@ pub mod Joined
 pub mod Inputs
 pub mod Reads
 pub mod Probed
+pub mod Planned
+pub mod Texts

@@ -1,5 +1,5 @@
-//! Steps, what they mean, and how one of their gets is joined, over rows of codes. Start from `Steps`,
-//! `asked_rows` and `joined_firsts`.
+//! Steps, what they mean, which are those of a query over fragments, and how one of their gets is joined, over rows
+//! of codes. Start from `Steps`, `asked_rows` and `joined_firsts`.
 #![tactic(auto)]
 
 mod asked;
@@ -16,6 +16,7 @@ mod reads;
 mod sample;
 mod seen;
 mod steps;
+mod terms;
 mod whole;
 
 pub use asked::asked_rows;
@@ -24,4 +25,5 @@ pub use join::Join;
 pub use project::projected;
 pub use reads::joined_firsts;
 pub use steps::{Get, Gets, Link, Links, Source, Sources, Steps};
+pub use terms::place_of;
 pub use whole::Whole;

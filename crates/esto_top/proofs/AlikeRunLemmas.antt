@@ -2,20 +2,20 @@
 use Rattle.std.proofs.Common.{◌≡◌, ℕ, Bool, List, map, sym, ap, subst, ◌∙◌}
 use Rattle.esto_mapping.specs.Catalogues.{AreSame, stored_as}
 use Rattle.esto_mapping.specs.declared.catalogue.Catalogue.{Catalogue}
-use Rattle.esto_mapping.specs.declared.catalogue.Store.{Store}
+use Rattle.esto_docmodel.specs.declared.file.Store.{Store}
 use Rattle.esto_query.specs.declared.query.Query.{Query}
 use Rattle.esto_run.specs.Answers.{IsAnswersText, rows_text}
 use Rattle.esto_run.specs.Laws.{IsAnswerOver, RisingRowsAreOne}
-use Rattle.esto_run.specs.Stores.{IsFileRow}
+use Rattle.esto_docs.specs.Stores.{IsFileRow}
 use Rattle.esto_semantics.specs.Facts.{image}
 use Rattle.esto_semantics.specs.Listed.{candidate}
 use Rattle.esto_semantics.specs.Queries.{ConjunctiveQuery}
 use Rattle.esto_stores.specs.Rows.{Row}
 use Rattle.esto_views.specs.declared.plan.Plan.{Plan}
 use Rattle.esto_top.specs.Run.{IsRunText}
-use Rattle.esto_opening.specs.Alike.{IsSameQuery}
-use Rattle.esto_opening.specs.FragmentsAlike.{StoresHaveOneContent}
-use Rattle.esto_opening.proofs.TextLemmas.{same_rows_text}
+use Rattle.esto_query.specs.Same.{IsSameQuery}
+use Rattle.esto_run.specs.FragmentsAlike.{StoresHaveOneContent}
+use Rattle.esto_run.proofs.RowsTextLemmas.{same_rows_text}
 use Rattle.esto_rewriting.specs.Alike.{IsSamePlan}
 
 -- a set of rows has one text

@@ -5,8 +5,8 @@ use Rattle.esto_course.specs.Course.{gives}
 use Rattle.esto_data.specs.Answer.{IsUnionAnswerOfFacts, answers_facts, answers_union, lists_texts}
 use Rattle.esto_data.specs.Datasets.{OneNames, loads}
 use Rattle.esto_fill.specs.Databases.{database_of}
-use Rattle.esto_opening.specs.Texts.{union_rows_text}
-use Rattle.esto_opening.specs.declared.reply.Reply.TheVariants.{Done}
+use Rattle.esto_run.specs.Texts.{union_rows_text}
+use Rattle.esto_status.specs.declared.reply.Reply.TheVariants.{Done}
 use Rattle.esto_ports.specs.Files.{Files}
 use Rattle.esto_query.specs.Making.{query_of}
 use Rattle.esto_query.specs.declared.query.Query.{Query}

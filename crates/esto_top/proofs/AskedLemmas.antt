@@ -7,18 +7,18 @@ use Rattle.esto_course.proofs.Asking.{quiet_refuses}
 use Rattle.esto_ports.specs.Asked.{CountGoes, CountStays, CountsOne}
 use Rattle.esto_ports.specs.Files.{Files}
 use Rattle.esto_ports.specs.declared.ports.SinkError.TheVariants as sink
-use Rattle.esto_opening.specs.Answers.{Answers, IsCaused, IsWant}
-use Rattle.esto_opening.specs.Asked.{AsksAsTold, AsksAt, AsksIn, EndsAtFault, FetchesBy, FetchesToAnswer}
-use Rattle.esto_opening.specs.Asked.AsksToStop.{wanting, stopping}
-use Rattle.esto_opening.specs.Asked.FetchesToStatus.{by_reply, by_refusal}
-use Rattle.esto_opening.specs.Asked.FetchesToAnswer.{whole as all_fetched, fault as fetched_to_fault}
-use Rattle.esto_opening.specs.declared.reply.Reply.{Reply}
-use Rattle.esto_opening.specs.declared.reply.Reply.TheVariants as reply
-use Rattle.esto_opening.specs.declared.status.Status.{Status}
-use Rattle.esto_opening.specs.declared.status.Status.TheVariants.{OutOfMemory, ReadFault, Usage, WriteFault}
-use Rattle.esto_opening.proofs.AskedSteps.{quiet_asks}
+use Rattle.esto_status.specs.Answers.{Answers, IsCaused, IsWant}
+use Rattle.esto_status.specs.Asked.{AsksAsTold, AsksAt, AsksIn, EndsAtFault, FetchesBy, FetchesToAnswer}
+use Rattle.esto_status.specs.Asked.AsksToStop.{wanting, stopping}
+use Rattle.esto_status.specs.Asked.FetchesToStatus.{by_reply, by_refusal}
+use Rattle.esto_status.specs.Asked.FetchesToAnswer.{whole as all_fetched, fault as fetched_to_fault}
+use Rattle.esto_status.specs.declared.reply.Reply.{Reply}
+use Rattle.esto_status.specs.declared.reply.Reply.TheVariants as reply
+use Rattle.esto_status.specs.declared.status.Status.{Status}
+use Rattle.esto_status.specs.declared.status.Status.TheVariants.{OutOfMemory, ReadFault, Usage, WriteFault}
+use Rattle.esto_status.proofs.AskedSteps.{quiet_asks}
 use Rattle.esto_top.specs.Grammar.{Request, course_of_asked}
-use Rattle.esto_opening.specs.Replies.{reply_status}
+use Rattle.esto_status.specs.Replies.{reply_status}
 use Rattle.esto_top.specs.Outcome.{Finishes, PutsOnce}
 use Rattle.esto_top.specs.Outcome.Finishes.{whole, cut, memory}
 use Rattle.esto_top.proofs.Mediation.{refused_by}

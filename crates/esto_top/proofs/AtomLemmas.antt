@@ -7,16 +7,16 @@ use Rattle.esto_rewriting.specs.Verify.{verify_course}
 use Rattle.esto_course.specs.Course.{Names, Stops, judges}
 use Rattle.esto_course.specs.Course.Stops.{refused}
 use Rattle.esto_course.proofs.Asking.{quiet_judges}
-use Rattle.esto_opening.proofs.AskedSteps.{exit_asks, later_asks, quiet_asks}
-use Rattle.esto_opening.specs.Answers.{Answers, IsCaused, IsWant}
-use Rattle.esto_opening.specs.Asked.{AsksIn}
-use Rattle.esto_opening.specs.declared.reply.Reply.{Reply}
-use Rattle.esto_opening.specs.declared.status.Status.{Status}
-use Rattle.esto_opening.specs.declared.status.Status.TheVariants.{Usage}
+use Rattle.esto_status.proofs.AskedSteps.{exit_asks, later_asks, quiet_asks}
+use Rattle.esto_status.specs.Answers.{Answers, IsCaused, IsWant}
+use Rattle.esto_status.specs.Asked.{AsksIn}
+use Rattle.esto_status.specs.declared.reply.Reply.{Reply}
+use Rattle.esto_status.specs.declared.status.Status.{Status}
+use Rattle.esto_status.specs.declared.status.Status.TheVariants.{Usage}
 use Rattle.esto_ports.specs.Faults.{Rose}
 use Rattle.esto_ports.specs.Files.{Files}
 use Rattle.esto_top.specs.Grammar.{atom_numbers, before_all, names_atoms, number_above, numbers_above, verifies_named, with_rest}
-use Rattle.esto_opening.proofs.Steps.{then_answers}
+use Rattle.esto_status.proofs.Steps.{then_answers}
 
 -- the numbers before the others, if these are there
 abbrev pub after : List ℕ → Option (List ℕ) → Option (List ℕ)

@@ -12,7 +12,7 @@ use Rattle.std.proofs.lemmas.List.FromFn.{length-range_with_len}
 use Rattle.std.proofs.lemmas.List.Elements.{Contains-append_cases, Contains-append_left, Contains-append_right}
 use Rattle.std.proofs.lemmas.Option.{same_Some, slice_get_within}
 use Rattle.esto_mapping.specs.declared.catalogue.Catalogue.{Catalogue}
-use Rattle.esto_mapping.specs.declared.catalogue.Store.{Store}
+use Rattle.esto_docmodel.specs.declared.file.Store.{Store}
 use Rattle.esto_chase_laws.specs.RunLaws.{RulesAreDecided}
 use Rattle.esto_constraint.specs.Constraints.{rules_of, rule_of}
 use Rattle.esto_constraint.specs.EncodingRules.{written}
@@ -30,17 +30,17 @@ use Rattle.esto_ports.specs.declared.difference.Difference.TheVariants.{Rule as 
 use Rattle.esto_fill.proofs.FilledLemmas.{in_rows}
 use Rattle.esto_fill.proofs.OrderLemmas.{texts_exact, texts_total}
 use Rattle.esto_fill.proofs.ValueLemmas.{facts_stand}
-use Rattle.esto_opening.specs.Fragments.{opens_fragments}
-use Rattle.esto_opening.specs.Readable.{AreReadable}
-use Rattle.esto_opening.specs.declared.reply.Reply.{Reply}
-use Rattle.esto_opening.specs.declared.reply.Reply.TheVariants.{Done}
-use Rattle.esto_opening.specs.declared.status.Status.{Status}
-use Rattle.esto_opening.specs.declared.status.Status.TheVariants.{Differs, NodeInRow}
+use Rattle.esto_run.specs.Fragments.{opens_fragments}
+use Rattle.esto_run.specs.Readable.{AreReadable}
+use Rattle.esto_status.specs.declared.reply.Reply.{Reply}
+use Rattle.esto_status.specs.declared.reply.Reply.TheVariants.{Done}
+use Rattle.esto_status.specs.declared.status.Status.{Status}
+use Rattle.esto_status.specs.declared.status.Status.TheVariants.{Differs, NodeInRow}
 use Rattle.esto_opening.proofs.UnionLemmas.{itself}
 use Rattle.esto_ports.specs.Files.{Files}
 use Rattle.esto_query.specs.Making.{query_of}
 use Rattle.esto_query.specs.declared.query.Name.{Name}
-use Rattle.esto_run.specs.Stores.{IsFileRow}
+use Rattle.esto_docs.specs.Stores.{IsFileRow}
 use Rattle.esto_semantics.specs.Facts.{Database, terms_of}
 use Rattle.esto_semantics.specs.Maps.{AreFlat}
 use Rattle.esto_semantics.specs.Queries.{ConjunctiveQuery, IsAnswer}

@@ -13,17 +13,17 @@ use Rattle.esto_term.proofs.ListLemmas.{Contains-nil}
 use Rattle.esto_top.specs.Bench.{bench_course}
 use Rattle.esto_top.specs.Benches.{BenchesAlways, IsExactBench}
 use Rattle.esto_top.specs.Grammar.{course_of, is_made_size, value_of}
-use Rattle.esto_opening.specs.Replies.{reply_status, reply_text}
+use Rattle.esto_status.specs.Replies.{reply_status, reply_text}
 use Rattle.esto_top.specs.Outcome.{Mediates, Says}
 use Rattle.esto_top.specs.Outcome.Mediates.{whole, cut, memory as nothing}
 use Rattle.esto_top.specs.Outcome.Says.{replies, refuses}
-use Rattle.esto_opening.specs.declared.reply.Reply.TheVariants.{Done}
-use Rattle.esto_opening.specs.declared.reply.Reply.{Reply}
-use Rattle.esto_opening.specs.declared.status.Status.{Status}
-use Rattle.esto_opening.specs.Answers.{Answers}
-use Rattle.esto_opening.specs.Asked.{AsksIn}
-use Rattle.esto_opening.proofs.AskedSteps.{quiet_asks}
-use Rattle.esto_opening.specs.Calm.{AgreeCalmly}
+use Rattle.esto_status.specs.declared.reply.Reply.TheVariants.{Done}
+use Rattle.esto_status.specs.declared.reply.Reply.{Reply}
+use Rattle.esto_status.specs.declared.status.Status.{Status}
+use Rattle.esto_status.specs.Answers.{Answers}
+use Rattle.esto_status.specs.Asked.{AsksIn}
+use Rattle.esto_status.proofs.AskedSteps.{quiet_asks}
+use Rattle.esto_status.specs.Calm.{AgreeCalmly}
 
 no_rules : AreRules []
 no_rules rule inside = absurd (Contains-nil rule inside)

@@ -6,16 +6,16 @@ use Rattle.esto_rewriting.specs.CertificateLaws.{Certifies, IsChecked, IsVerifie
 use Rattle.esto_rewriting.specs.CertificateLaws.IsChecked.{is_above, not_fetched, accepts, rejects}
 use Rattle.esto_rewriting.specs.CertificateLaws.IsVerified.{clashes, has_plan}
 use Rattle.esto_rewriting.specs.Verify.{first_above, HasVerdict, IsSetOf, verify_course}
-use Rattle.esto_opening.specs.declared.opening.TheConstants.{DATA_LIMIT}
+use Rattle.esto_status.specs.declared.limits.TheConstants.{DATA_LIMIT}
 use Rattle.esto_course.proofs.Determined.{judges_agree, then_agree}
 use Rattle.esto_course.specs.Course.{and_then, judges}
-use Rattle.esto_opening.specs.Calm.{AgreeCalmly, SaysAlways}
-use Rattle.esto_opening.specs.Fetch.{FetchStops, HasWithin}
-use Rattle.esto_opening.specs.Fetch.FetchStops.{fails, is_longer}
-use Rattle.esto_opening.specs.Line.{line_of}
+use Rattle.esto_status.specs.Calm.{AgreeCalmly, SaysAlways}
+use Rattle.esto_status.specs.Fetch.{FetchStops, HasWithin}
+use Rattle.esto_status.specs.Fetch.FetchStops.{fails, is_longer}
+use Rattle.esto_status.specs.Line.{line_of}
 use Rattle.esto_opening.specs.Opening.{opens_catalogue, opens_query}
-use Rattle.esto_opening.specs.declared.status.Status.{Status}
-use Rattle.esto_opening.specs.declared.status.Status.TheVariants as status
+use Rattle.esto_status.specs.declared.status.Status.{Status}
+use Rattle.esto_status.specs.declared.status.Status.TheVariants as status
 use Rattle.esto_ports.specs.Files.{Files}
 use Rattle.esto_query.specs.declared.query.Query.{Query}
 use Rattle.esto_views.specs.declared.plan.Plan.{Plan}

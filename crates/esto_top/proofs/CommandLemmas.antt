@@ -6,7 +6,7 @@ use Rattle.esto_course.specs.Course.{and_then, gives}
 use Rattle.esto_data.specs.Answer.{answer_course, answers_read, answers_union}
 use Rattle.esto_data.specs.Audit.{audit_course, audits_catalogue}
 use Rattle.esto_opening.specs.Opening.{opens_catalogue, opens_query, opens_union}
-use Rattle.esto_opening.specs.declared.reply.Reply.TheVariants.{Done}
+use Rattle.esto_status.specs.declared.reply.Reply.TheVariants.{Done}
 use Rattle.esto_ports.specs.Files.{Files}
 use Rattle.esto_reasoning.specs.Contains.{compares, compares_both, compares_right, contains_course}
 use Rattle.esto_reasoning.specs.Minimise.{minimise_course, minimises, minimises_read}

@@ -5,11 +5,11 @@ use Rattle.std.specs.FinMap.{get}
 use Rattle.esto_course.specs.Course.{Course, Names, judges, gives, refuses, and_then, each}
 use Rattle.esto_course.specs.Course.Point.{went}
 use Rattle.esto_ports.specs.Marks.{without_mark}
-use Rattle.esto_opening.specs.Answers.{IsCaused}
-use Rattle.esto_opening.specs.Fetch.{fetches}
-use Rattle.esto_opening.specs.Fetch.FetchStops.{is_longer}
-use Rattle.esto_opening.specs.declared.status.Status.{Status}
-use Rattle.esto_opening.specs.declared.status.Status.TheVariants.{TooLong}
+use Rattle.esto_status.specs.Answers.{IsCaused}
+use Rattle.esto_status.specs.Fetch.{fetches}
+use Rattle.esto_status.specs.Fetch.FetchStops.{is_longer}
+use Rattle.esto_status.specs.declared.status.Status.{Status}
+use Rattle.esto_status.specs.declared.status.Status.TheVariants.{TooLong}
 use Rattle.esto_ports.specs.Files.{Files}
 use Rattle.esto_term.proofs.ListLemmas.{Contains-head, Contains-rest}
 use Rattle.esto_top.specs.Ends.{Ends, EndsOrLacks}

@@ -10,13 +10,13 @@ use Rattle.esto_mapping.specs.declared.dataset.Dataset.{Dataset}
 use Rattle.esto_course.specs.Course.{Course, judges, demands, gives, and_then, each}
 use Rattle.esto_data.specs.Datasets.{AreFactsOfFiles, AreNeeded, HasRelation, IsSourceAt, Names, OneNames, Source, demands_file, demands_files, loads, loads_files}
 use Rattle.esto_data.specs.Datasets.{loads_next, opens_dataset, opens_source, reads_data}
-use Rattle.esto_opening.specs.declared.opening.TheConstants.{DATA_LIMIT}
+use Rattle.esto_status.specs.declared.limits.TheConstants.{DATA_LIMIT}
 use Rattle.esto_data.proofs.DatasetLemmas.{AreNeededBelow, needed_all, needed_more, needed_starts, sources_there}
 use Rattle.esto_fill.specs.Files.{dataset_fault}
 use Rattle.esto_fill.specs.declared.datasets.DatasetBytes.{DatasetBytes}
-use Rattle.esto_opening.specs.Fetch.{fetches}
-use Rattle.esto_opening.specs.declared.status.Status.{Status}
-use Rattle.esto_opening.specs.declared.status.Status.TheVariants.{BadDataset, NoData}
+use Rattle.esto_status.specs.Fetch.{fetches}
+use Rattle.esto_status.specs.declared.status.Status.{Status}
+use Rattle.esto_status.specs.declared.status.Status.TheVariants.{BadDataset, NoData}
 use Rattle.esto_ports.specs.Files.{Files}
 use Rattle.esto_ports.specs.declared.file_fault.FileFault.{FileFault}
 use Rattle.esto_semantics.specs.Queries.{ConjunctiveQuery}

@@ -5,16 +5,16 @@ use Rattle.esto_data.specs.Answer.{answer_course}
 use Rattle.esto_data.specs.Audit.{audit_course}
 use Rattle.esto_data.specs.Exact.{IsExactAnswer, IsExactAudit, IsExactFill, IsExactUnionAnswer}
 use Rattle.esto_data.specs.Fill.{fill_course}
-use Rattle.esto_opening.specs.Calm.{SaysAlways}
+use Rattle.esto_status.specs.Calm.{SaysAlways}
 use Rattle.esto_data.specs.Laws.{AnswersAreExact, AuditsAreExact, FillsAreExact, UnionAnswersAreExact}
 use Rattle.esto_ports.specs.Files.{Files}
-use Rattle.esto_opening.specs.declared.reply.Reply.{Reply}
-use Rattle.esto_opening.specs.declared.status.Status.{Status}
+use Rattle.esto_status.specs.declared.reply.Reply.{Reply}
+use Rattle.esto_status.specs.declared.status.Status.{Status}
 use Rattle.esto_top.specs.DataOutcomes.{AnswersFill, AnswersWhereTold, AsksFillAsTold, AuditsWhereTold, FillsWhereTold, MediatesFill}
 use Rattle.esto_top.specs.DataOutcomes.{OutcomesAreAnswers, OutcomesAreAudits, OutcomesAreUnionAnswers, UnionAnswersWhereTold}
 use Rattle.esto_top.specs.Grammar.{Request, course_of, request_of}
 use Rattle.esto_top.specs.Grammar.Request.{FillFor}
-use Rattle.esto_opening.specs.Replies.{reply_status, reply_text}
+use Rattle.esto_status.specs.Replies.{reply_status, reply_text}
 use Rattle.esto_top.specs.Outcome.{CompleteWhereTold, Finishes, Mediates, Says}
 use Rattle.esto_top.specs.Outcome.Says.{replies, refuses}
 use Rattle.esto_top.proofs.AskedLemmas.{asks_as_told}

@@ -17,10 +17,10 @@ use Rattle.esto_reasoning.specs.Laws.{ContainsIsOne, MinimiseIsOne}
 use Rattle.esto_course.specs.Agreement.{IsEnd}
 use Rattle.esto_course.specs.Course.{Course, Names, Point}
 use Rattle.esto_course.specs.Course.Point.{went, stopped, missing}
-use Rattle.esto_opening.specs.Answers.{IsCaused}
-use Rattle.esto_opening.specs.Asked.{Fetches}
-use Rattle.esto_opening.specs.Asked.Fetches.{to_value, to_refusal, to_lack}
-use Rattle.esto_opening.specs.declared.reply.Reply.{Reply}
+use Rattle.esto_status.specs.Answers.{IsCaused}
+use Rattle.esto_status.specs.Asked.{Fetches}
+use Rattle.esto_status.specs.Asked.Fetches.{to_value, to_refusal, to_lack}
+use Rattle.esto_status.specs.declared.reply.Reply.{Reply}
 use Rattle.esto_top.specs.Determined.{AskedBeginsFetches, CoursesAreOne, ExactWhereTold, FetchesAreDetermined, OutcomesAreDetermined, AsksCertificate, CountsAs}
 use Rattle.esto_top.specs.Determined.{FixesText, writes_certificate}
 use Rattle.esto_top.specs.Grammar.{Request, request_of, course_of_request, course_of_asked}
@@ -28,16 +28,16 @@ use Rattle.esto_top.specs.Grammar.Request.{CheckOf, ListFor, RunFor, FillFor, An
 use Rattle.esto_top.specs.List.{list_course, lists_queries, lists_query, prints_list}
 use Rattle.esto_top.specs.Run.{run_course, runs_queries}
 use Rattle.esto_top.specs.Outcome.{CompleteWhereTold, Says}
-use Rattle.esto_opening.specs.declared.reply.Reply.TheVariants.{Done}
-use Rattle.esto_opening.specs.declared.status.Status.{Status}
-use Rattle.esto_opening.specs.declared.status.Status.TheVariants as status
-use Rattle.esto_opening.specs.Calm.{AgreeCalmly}
+use Rattle.esto_status.specs.declared.reply.Reply.TheVariants.{Done}
+use Rattle.esto_status.specs.declared.status.Status.{Status}
+use Rattle.esto_status.specs.declared.status.Status.TheVariants as status
+use Rattle.esto_status.specs.Calm.{AgreeCalmly}
 use Rattle.esto_top.proofs.AgreeLemmas.{says-agree, says-status}
 use Rattle.esto_top.proofs.CertificateLemmas.{verify_agrees}
 use Rattle.esto_top.proofs.ExplainWords.{asks_certificate}
 use Rattle.esto_top.proofs.BenchLemmas.{benches-agree}
 use Rattle.esto_top.proofs.RunAgreeLemmas.{CourseLaws, query_agree}
-use Rattle.esto_opening.specs.Alike.{AreSameQueries, IsSameQuery}
+use Rattle.esto_query.specs.Same.{AreSameQueries, IsSameQuery}
 use Rattle.esto_rewriting.specs.UnionLaws.{UnionListsAreOne}
 use Rattle.esto_rewriting.specs.RunLaws.{UnionRunsAreOne}
 use Rattle.esto_rewriting.specs.Alike.{IsSamePlan}

@@ -7,8 +7,8 @@ use Rattle.esto_ports.specs.Faults.{Rose}
 use Rattle.esto_ports.specs.Put.{Puts}
 use Rattle.esto_ports.specs.declared.ports.SinkError.{SinkError}
 use Rattle.esto_ports.specs.declared.ports.SinkError.TheVariants as sink
-use Rattle.esto_opening.specs.declared.reply.Reply.{Reply}
-use Rattle.esto_opening.specs.declared.status.Status.{Status}
+use Rattle.esto_status.specs.declared.reply.Reply.{Reply}
+use Rattle.esto_status.specs.declared.status.Status.{Status}
 use Rattle.esto_top.specs.Outcome.{Finishes, IsSaid, PutsOnce, status_of_error}
 use Rattle.esto_top.specs.Outcome.Finishes.{whole, cut, memory}
 use Rattle.esto_top.proofs.AskedLemmas.{puts_failed, puts_whole}

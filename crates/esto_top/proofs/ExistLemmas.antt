@@ -12,16 +12,16 @@ use Rattle.esto_chase_laws.specs.declared.clash.Clash.{Clash}
 use Rattle.esto_course.specs.Course.{Course, and_then, gives, judges}
 use Rattle.esto_rewriting.specs.List.{lists_union}
 use Rattle.esto_list.specs.declared.listing.Listed.{Listed}
-use Rattle.esto_opening.specs.Fragments.{opens_fragments}
-use Rattle.esto_opening.specs.Line.{line_of}
+use Rattle.esto_run.specs.Fragments.{opens_fragments}
+use Rattle.esto_status.specs.Line.{line_of}
 use Rattle.esto_opening.specs.Opening.{opens_catalogue, opens_union}
-use Rattle.esto_opening.specs.Replies.{reply_status, reply_text}
+use Rattle.esto_status.specs.Replies.{reply_status, reply_text}
 use Rattle.esto_opening.specs.Unions.{OpenedFormUnions}
-use Rattle.esto_opening.specs.declared.reply.Reply.{Reply}
-use Rattle.esto_opening.specs.declared.reply.Reply.TheVariants.{Done, Unsatisfiable as UnsatisfiableReply}
-use Rattle.esto_opening.specs.declared.status.Status.{Status}
-use Rattle.esto_opening.specs.declared.status.Status.TheVariants as status
-use Rattle.esto_opening.specs.declared.status.Status.TheVariants.{Usage}
+use Rattle.esto_status.specs.declared.reply.Reply.{Reply}
+use Rattle.esto_status.specs.declared.reply.Reply.TheVariants.{Done, Unsatisfiable as UnsatisfiableReply}
+use Rattle.esto_status.specs.declared.status.Status.{Status}
+use Rattle.esto_status.specs.declared.status.Status.TheVariants as status
+use Rattle.esto_status.specs.declared.status.Status.TheVariants.{Usage}
 use Rattle.esto_rewriting.specs.Choice.{HasNoPlace, IsItemOf, IsPlace}
 use Rattle.esto_rewriting.specs.Listing.{IsClash, IsListOf, IsListing, IsPlanned}
 use Rattle.esto_rewriting.specs.Planning.{chooses, ends_query, plans_query}

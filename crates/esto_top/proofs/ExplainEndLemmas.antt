@@ -7,8 +7,8 @@ use Rattle.esto_rewriting.specs.Verify.{HasVerdict}
 use Rattle.esto_course.specs.Course.{Course, and_then, gives, judges}
 use Rattle.esto_list.specs.declared.listing.Listed.{Listed}
 use Rattle.esto_opening.specs.Opening.{opens_catalogue, opens_query}
-use Rattle.esto_opening.specs.declared.reply.Reply.TheVariants.{Done}
-use Rattle.esto_opening.specs.declared.status.Status.{Status}
+use Rattle.esto_status.specs.declared.reply.Reply.TheVariants.{Done}
+use Rattle.esto_status.specs.declared.status.Status.{Status}
 use Rattle.esto_rewriting.specs.Choice.{HasNoPlace, IsPlace}
 use Rattle.esto_rewriting.specs.PlannedLaws.{PlaceIsWithin}
 use Rattle.esto_rewriting.specs.Listing.{IsListOf, IsPlanned}

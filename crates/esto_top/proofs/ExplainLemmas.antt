@@ -6,14 +6,14 @@ use Rattle.esto_cert.specs.declared.line.Line.TheVariants.{Match}
 use Rattle.esto_rewriting.specs.Explain.{explain_course}
 use Rattle.esto_rewriting.specs.CertificateLaws.{Certifies, CertifiesOverPlans, ExplainSaysCertificates, IsExplained}
 use Rattle.esto_rewriting.specs.CertificateLaws.IsExplained.{clashes, has_no_set, explains}
-use Rattle.esto_opening.specs.declared.opening.TheConstants.{DATA_LIMIT}
+use Rattle.esto_status.specs.declared.limits.TheConstants.{DATA_LIMIT}
 use Rattle.esto_chase_laws.specs.declared.clash.Clash.{Clash}
 use Rattle.esto_course.specs.Course.{judges}
 use Rattle.esto_list.specs.declared.listing.Listed.{Listed}
-use Rattle.esto_opening.specs.Alike.{IsSameQuery}
-use Rattle.esto_opening.specs.Line.{line_of}
-use Rattle.esto_opening.specs.declared.status.Status.{Status}
-use Rattle.esto_opening.specs.declared.status.Status.TheVariants as status
+use Rattle.esto_query.specs.Same.{IsSameQuery}
+use Rattle.esto_status.specs.Line.{line_of}
+use Rattle.esto_status.specs.declared.status.Status.{Status}
+use Rattle.esto_status.specs.declared.status.Status.TheVariants as status
 use Rattle.esto_rewriting.specs.Alike.{IsSamePlan}
 use Rattle.esto_rewriting.specs.Choice.{HasNoPlace}
 use Rattle.esto_rewriting.specs.Choice.HasNoPlace.{is_above, is_empty}
@@ -23,7 +23,7 @@ use Rattle.esto_query.specs.declared.query.Query.{Query}
 use Rattle.esto_semantics.specs.Queries.{ConjunctiveQuery}
 use Rattle.esto_views.specs.declared.plan.Plan.{Plan}
 use Rattle.esto_opening.proofs.UnionLemmas.{itself}
-use Rattle.esto_opening.proofs.StatusLemmas.{clash_not_above, none_not_above, done_not_above}
+use Rattle.esto_status.proofs.StatusLemmas.{clash_not_above, none_not_above, done_not_above}
 use Rattle.esto_top.specs.CertificateOutcomes.{ExplainsWhereTold, IsExactExplain, IsNumbered, OutcomesAreExplained, OutcomesAreVerified}
 use Rattle.esto_top.specs.CertificateOutcomes.{OutcomesOfExplainAreAccepted}
 use Rattle.esto_top.specs.Headline.{HasAnswers, IsExactRefusal, Rewrites}

@@ -9,19 +9,19 @@ use Rattle.esto_term.proofs.ChoiceLemmas.{in_order}
 use Rattle.esto_term.proofs.ListLemmas.{Contains-map, Contains-map_from}
 use Rattle.esto_mapping.specs.Soundness.{AreShapes}
 use Rattle.esto_mapping.specs.declared.catalogue.Catalogue.{Catalogue}
-use Rattle.esto_mapping.specs.declared.catalogue.Shape.{Shape}
-use Rattle.esto_mapping.specs.declared.catalogue.Store.{Store}
+use Rattle.esto_docmodel.specs.declared.file.Shape.{Shape}
+use Rattle.esto_docmodel.specs.declared.file.Store.{Store}
 use Rattle.esto_docs.specs.Rows.{GivesRows, text_in}
 use Rattle.esto_docs.proofs.RowLemmas.{text_constant}
 use Rattle.esto_fill.proofs.OrderLemmas.{texts_exact, texts_total}
-use Rattle.esto_opening.specs.Fragments.{IsReadableFragment}
-use Rattle.esto_opening.specs.Readable.{AreReadable}
+use Rattle.esto_run.specs.Fragments.{IsReadableFragment}
+use Rattle.esto_run.specs.Readable.{AreReadable}
 use Rattle.esto_ports.specs.Files.{Files}
 use Rattle.esto_ports.specs.declared.file_fault.FileError.TheVariants.{Fault}
 use Rattle.esto_query.specs.declared.query.Query.{Query}
 use Rattle.esto_run.specs.Answers.{IsAnswersText, rows_text}
 use Rattle.esto_run.specs.Laws.{IsAnswerOver, IsAnswerOfOne}
-use Rattle.esto_run.specs.Stores.{IsFileRow, IsRowIn, first_fault_in}
+use Rattle.esto_docs.specs.Stores.{IsFileRow, IsRowIn, first_fault_in}
 use Rattle.esto_semantics.specs.Facts.{image}
 use Rattle.esto_semantics.specs.Maps.{AreFlat, IsFixedBy}
 use Rattle.esto_semantics.specs.Queries.{ConjunctiveQuery}

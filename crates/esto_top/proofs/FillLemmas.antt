@@ -7,8 +7,8 @@ use Rattle.std.proofs.lemmas.Bool.{ltb-true}
 use Rattle.std.proofs.lemmas.List.Elements.{All-cons, All-nil}
 use Rattle.std.proofs.lemmas.Option.{same_Some, slice_get_within}
 use Rattle.esto_mapping.specs.declared.catalogue.Catalogue.{Catalogue}
-use Rattle.esto_mapping.specs.declared.catalogue.Shape.{Shape}
-use Rattle.esto_mapping.specs.declared.catalogue.Shape.TheVariants.{Table, Documents, Keys}
+use Rattle.esto_docmodel.specs.declared.file.Shape.{Shape}
+use Rattle.esto_docmodel.specs.declared.file.Shape.TheVariants.{Table, Documents, Keys}
 use Rattle.std.specs.List.{list_any}
 use Rattle.esto_course.specs.Course.{Course, and_then, gives}
 use Rattle.esto_data.specs.Datasets.{Names, loads}
@@ -18,12 +18,12 @@ use Rattle.esto_fill.specs.Filled.{CanHold, Fills, IsFirstUnfit, text_in, with_m
 use Rattle.esto_fill.specs.Texts.{AreTextsOf, HaveTextsOnly, IsFirstNodeColumn}
 use Rattle.esto_fill.specs.declared.filled.FillError.{FillError}
 use Rattle.esto_fill.specs.declared.filled.FillError.TheVariants.{NodeInRow, KeyText}
-use Rattle.esto_opening.specs.Fragments.{IsStoredAt, Stored}
+use Rattle.esto_run.specs.Fragments.{IsStoredAt, Stored}
 use Rattle.esto_opening.specs.Opening.{opens_catalogue}
-use Rattle.esto_opening.specs.declared.reply.Reply.{Reply}
-use Rattle.esto_opening.specs.declared.reply.Reply.TheVariants.{Done}
-use Rattle.esto_opening.specs.declared.status.Status.{Status}
-use Rattle.esto_opening.specs.declared.status.Status.TheVariants as status
+use Rattle.esto_status.specs.declared.reply.Reply.{Reply}
+use Rattle.esto_status.specs.declared.reply.Reply.TheVariants.{Done}
+use Rattle.esto_status.specs.declared.status.Status.{Status}
+use Rattle.esto_status.specs.declared.status.Status.TheVariants as status
 use Rattle.esto_ports.specs.Files.{Files}
 use Rattle.esto_query.specs.Making.{query_of}
 use Rattle.esto_semantics.specs.Queries.{IsAnswer}

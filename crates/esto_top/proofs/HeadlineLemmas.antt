@@ -21,20 +21,20 @@ use Rattle.esto_views.specs.declared.plan.Plan.{Plan}
 use Rattle.esto_course.specs.Course.{and_then, gives, judges}
 use Rattle.esto_top.specs.Headline.{FilesSay, HasAnswers, PrintsExactly, IsExactList, IsExactRefusal, IsEmptyWithoutRewriting, SaidOfLists, OutcomesAreLists}
 use Rattle.esto_top.specs.Headline.{OutcomesAreRefusals, HoldsOfLists}
-use Rattle.esto_opening.specs.Line.{line_of}
+use Rattle.esto_status.specs.Line.{line_of}
 use Rattle.esto_top.specs.List.{list_course, lists_queries, lists_query}
 use Rattle.esto_top.specs.Outcome.{CompleteWhereTold, Says}
 use Rattle.esto_top.specs.Grammar.{course_of}
-use Rattle.esto_opening.specs.declared.reply.Reply.{Reply}
-use Rattle.esto_opening.specs.declared.reply.Reply.TheVariants.{Done}
-use Rattle.esto_opening.specs.declared.status.Status.{Status}
-use Rattle.esto_opening.specs.declared.status.Status.TheVariants as status
-use Rattle.esto_opening.specs.Alike.{AreSameQueries, IsSameQuery}
+use Rattle.esto_status.specs.declared.reply.Reply.{Reply}
+use Rattle.esto_status.specs.declared.reply.Reply.TheVariants.{Done}
+use Rattle.esto_status.specs.declared.status.Status.{Status}
+use Rattle.esto_status.specs.declared.status.Status.TheVariants as status
+use Rattle.esto_query.specs.Same.{AreSameQueries, IsSameQuery}
 use Rattle.esto_opening.specs.Opening.{opens_catalogue, opens_union}
 use Rattle.esto_top.proofs.DataLemmas.{says_fact}
 use Rattle.esto_top.specs.Laws.{ListingLaws, OpeningLaws}
-use Rattle.esto_opening.specs.Calm.{Leads, SaysAlways}
-use Rattle.esto_opening.proofs.LeadLemmas.{then-leads, leads-more, gives-leads}
+use Rattle.esto_status.specs.Calm.{Leads, SaysAlways}
+use Rattle.esto_status.proofs.LeadLemmas.{then-leads, leads-more, gives-leads}
 use Rattle.esto_top.proofs.SayLemmas.{alone_opens, catalogue_leads, catalogue_opens, one_alone, union_leads}
 use Rattle.esto_rewriting.specs.Listing.{IsClash, IsListOf, IsListing, IsPlanned}
 

@@ -6,16 +6,16 @@ use Rattle.esto_course.proofs.Asking.{quiet_gives, quiet_judges, quiet_then}
 use Rattle.esto_course.proofs.Steps.{gives_goes, then_goes, then_stops}
 use Rattle.esto_ports.specs.Files.{Files}
 use Rattle.esto_query.specs.declared.query.Query.{Query}
-use Rattle.esto_opening.specs.Answers.{Answers, IsWant, IsCaused}
-use Rattle.esto_opening.specs.Asked.{AsksIn}
-use Rattle.esto_opening.proofs.AskedSteps.{quiet_asks}
+use Rattle.esto_status.specs.Answers.{Answers, IsWant, IsCaused}
+use Rattle.esto_status.specs.Asked.{AsksIn}
+use Rattle.esto_status.proofs.AskedSteps.{quiet_asks}
 use Rattle.esto_rewriting.specs.Planning.{plans_query}
 use Rattle.esto_rewriting.specs.List.{lists_union, makes_members, prints_members}
 use Rattle.esto_top.specs.List.{lists_queries, lists_read, prints_list}
 use Rattle.esto_opening.specs.Opening.{opens_union}
-use Rattle.esto_opening.specs.declared.reply.Reply.TheVariants.{Done}
-use Rattle.esto_opening.specs.declared.status.Status.{Status}
-use Rattle.esto_opening.proofs.Steps.{still_stops}
+use Rattle.esto_status.specs.declared.reply.Reply.TheVariants.{Done}
+use Rattle.esto_status.specs.declared.status.Status.{Status}
+use Rattle.esto_status.proofs.Steps.{still_stops}
 
 module _ (files : Option Files) (query_name : List ℕ) (catalogue : Catalogue) (queries items : List Query) (are : items ≡ queries)
     (read : (opens_union files query_name catalogue).goes queries) where

@@ -9,7 +9,7 @@ use Rattle.esto_cert.specs.Lines.{line_of, line_of_words}
 use Rattle.esto_cert.specs.Showing.{AreLinesOf}
 use Rattle.esto_cert.specs.declared.line.Line.{Line}
 use Rattle.esto_ports.specs.Marks.{without_mark}
-use Rattle.esto_opening.specs.Fetch.{HasWithin}
+use Rattle.esto_status.specs.Fetch.{HasWithin}
 use Rattle.esto_ports.specs.Files.{Files, Holds}
 use Rattle.esto_term.proofs.ListLemmas.{first_same}
 

@@ -2,20 +2,20 @@
 use Rattle.std.proofs.Common.{◌≡◌, ◌⊎◌, ℕ, List, Option, Some, None, Result, Ok, Err, refl, sym, ap, subst, ◌∙◌, inl, inr}
 use Rattle.esto_ports.specs.Files.{Files}
 use Rattle.esto_course.specs.Course.{Course, Stops, refuses as course_refuses}
-use Rattle.esto_opening.specs.Answers.{IsWant, IsCaused, Answers}
+use Rattle.esto_status.specs.Answers.{IsWant, IsCaused, Answers}
 use Rattle.esto_course.specs.Course.Stops.{is_free, refused}
 use Rattle.esto_top.specs.Grammar.{Request, course_of, course_of_asked}
 use Rattle.esto_top.specs.Outcome.{Says, Mediates, Finishes, IsSaid, CompleteWhereTold, CausedReadFault, CausedWriteFault}
 use Rattle.esto_top.specs.Outcome.Says.{replies, refuses}
 use Rattle.esto_top.specs.Outcome.Mediates.{whole, cut, memory as nothing}
 use Rattle.esto_top.specs.Outcome.Finishes.{whole as finishes_whole, cut as finishes_cut, memory as finishes_memory}
-use Rattle.esto_opening.proofs.Steps.{caused_weaker, never_write, read_cause}
-use Rattle.esto_opening.specs.declared.reply.Reply.{Reply}
-use Rattle.esto_opening.specs.declared.reply.Reply.TheVariants as reply
-use Rattle.esto_opening.specs.declared.status.Status.{Status}
-use Rattle.esto_opening.specs.declared.status.Status.TheVariants as status
+use Rattle.esto_status.proofs.Steps.{caused_weaker, never_write, read_cause}
+use Rattle.esto_status.specs.declared.reply.Reply.{Reply}
+use Rattle.esto_status.specs.declared.reply.Reply.TheVariants as reply
+use Rattle.esto_status.specs.declared.status.Status.{Status}
+use Rattle.esto_status.specs.declared.status.Status.TheVariants as status
 use Rattle.std.specs.Io.KnownBytes.{Appends, Keeps}
-use Rattle.esto_opening.specs.Line.{line_of}
+use Rattle.esto_status.specs.Line.{line_of}
 
 says : (course : Course Status Reply) (rose : Type 0) (answer : Result Reply Status) (said : Status) (text : List ℕ) → Answers course rose answer
     → IsSaid answer said text → Says course rose said text

@@ -4,11 +4,11 @@ use Rattle.esto_catalog.specs.Reading.{IsCatalogueOf, IsCatalogueError}
 use Rattle.esto_mapping.specs.declared.catalogue.Catalogue.{Catalogue}
 use Rattle.esto_catalog.specs.declared.fault.CatalogueError.{CatalogueError}
 use Rattle.esto_catalog.specs.declared.fault.CatalogueError.TheVariants.{Fault, NotAcyclic}
-use Rattle.esto_opening.specs.Fetch.{fetches}
+use Rattle.esto_status.specs.Fetch.{fetches}
 use Rattle.esto_opening.specs.Opening.{opens_catalogue, opens_query, opens_union, reads_catalogue, reads_query, reads_union, status_of, unnamed}
-use Rattle.esto_opening.specs.declared.opening.TheConstants.{CATALOGUE_LIMIT, QUERY_LIMIT}
-use Rattle.esto_opening.specs.declared.status.Status.{Status}
-use Rattle.esto_opening.specs.declared.status.Status.TheVariants as status
+use Rattle.esto_status.specs.declared.limits.TheConstants.{CATALOGUE_LIMIT, QUERY_LIMIT}
+use Rattle.esto_status.specs.declared.status.Status.{Status}
+use Rattle.esto_status.specs.declared.status.Status.TheVariants as status
 use Rattle.esto_ports.specs.Files.{Files}
 use Rattle.esto_query.specs.Schemas.{arities_of}
 use Rattle.esto_query.specs.declared.query.Query.{Query}

@@ -13,9 +13,9 @@ use Rattle.esto_contain.specs.declared.minimising.Minimal.{Minimal}
 use Rattle.esto_contain.specs.declared.containing.Contain.{Contain}
 use Rattle.esto_contain.specs.declared.containing.Contain.TheVariants.{Yes, No}
 use Rattle.esto_course.specs.Course.{and_then, demands}
-use Rattle.esto_opening.specs.Answers.{IsCaused}
-use Rattle.esto_opening.specs.declared.status.Status.{Status}
-use Rattle.esto_opening.specs.declared.status.Status.TheVariants.{HeadLengths, Unsatisfiable}
+use Rattle.esto_status.specs.Answers.{IsCaused}
+use Rattle.esto_status.specs.declared.status.Status.{Status}
+use Rattle.esto_status.specs.declared.status.Status.TheVariants.{HeadLengths, Unsatisfiable}
 use Rattle.esto_plan_laws.specs.Cores.{with_head}
 use Rattle.esto_query.specs.Making.{query_of}
 use Rattle.esto_query.specs.Schemas.{names_of}

@@ -1,7 +1,7 @@
 -- What `contains` and `minimise` answer where nothing is wrong with the files.
 use Rattle.std.proofs.Common.{ℕ, List, Option, Some, None, subst, inl, inr}
 use Rattle.esto_ports.specs.Files.{Files}
-use Rattle.esto_opening.specs.declared.status.Status.{Status}
+use Rattle.esto_status.specs.declared.status.Status.{Status}
 use Rattle.esto_reasoning.specs.Contains.{contains_course}
 use Rattle.esto_reasoning.specs.Exact.{IsExactContains, IsExactMinimise}
 use Rattle.esto_reasoning.specs.Laws.{ContainsIsExact, MinimiseIsExact}

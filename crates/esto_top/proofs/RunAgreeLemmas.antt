@@ -13,20 +13,20 @@ use Rattle.esto_ports.specs.Files.{Files}
 use Rattle.esto_query.specs.declared.query.Query.{Query}
 use Rattle.esto_run.specs.Answers.{rows_text}
 use Rattle.esto_run.specs.Laws.{IsAnswerOver, RisingRowsAreOne, UsedAreOne}
-use Rattle.esto_run.specs.Stores.{IsFileRow}
+use Rattle.esto_docs.specs.Stores.{IsFileRow}
 use Rattle.esto_run.specs.Used.{AreUsed}
 use Rattle.esto_semantics.specs.Listed.{candidate}
 use Rattle.esto_semantics.specs.Queries.{ConjunctiveQuery}
 use Rattle.esto_views.specs.Plans.{plan_query}
 use Rattle.esto_views.specs.declared.plan.Plan.{Plan}
-use Rattle.esto_opening.specs.Fragments.{opens_fragments}
+use Rattle.esto_run.specs.Fragments.{opens_fragments}
 use Rattle.esto_top.specs.Run.{IsRunText, runs_item, runs_plan, runs_end, runs_query}
-use Rattle.esto_opening.specs.declared.reply.Reply.TheVariants.{Done, Unsatisfiable}
-use Rattle.esto_opening.specs.Calm.{AgreeCalmly}
+use Rattle.esto_status.specs.declared.reply.Reply.TheVariants.{Done, Unsatisfiable}
+use Rattle.esto_status.specs.Calm.{AgreeCalmly}
 use Rattle.esto_top.proofs.AlikeRunLemmas.{one_text, run_text_moved}
 use Rattle.esto_top.specs.Laws.{OpeningLaws, PlanningLaws}
-use Rattle.esto_opening.specs.Alike.{IsSameQuery}
-use Rattle.esto_opening.proofs.TextLemmas.{same_rows_text}
+use Rattle.esto_query.specs.Same.{IsSameQuery}
+use Rattle.esto_run.proofs.RowsTextLemmas.{same_rows_text}
 use Rattle.esto_rewriting.specs.Alike.{IsSameEnd, IsSamePlan}
 use Rattle.esto_rewriting.specs.Planning.{chooses}
 

@@ -13,14 +13,14 @@ use Rattle.esto_run.specs.Used.{AreUsed}
 use Rattle.esto_views.specs.Plans.{plan_query}
 use Rattle.esto_views.specs.declared.plan.Plan.{Plan}
 use Rattle.esto_rewriting.specs.Run.{runs_union}
-use Rattle.esto_opening.specs.Answers.{Answers, IsCaused, IsWant}
-use Rattle.esto_opening.specs.Asked.{AsksIn}
-use Rattle.esto_opening.specs.Fragments.{opens_fragments}
-use Rattle.esto_opening.specs.declared.reply.Reply.{Reply}
-use Rattle.esto_opening.specs.declared.reply.Reply.TheVariants.{Done}
-use Rattle.esto_opening.specs.declared.status.Status.{Status}
-use Rattle.esto_opening.specs.declared.status.Status.TheVariants.{OutOfMemory}
-use Rattle.esto_opening.proofs.AskedSteps.{accepted, exit_asks, later_asks, quiet_asks, wanted}
+use Rattle.esto_status.specs.Answers.{Answers, IsCaused, IsWant}
+use Rattle.esto_status.specs.Asked.{AsksIn}
+use Rattle.esto_run.specs.Fragments.{opens_fragments}
+use Rattle.esto_status.specs.declared.reply.Reply.{Reply}
+use Rattle.esto_status.specs.declared.reply.Reply.TheVariants.{Done}
+use Rattle.esto_status.specs.declared.status.Status.{Status}
+use Rattle.esto_status.specs.declared.status.Status.TheVariants.{OutOfMemory}
+use Rattle.esto_status.proofs.AskedSteps.{accepted, exit_asks, later_asks, quiet_asks, wanted}
 use Rattle.esto_rewriting.specs.Listing.{IsClash, IsListOf, IsPlanned}
 use Rattle.esto_rewriting.specs.Planning.{chooses, ends_query}
 use Rattle.esto_top.specs.Run.{IsRunText, has_no_answers, runs_end, runs_item, runs_plan, runs_queries, runs_query}

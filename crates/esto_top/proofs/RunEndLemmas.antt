@@ -9,12 +9,12 @@ use Rattle.esto_chase_laws.specs.declared.clash.Clash.{Clash}
 use Rattle.esto_course.specs.Course.{judges, gives, and_then}
 use Rattle.esto_list.specs.Items.{totals_of}
 use Rattle.esto_list.specs.declared.listing.Listed.{Listed}
-use Rattle.esto_opening.specs.Fetch.{fetches}
-use Rattle.esto_opening.specs.Fragments.{Stored, IsStoredAt, content_fault, reads_content, opens_stored, opens_fragment, opens_fragments, opens_next, no_contents}
-use Rattle.esto_opening.specs.Fragments.{with_content}
-use Rattle.esto_opening.specs.declared.opening.TheConstants.{DATA_LIMIT}
-use Rattle.esto_opening.specs.declared.status.Status.{Status}
-use Rattle.esto_opening.specs.declared.status.Status.TheVariants.{BadFragment, NoRewriting, NoSuchNumber, Unsatisfiable}
+use Rattle.esto_status.specs.Fetch.{fetches}
+use Rattle.esto_run.specs.Fragments.{Stored, IsStoredAt, content_fault, reads_content, opens_stored, opens_fragment, opens_fragments, opens_next, no_contents}
+use Rattle.esto_run.specs.Fragments.{with_content}
+use Rattle.esto_status.specs.declared.limits.TheConstants.{DATA_LIMIT}
+use Rattle.esto_status.specs.declared.status.Status.{Status}
+use Rattle.esto_status.specs.declared.status.Status.TheVariants.{BadFragment, NoRewriting, NoSuchNumber, Unsatisfiable}
 use Rattle.esto_opening.proofs.UnionLemmas.{itself}
 use Rattle.esto_rewriting.specs.Choice.{HasNoPlace, IsItemOf, IsPlace}
 use Rattle.esto_rewriting.specs.Choice.HasNoPlace.{is_empty, is_above}
@@ -25,7 +25,7 @@ use Rattle.esto_ports.specs.declared.file_fault.FileFault.{FileFault}
 use Rattle.esto_query.specs.declared.query.Query.{Query}
 use Rattle.esto_run.specs.Answers.{IsAnswersText}
 use Rattle.esto_run.specs.Laws.{IsAnswerOver}
-use Rattle.esto_run.specs.Stores.{IsFileRow}
+use Rattle.esto_docs.specs.Stores.{IsFileRow}
 use Rattle.esto_run.specs.Used.{AreUsed}
 use Rattle.esto_semantics.specs.Listed.{candidate, chosen}
 use Rattle.esto_semantics.specs.ListedLaws.{PickExists}

@@ -12,7 +12,7 @@ use Rattle.esto_query.specs.declared.query.Query.{Query}
 use Rattle.esto_run.specs.Answers.{IsAnswersText}
 use Rattle.esto_run.specs.Laws.{AnswersAreOverFiles, IsAnswerOver, UsesOnly}
 use Rattle.esto_run.specs.Opened.{AreOpened}
-use Rattle.esto_run.specs.Stores.{IsFileRow}
+use Rattle.esto_docs.specs.Stores.{IsFileRow}
 use Rattle.esto_run.specs.Used.{AreUsed}
 use Rattle.esto_steps.specs.Rows.{IsRowOf, held_by}
 use Rattle.esto_semantics.specs.Listed.{candidate}
@@ -24,16 +24,16 @@ use Rattle.esto_term.proofs.ListLemmas.{Contains-at, Contains-map_from}
 use Rattle.esto_views.specs.Plans.{IsPlanOver, fact_of, plan_query}
 use Rattle.esto_views.specs.declared.fragments.FragmentDef.{FragmentDef}
 use Rattle.esto_views.specs.declared.plan.Plan.{Plan}
-use Rattle.esto_opening.specs.Answers.{Answers, IsWant, IsCaused}
-use Rattle.esto_opening.specs.Fragments.{opens_fragments}
+use Rattle.esto_status.specs.Answers.{Answers, IsWant, IsCaused}
+use Rattle.esto_run.specs.Fragments.{opens_fragments}
 use Rattle.esto_top.specs.Run.{IsRunText, has_no_answers, runs_end, runs_item, runs_plan, runs_query}
-use Rattle.esto_opening.specs.declared.reply.Reply.{Reply}
-use Rattle.esto_opening.specs.declared.reply.Reply.TheVariants.{Done}
-use Rattle.esto_opening.specs.declared.status.Status.{Status}
-use Rattle.esto_opening.proofs.Steps.{caused_weaker}
+use Rattle.esto_status.specs.declared.reply.Reply.{Reply}
+use Rattle.esto_status.specs.declared.reply.Reply.TheVariants.{Done}
+use Rattle.esto_status.specs.declared.status.Status.{Status}
+use Rattle.esto_status.proofs.Steps.{caused_weaker}
 use Rattle.esto_rewriting.specs.Listing.{IsClash, IsListOf, IsPlanned}
 use Rattle.esto_rewriting.specs.Planning.{chooses, ends_query, lists_plan}
-use Rattle.esto_opening.proofs.Steps.{then_answers_still}
+use Rattle.esto_status.proofs.Steps.{then_answers_still}
 
 -- ---- the fragments
 

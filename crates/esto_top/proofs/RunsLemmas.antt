@@ -6,7 +6,7 @@ use Rattle.std.proofs.lemmas.Option.{same_Some, none-some}
 use Rattle.either.specs.declared.Either.TheVariants.{Left, Right}
 use Rattle.esto_mapping.specs.Catalogues.{AreSame}
 use Rattle.esto_mapping.specs.declared.catalogue.Catalogue.{Catalogue}
-use Rattle.esto_mapping.specs.declared.catalogue.Store.{Store}
+use Rattle.esto_docmodel.specs.declared.file.Store.{Store}
 use Rattle.esto_chase_laws.specs.declared.clash.Clash.{Clash}
 use Rattle.esto_constraint.specs.Constraints.{rules_of}
 use Rattle.esto_course.specs.Course.{judges, gives, and_then}
@@ -16,7 +16,7 @@ use Rattle.esto_query.specs.Making.{query_of}
 use Rattle.esto_query.specs.declared.query.Query.{Query}
 use Rattle.esto_run.specs.Answers.{rows_text}
 use Rattle.esto_run.specs.Laws.{IsAnswerOver, FilesHoldViewRows, RewritingsAnswerQueries}
-use Rattle.esto_run.specs.Stores.{IsFileRow, IsRowIn}
+use Rattle.esto_docs.specs.Stores.{IsFileRow, IsRowIn}
 use Rattle.esto_run.specs.Used.{AreUsed}
 use Rattle.esto_semantics.specs.Facts.{Database}
 use Rattle.esto_semantics.specs.Listed.{IsListed, candidate}
@@ -31,32 +31,32 @@ use Rattle.esto_term.specs.declared.term.Term.{Term}
 use Rattle.esto_views.specs.Fragments.{views_of, patterns_of}
 use Rattle.esto_views.specs.Plans.{plan_query}
 use Rattle.esto_views.specs.declared.plan.Plan.{Plan}
-use Rattle.esto_opening.specs.Answers.{IsCaused}
-use Rattle.esto_opening.specs.Fragments.{IsReadableFragment, opens_fragments}
-use Rattle.esto_opening.specs.Readable.{AreReadable, OpenedAreReadable, ReadableAreOpened, TellsOfFile}
-use Rattle.esto_opening.specs.Readable.TellsOfFile.{fails, is_longer, has_fault}
-use Rattle.esto_opening.proofs.StatusLemmas.{same_clash, same_asked, same_least}
+use Rattle.esto_status.specs.Answers.{IsCaused}
+use Rattle.esto_run.specs.Fragments.{IsReadableFragment, opens_fragments}
+use Rattle.esto_run.specs.Readable.{AreReadable, OpenedAreReadable, ReadableAreOpened, TellsOfFile}
+use Rattle.esto_run.specs.Readable.TellsOfFile.{fails, is_longer, has_fault}
+use Rattle.esto_status.proofs.StatusLemmas.{same_clash, same_asked, same_least}
 use Rattle.esto_top.specs.Grammar.{course_of, is_list_number}
 use Rattle.esto_top.specs.Headline.{FilesSay, HasAnswers, Rewrites}
-use Rattle.esto_opening.specs.Replies.{reply_status, reply_text}
+use Rattle.esto_status.specs.Replies.{reply_status, reply_text}
 use Rattle.esto_top.specs.Outcome.{Says, CompleteWhereTold}
 use Rattle.esto_top.specs.Run.{IsRunText, run_course, runs_queries, runs_query}
 use Rattle.esto_rewriting.specs.Choice.HasNoPlace.{is_empty, is_above}
 use Rattle.esto_top.specs.Runs.{AsksRun, CanRun, IsAboveList, PrintsAnswers, PrintsRun, TellsClash, IsExactRun, OutcomesAreRuns, RunsWhereTold}
-use Rattle.esto_opening.specs.declared.reply.Reply.{Reply}
-use Rattle.esto_opening.specs.declared.reply.Reply.TheVariants.{Done, Unsatisfiable}
-use Rattle.esto_opening.specs.declared.status.Status.{Status}
-use Rattle.esto_opening.specs.declared.status.Status.TheVariants as status
+use Rattle.esto_status.specs.declared.reply.Reply.{Reply}
+use Rattle.esto_status.specs.declared.reply.Reply.TheVariants.{Done, Unsatisfiable}
+use Rattle.esto_status.specs.declared.status.Status.{Status}
+use Rattle.esto_status.specs.declared.status.Status.TheVariants as status
 use Rattle.esto_top.proofs.AlikeRunLemmas.{run_text_moved}
 use Rattle.esto_top.specs.Laws.{ListingLaws, OpeningLaws}
 use Rattle.esto_top.proofs.HeadlineLemmas.{empty-without}
-use Rattle.esto_opening.specs.Calm.{Leads}
-use Rattle.esto_opening.proofs.LeadLemmas.{then-leads}
-use Rattle.esto_opening.proofs.TextLemmas.{same_rows_text}
+use Rattle.esto_status.specs.Calm.{Leads}
+use Rattle.esto_status.proofs.LeadLemmas.{then-leads}
+use Rattle.esto_run.proofs.RowsTextLemmas.{same_rows_text}
 use Rattle.esto_top.proofs.LeadLemmas.{says-leads}
 use Rattle.esto_top.proofs.RunLemmas.{same_rows, uses_only}
 use Rattle.esto_top.proofs.SayLemmas.{alone_opens, catalogue_leads, catalogue_opens, one_alone, union_leads}
-use Rattle.esto_opening.specs.Alike.{IsSameQuery}
+use Rattle.esto_query.specs.Same.{IsSameQuery}
 use Rattle.esto_rewriting.specs.Alike.{IsSamePlan}
 use Rattle.esto_rewriting.specs.Choice.{HasNoPlace, IsPlace}
 use Rattle.esto_rewriting.specs.Listing.{IsClash, IsListOf, IsPlanned}

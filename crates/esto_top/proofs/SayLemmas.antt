@@ -4,14 +4,14 @@ use Rattle.esto_mapping.specs.Catalogues.{AreSame}
 use Rattle.esto_mapping.specs.declared.catalogue.Catalogue.{Catalogue}
 use Rattle.esto_course.specs.Course.{Course, judges}
 use Rattle.esto_course.proofs.Steps.{then_goes}
-use Rattle.esto_opening.specs.Alike.{AreSameQueries, IsSameQuery}
-use Rattle.esto_opening.specs.Calm.{AgreeCalmly, Leads}
-use Rattle.esto_opening.specs.Fetch.{fetches}
+use Rattle.esto_query.specs.Same.{AreSameQueries, IsSameQuery}
+use Rattle.esto_status.specs.Calm.{AgreeCalmly, Leads}
+use Rattle.esto_status.specs.Fetch.{fetches}
 use Rattle.esto_opening.specs.Opening.{FilesSayCatalogue, FilesSayQuery, FilesSayUnion, opens_catalogue, opens_query, opens_union, reads_catalogue, reads_query}
 use Rattle.esto_opening.specs.Opening.{reads_union}
 use Rattle.esto_opening.specs.Unions.{UnionsOfOneAreQueries}
-use Rattle.esto_opening.specs.declared.opening.TheConstants.{CATALOGUE_LIMIT, QUERY_LIMIT}
-use Rattle.esto_opening.specs.declared.status.Status.{Status}
+use Rattle.esto_status.specs.declared.limits.TheConstants.{CATALOGUE_LIMIT, QUERY_LIMIT}
+use Rattle.esto_status.specs.declared.status.Status.{Status}
 use Rattle.esto_ports.specs.Files.{Files}
 use Rattle.esto_query.specs.declared.query.Query.{Query}
 use Rattle.esto_top.specs.Laws.{OpeningLaws}

@@ -8,8 +8,8 @@ use Rattle.std.proofs.lemmas.Option.{none-some, same_Some, slice_get_within}
 use Rattle.esto_data.specs.Answer.{lists_texts}
 use Rattle.esto_fill.specs.Texts.{AreTextViews, AreTextsOf, HasNodeIn, HaveTextsOnly, IsFirstNodeColumn, IsFirstNodeView}
 use Rattle.esto_fill.proofs.OrderLemmas.{texts_exact, texts_total}
-use Rattle.esto_opening.specs.declared.status.Status.{Status}
-use Rattle.esto_opening.specs.declared.status.Status.TheVariants.{NodeInRow}
+use Rattle.esto_status.specs.declared.status.Status.{Status}
+use Rattle.esto_status.specs.declared.status.Status.TheVariants.{NodeInRow}
 use Rattle.esto_semantics.specs.Facts.{Database}
 use Rattle.esto_semantics.specs.Queries.{ConjunctiveQuery, IsAnswer, IsQuery}
 use Rattle.esto_semantics.specs.Unions.{IsUnionAnswer}

@@ -13,15 +13,15 @@ use Rattle.esto_course.specs.Course.Point.{went, stopped, missing}
 use Rattle.esto_data.specs.Datasets.{loads}
 use Rattle.esto_rewriting.specs.Run.{runs_end as ends_union, runs_union}
 use Rattle.esto_rewriting.specs.declared.members.Member.{Member}
-use Rattle.esto_opening.specs.Answers.{IsCaused}
-use Rattle.esto_opening.specs.Asked.{Fetches}
-use Rattle.esto_opening.specs.Asked.Fetches.{to_lack, to_refusal, to_value}
-use Rattle.esto_opening.specs.Fetch.{FetchStops, fetches}
-use Rattle.esto_opening.specs.Fetch.FetchStops.{fails, is_longer}
-use Rattle.esto_opening.specs.Fragments.{opens_fragments}
+use Rattle.esto_status.specs.Answers.{IsCaused}
+use Rattle.esto_status.specs.Asked.{Fetches}
+use Rattle.esto_status.specs.Asked.Fetches.{to_lack, to_refusal, to_value}
+use Rattle.esto_status.specs.Fetch.{FetchStops, fetches}
+use Rattle.esto_status.specs.Fetch.FetchStops.{fails, is_longer}
+use Rattle.esto_run.specs.Fragments.{opens_fragments}
 use Rattle.esto_opening.specs.Opening.{opens_catalogue, opens_query, opens_union}
-use Rattle.esto_opening.specs.declared.status.Status.{Status}
-use Rattle.esto_opening.specs.declared.status.Status.TheVariants.{ReadFault}
+use Rattle.esto_status.specs.declared.status.Status.{Status}
+use Rattle.esto_status.specs.declared.status.Status.TheVariants.{ReadFault}
 use Rattle.esto_ports.specs.Files.{Files}
 use Rattle.esto_views.specs.declared.plan.Plan.{Plan}
 use Rattle.esto_query.specs.declared.query.Query.{Query}

@@ -20,13 +20,13 @@ use Rattle.esto_rewriting.specs.declared.members.Member.TheVariants.{Planned, Cl
 use Rattle.esto_list.specs.Items.{totals_of}
 use Rattle.esto_views.specs.Printing.{each_from}
 use Rattle.esto_list.specs.declared.listing.Listed.{Listed}
-use Rattle.esto_opening.specs.Fragments.{opens_fragments}
-use Rattle.esto_opening.specs.Line.{line_of}
-use Rattle.esto_opening.specs.Readable.{AreReadable}
-use Rattle.esto_opening.specs.declared.reply.Reply.{Reply}
-use Rattle.esto_opening.specs.declared.reply.Reply.TheVariants.{Done, Unsatisfiable as UnsatisfiableReply}
-use Rattle.esto_opening.specs.declared.status.Status.{Status}
-use Rattle.esto_opening.specs.declared.status.Status.TheVariants.{NoRewriting, NoSuchNumber, Unsatisfiable}
+use Rattle.esto_run.specs.Fragments.{opens_fragments}
+use Rattle.esto_status.specs.Line.{line_of}
+use Rattle.esto_run.specs.Readable.{AreReadable}
+use Rattle.esto_status.specs.declared.reply.Reply.{Reply}
+use Rattle.esto_status.specs.declared.reply.Reply.TheVariants.{Done, Unsatisfiable as UnsatisfiableReply}
+use Rattle.esto_status.specs.declared.status.Status.{Status}
+use Rattle.esto_status.specs.declared.status.Status.TheVariants.{NoRewriting, NoSuchNumber, Unsatisfiable}
 use Rattle.esto_opening.proofs.UnionLemmas.{itself}
 use Rattle.esto_rewriting.specs.Choice.{IsPlace}
 use Rattle.esto_rewriting.specs.Listing.{IsPlanned}
@@ -34,7 +34,7 @@ use Rattle.esto_ports.specs.Files.{Files}
 use Rattle.esto_query.specs.declared.query.Query.{Query}
 use Rattle.esto_run.specs.Answers.{rows_text}
 use Rattle.esto_run.specs.Laws.{IsAnswerOfOne}
-use Rattle.esto_run.specs.Stores.{IsFileRow}
+use Rattle.esto_docs.specs.Stores.{IsFileRow}
 use Rattle.esto_run.specs.Used.{AreFirsts, AreUsedByAll, fragments_of}
 use Rattle.esto_run.proofs.UsedLemmas.{firsts_kept, firsts_more, no_firsts}
 use Rattle.esto_semantics.specs.Listed.{candidate, chosen}

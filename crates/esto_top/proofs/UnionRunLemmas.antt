@@ -4,13 +4,13 @@ use Rattle.esto_mapping.specs.Catalogues.{AreSame}
 use Rattle.esto_mapping.specs.declared.catalogue.Catalogue.{Catalogue}
 use Rattle.esto_rewriting.specs.RunExact.{RunsUnionExactly, UnionRunsAreExact}
 use Rattle.esto_rewriting.specs.RunLaws.{UnionRunsAreMoved}
-use Rattle.esto_opening.specs.Alike.{AreSameQueries}
-use Rattle.esto_opening.specs.Calm.{Leads}
-use Rattle.esto_opening.specs.Line.{line_of}
-use Rattle.esto_opening.specs.Replies.{reply_status, reply_text}
-use Rattle.esto_opening.specs.declared.reply.Reply.{Reply}
-use Rattle.esto_opening.specs.declared.status.Status.{Status}
-use Rattle.esto_opening.proofs.LeadLemmas.{then-leads}
+use Rattle.esto_query.specs.Same.{AreSameQueries}
+use Rattle.esto_status.specs.Calm.{Leads}
+use Rattle.esto_status.specs.Line.{line_of}
+use Rattle.esto_status.specs.Replies.{reply_status, reply_text}
+use Rattle.esto_status.specs.declared.reply.Reply.{Reply}
+use Rattle.esto_status.specs.declared.status.Status.{Status}
+use Rattle.esto_status.proofs.LeadLemmas.{then-leads}
 use Rattle.esto_ports.specs.Files.{Files}
 use Rattle.esto_query.specs.declared.query.Query.{Query}
 use Rattle.esto_top.specs.Outcome.{CompleteWhereTold, Says}

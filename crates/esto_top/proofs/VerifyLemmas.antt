@@ -8,12 +8,12 @@ use Rattle.esto_mapping.specs.declared.catalogue.Catalogue.{Catalogue}
 use Rattle.esto_cert.proofs.ExpansionLemmas.{expanded_exists}
 use Rattle.esto_cert.specs.Judging.{DecidesFor, case_for}
 use Rattle.esto_rewriting.specs.Verify.{HasVerdict, IsAbove, IsSetOf, first_above, judges_certificate, names_set, verifies_query, verifies_set}
-use Rattle.esto_opening.specs.declared.opening.TheConstants.{DATA_LIMIT}
+use Rattle.esto_status.specs.declared.limits.TheConstants.{DATA_LIMIT}
 use Rattle.esto_constraint.specs.declared.rule.Constraint.{Constraint}
 use Rattle.esto_course.specs.Course.{and_then, judges}
-use Rattle.esto_opening.specs.Fetch.{fetches}
-use Rattle.esto_opening.specs.declared.status.Status.{Status}
-use Rattle.esto_opening.specs.declared.status.Status.TheVariants.{NoSuchNumber, Rejected}
+use Rattle.esto_status.specs.Fetch.{fetches}
+use Rattle.esto_status.specs.declared.status.Status.{Status}
+use Rattle.esto_status.specs.declared.status.Status.TheVariants.{NoSuchNumber, Rejected}
 use Rattle.esto_rewriting.specs.Listing.{IsPlanned}
 use Rattle.esto_rewriting.specs.Planning.{plans_query}
 use Rattle.esto_ports.specs.Files.{Files}

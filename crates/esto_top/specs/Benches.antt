@@ -4,8 +4,8 @@ use Rattle.esto_bench.specs.Summary.{IsSummaryOfCase, summary_text}
 use Rattle.esto_bench.specs.declared.summary.Summary.{Summary}
 use Rattle.esto_top.specs.Grammar.{is_made_size, value_of}
 use Rattle.esto_top.specs.Headline.{HoldsOfPut}
-use Rattle.esto_opening.specs.declared.status.Status.{Status}
-use Rattle.esto_opening.specs.declared.status.Status.TheVariants as status
+use Rattle.esto_status.specs.declared.status.Status.{Status}
+use Rattle.esto_status.specs.declared.status.Status.TheVariants as status
 
 -- The status is Done, and the text the summary of the made case of the size.
 abbrev pub IsExactBench : ℕ → Status → List ℕ → Type 0

@@ -3,12 +3,12 @@ use Rattle.std.specs.Prelude.{◌≡◌, ◌≢◌, ◌↔◌, ℕ, ◌-◌, ◌
 use Rattle.esto_mapping.specs.declared.catalogue.Catalogue.{Catalogue}
 use Rattle.esto_rewriting.specs.CertificateLaws.{Certifies, SaysVerdict}
 use Rattle.esto_rewriting.specs.Verify.{first_above, HasVerdict, IsSetOf}
-use Rattle.esto_opening.specs.declared.opening.TheConstants.{DATA_LIMIT}
+use Rattle.esto_status.specs.declared.limits.TheConstants.{DATA_LIMIT}
 use Rattle.esto_list.specs.declared.listing.Listed.{Listed}
-use Rattle.esto_opening.specs.Fetch.{HasWithin}
-use Rattle.esto_opening.specs.Line.{line_of}
-use Rattle.esto_opening.specs.declared.status.Status.{Status}
-use Rattle.esto_opening.specs.declared.status.Status.TheVariants as status
+use Rattle.esto_status.specs.Fetch.{HasWithin}
+use Rattle.esto_status.specs.Line.{line_of}
+use Rattle.esto_status.specs.declared.status.Status.{Status}
+use Rattle.esto_status.specs.declared.status.Status.TheVariants as status
 use Rattle.esto_rewriting.specs.Listing.{IsListOf, IsPlanned}
 use Rattle.esto_ports.specs.Files.{Files, Holds}
 use Rattle.esto_query.specs.declared.query.Query.{Query}

@@ -6,9 +6,9 @@ use Rattle.esto_ports.specs.Files.{Files}
 use Rattle.esto_query.specs.Schemas.{names_of}
 use Rattle.esto_course.specs.Course.{Course, gives, and_then}
 use Rattle.esto_opening.specs.Opening.{opens_catalogue}
-use Rattle.esto_opening.specs.declared.reply.Reply.{Reply}
-use Rattle.esto_opening.specs.declared.reply.Reply.TheVariants.{Done}
-use Rattle.esto_opening.specs.declared.status.Status.{Status}
+use Rattle.esto_status.specs.declared.reply.Reply.{Reply}
+use Rattle.esto_status.specs.declared.reply.Reply.TheVariants.{Done}
+use Rattle.esto_status.specs.declared.status.Status.{Status}
 
 -- The line of a relation and its rank.
 abbrev pub rank_line : List ℕ → ℕ → List ℕ

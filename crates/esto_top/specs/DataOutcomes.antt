@@ -4,14 +4,14 @@ use Rattle.esto_mapping.specs.declared.catalogue.Catalogue.{Catalogue}
 use Rattle.esto_data.specs.Exact.{IsExactAnswer, IsExactAudit, IsExactFill, IsExactUnionAnswer}
 use Rattle.esto_data.specs.Fill.{fill_course}
 use Rattle.esto_course.specs.Course.{Names}
-use Rattle.esto_opening.specs.Answers.{Answers}
-use Rattle.esto_opening.specs.Asked.{AsksAsTold, AsksIn}
+use Rattle.esto_status.specs.Answers.{Answers}
+use Rattle.esto_status.specs.Asked.{AsksAsTold, AsksIn}
 use Rattle.esto_opening.specs.Opening.{FilesSayCatalogue, FilesSayUnion}
 use Rattle.esto_ports.specs.Files.{Files}
 use Rattle.esto_query.specs.declared.query.Query.{Query}
-use Rattle.esto_opening.specs.declared.reply.Reply.{Reply}
-use Rattle.esto_opening.specs.declared.status.Status.{Status}
-use Rattle.esto_opening.specs.declared.status.Status.TheVariants as status
+use Rattle.esto_status.specs.declared.reply.Reply.{Reply}
+use Rattle.esto_status.specs.declared.status.Status.{Status}
+use Rattle.esto_status.specs.declared.status.Status.TheVariants as status
 use Rattle.esto_top.specs.Grammar.{Request}
 use Rattle.esto_top.specs.Grammar.Request.{FillFor}
 use Rattle.esto_top.specs.Headline.{FilesSay, HoldsOfPut}

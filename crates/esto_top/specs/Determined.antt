@@ -5,15 +5,15 @@ use Rattle.esto_rewriting.specs.CertificateLaws.{AreDone}
 use Rattle.esto_course.specs.Agreement.{Begins}
 use Rattle.esto_course.specs.Course.{Names, Point}
 use Rattle.esto_ports.specs.Files.{Files}
-use Rattle.esto_opening.specs.Asked.{Fetches}
-use Rattle.esto_opening.specs.Calm.{AgreeCalmly}
-use Rattle.esto_opening.specs.declared.reply.Reply.{Reply}
+use Rattle.esto_status.specs.Asked.{Fetches}
+use Rattle.esto_status.specs.Calm.{AgreeCalmly}
+use Rattle.esto_status.specs.declared.reply.Reply.{Reply}
 use Rattle.esto_top.specs.CertificateOutcomes.{AsksExplain}
 use Rattle.esto_top.specs.Grammar.{Request, course_of, request_of}
 use Rattle.esto_top.specs.Grammar.Request.{ExplainFor}
 use Rattle.esto_top.specs.Outcome.{Outcome}
-use Rattle.esto_opening.specs.declared.status.Status.{Status}
-use Rattle.esto_opening.specs.declared.status.Status.TheVariants as status
+use Rattle.esto_status.specs.declared.status.Status.{Status}
+use Rattle.esto_status.specs.declared.status.Status.TheVariants as status
 
 -- The words ask for a certificate, by `explain C Q N`.
 abbrev pub AsksCertificate : List (List ℕ) → Type 0

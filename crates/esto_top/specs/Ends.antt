@@ -1,8 +1,8 @@
 -- Courses that come to an end.
 use Rattle.esto_course.specs.Course.{Course, Names}
 use Rattle.esto_course.specs.Course.Point.{went, stopped, missing}
-use Rattle.esto_opening.specs.Answers.{IsCaused}
-use Rattle.esto_opening.specs.declared.status.Status.{Status}
+use Rattle.esto_status.specs.Answers.{IsCaused}
+use Rattle.esto_status.specs.declared.status.Status.{Status}
 
 -- The course comes to an end: it goes on with a value, or it stops with a status that has its cause though no fetch is at a fault; or, where it may lack a
 -- file, it asks for one that is not there.

@@ -5,9 +5,9 @@ use Rattle.std.specs.Io.KnownBytes.{Appends, Keeps}
 use Rattle.esto_course.specs.Course.{Names}
 use Rattle.esto_course.specs.Course.Point.{missing}
 use Rattle.esto_ports.specs.Files.{Files}
-use Rattle.esto_opening.specs.Asked.{Fetches}
-use Rattle.esto_opening.specs.declared.status.Status.{Status}
-use Rattle.esto_opening.specs.declared.status.Status.TheVariants as status
+use Rattle.esto_status.specs.Asked.{Fetches}
+use Rattle.esto_status.specs.declared.status.Status.{Status}
+use Rattle.esto_status.specs.declared.status.Status.TheVariants as status
 use Rattle.esto_top.specs.Grammar.{course_of}
 use Rattle.esto_top.specs.Outcome.{Outcome}
 

@@ -21,11 +21,11 @@ use Rattle.esto_term.specs.Sets.{Covers}
 use Rattle.esto_views.specs.Fragments.{views_of, patterns_of, weights_of}
 use Rattle.esto_views.specs.Plans.{plan_query}
 use Rattle.esto_views.specs.declared.plan.Plan.{Plan}
-use Rattle.esto_opening.specs.Line.{line_of}
+use Rattle.esto_status.specs.Line.{line_of}
 use Rattle.esto_opening.specs.Opening.{FilesSayCatalogue, FilesSayQuery}
 use Rattle.esto_top.specs.Outcome.{Outcome}
-use Rattle.esto_opening.specs.declared.status.Status.{Status}
-use Rattle.esto_opening.specs.declared.status.Status.TheVariants as status
+use Rattle.esto_status.specs.declared.status.Status.{Status}
+use Rattle.esto_status.specs.declared.status.Status.TheVariants as status
 use Rattle.esto_rewriting.specs.Listing.{IsClash, IsListOf, IsPlanned}
 
 -- ---- the files

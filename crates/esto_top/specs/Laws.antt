@@ -2,7 +2,7 @@
 use Rattle.esto_backchase.specs.Listing.{ListedCoverRewritings}
 use Rattle.esto_semantics.specs.ListedLaws.{NoRewritingExists, PickWeighsLeastOfAll}
 use Rattle.esto_opening.specs.Alike.{CataloguesOpenAlike, UnionsOpenAlike}
-use Rattle.esto_opening.specs.FragmentsAlike.{FragmentOpensAlike, FragmentsOpenAlike, StoresHaveOneContent}
+use Rattle.esto_run.specs.FragmentsAlike.{FragmentOpensAlike, FragmentsOpenAlike, StoresHaveOneContent}
 use Rattle.esto_opening.specs.Unions.{OpenedFormUnions, UnionsOfOneAreQueries}
 use Rattle.esto_top.specs.Steps.{AnswersEnd, AuditsEnd, CasesHaveSummaries, CataloguesOpen, ContainmentsEnd, ItemsAreChosen, MinimisationsEnd}
 use Rattle.esto_top.specs.Steps.{PlansHaveLists, PlansHaveTexts, QueriesArePlanned, QueriesHaveEnds, SetsHaveRows, SetsOpen, SetsUseFragments}

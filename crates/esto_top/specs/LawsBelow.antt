@@ -9,7 +9,7 @@ use Rattle.esto_constraint.specs.Constraints.{rule_of}
 use Rattle.esto_constraint.specs.declared.rule.Constraint.{Constraint}
 use Rattle.esto_input_laws.specs.CatalogueLaws.{CataloguesAreTotal}
 use Rattle.esto_input_laws.specs.FileLaws.{StoredRowsAreTotal}
-use Rattle.esto_opening.specs.Readable.{OpenedAreReadable}
+use Rattle.esto_run.specs.Readable.{OpenedAreReadable}
 use Rattle.esto_plan_laws.specs.CoreLaws.{MapsCompose, RenamedIsReached, RenamedMapsBack}
 use Rattle.esto_rewriting.specs.PlannedLaws.{PlanHasForm, PlanIsOver, PlanIsUniversal}
 use Rattle.esto_query.specs.Soundness.{IsSound}

@@ -5,14 +5,14 @@ use Rattle.esto_ports.specs.Asked.{CountGoes, CountStays}
 use Rattle.esto_ports.specs.Files.{Files}
 use Rattle.esto_ports.specs.declared.ports.SinkError.{SinkError}
 use Rattle.esto_ports.specs.declared.ports.SinkError.TheVariants as sink
-use Rattle.esto_opening.specs.Line.{line_of}
+use Rattle.esto_status.specs.Line.{line_of}
 use Rattle.esto_course.specs.Course.{Course}
-use Rattle.esto_opening.specs.Answers.{IsCaused}
-use Rattle.esto_opening.specs.Replies.{reply_status, reply_text}
+use Rattle.esto_status.specs.Answers.{IsCaused}
+use Rattle.esto_status.specs.Replies.{reply_status, reply_text}
 use Rattle.esto_top.specs.Grammar.{course_of}
-use Rattle.esto_opening.specs.declared.reply.Reply.{Reply}
-use Rattle.esto_opening.specs.declared.status.Status.{Status}
-use Rattle.esto_opening.specs.declared.status.Status.TheVariants as status
+use Rattle.esto_status.specs.declared.reply.Reply.{Reply}
+use Rattle.esto_status.specs.declared.status.Status.{Status}
+use Rattle.esto_status.specs.declared.status.Status.TheVariants as status
 
 -- A course says a status and the text that is put with it: a reply's, or a refusal's line.
 pub data Says (course : Course Status Reply) (rose : Type 0) (status : Status) (text : List ℕ) : Type 0 where

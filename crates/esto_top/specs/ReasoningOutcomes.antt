@@ -4,7 +4,7 @@ use Rattle.esto_mapping.specs.declared.catalogue.Catalogue.{Catalogue}
 use Rattle.esto_opening.specs.Opening.{FilesSayQuery}
 use Rattle.esto_ports.specs.Files.{Files}
 use Rattle.esto_query.specs.declared.query.Query.{Query}
-use Rattle.esto_opening.specs.declared.status.Status.{Status}
+use Rattle.esto_status.specs.declared.status.Status.{Status}
 use Rattle.esto_reasoning.specs.Exact.{IsExactContains, IsExactMinimise}
 use Rattle.esto_top.specs.Headline.{FilesSay, HoldsOfPut}
 use Rattle.esto_top.specs.Outcome.{Outcome}

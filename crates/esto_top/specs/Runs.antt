@@ -21,14 +21,14 @@ use Rattle.esto_term.specs.declared.term.Term.{Term}
 use Rattle.esto_views.specs.Fragments.{views_of}
 use Rattle.esto_views.specs.Plans.{plan_query}
 use Rattle.esto_views.specs.declared.plan.Plan.{Plan}
-use Rattle.esto_opening.specs.Line.{line_of}
-use Rattle.esto_opening.specs.Fragments.{IsReadableFragment}
+use Rattle.esto_status.specs.Line.{line_of}
+use Rattle.esto_run.specs.Fragments.{IsReadableFragment}
 use Rattle.esto_top.specs.Grammar.{is_list_number, value_of}
 use Rattle.esto_top.specs.Headline.{FilesSay, HasAnswers, HoldsOfPut, Rewrites}
 use Rattle.esto_top.specs.Outcome.{Outcome}
 use Rattle.esto_top.specs.Run.{IsRunText}
-use Rattle.esto_opening.specs.declared.status.Status.{Status}
-use Rattle.esto_opening.specs.declared.status.Status.TheVariants as status
+use Rattle.esto_status.specs.declared.status.Status.{Status}
+use Rattle.esto_status.specs.declared.status.Status.TheVariants as status
 use Rattle.esto_rewriting.specs.Choice.{IsPlace}
 use Rattle.esto_rewriting.specs.Listing.{IsClash, IsListOf, IsPlanned}
 

@@ -11,7 +11,7 @@ use Rattle.esto_data.specs.Fill.{make_course}
 use Rattle.esto_rewriting.specs.List.{lists_union}
 use Rattle.esto_rewriting.specs.Run.{runs_union}
 use Rattle.esto_list.specs.declared.listing.Listed.{Listed}
-use Rattle.esto_opening.specs.Fragments.{opens_fragments}
+use Rattle.esto_run.specs.Fragments.{opens_fragments}
 use Rattle.esto_opening.specs.Opening.{opens_catalogue, opens_query, opens_union}
 use Rattle.esto_rewriting.specs.Choice.{IsItemOf, IsPlace}
 use Rattle.esto_rewriting.specs.Listing.{IsListOf, IsListing, IsPlanned}
@@ -22,7 +22,7 @@ use Rattle.esto_reasoning.specs.Contains.{contains_course}
 use Rattle.esto_reasoning.specs.Minimise.{minimise_course}
 use Rattle.esto_run.specs.Answers.{IsAnswersText}
 use Rattle.esto_run.specs.Laws.{IsAnswerOver}
-use Rattle.esto_run.specs.Stores.{IsFileRow}
+use Rattle.esto_docs.specs.Stores.{IsFileRow}
 use Rattle.esto_run.specs.Used.{AreUsed}
 use Rattle.esto_semantics.specs.Listed.{candidate}
 use Rattle.esto_views.specs.Plans.{plan_query}

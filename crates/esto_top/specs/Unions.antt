@@ -4,8 +4,8 @@ use Rattle.esto_mapping.specs.declared.catalogue.Catalogue.{Catalogue}
 use Rattle.esto_rewriting.specs.Exact.{ListsUnionExactly}
 use Rattle.esto_rewriting.specs.RunExact.{RunsUnionExactly}
 use Rattle.esto_opening.specs.Opening.{FilesSayCatalogue, FilesSayUnion}
-use Rattle.esto_opening.specs.declared.status.Status.{Status}
-use Rattle.esto_opening.specs.declared.status.Status.TheVariants as status
+use Rattle.esto_status.specs.declared.status.Status.{Status}
+use Rattle.esto_status.specs.declared.status.Status.TheVariants as status
 use Rattle.esto_ports.specs.Files.{Files}
 use Rattle.esto_query.specs.declared.query.Query.{Query}
 use Rattle.esto_top.specs.Headline.{HoldsOfPut}

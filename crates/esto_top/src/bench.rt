@@ -1,10 +1,10 @@
 //! The command `bench`.
 ghost use Rattle.std.specs.Prelude.{◌<◌, ◌≤◌};
-ghost use Rattle.esto_opening.specs.Answers.{Answers};
+ghost use Rattle.esto_status.specs.Answers.{Answers};
 ghost use Rattle.esto_top.specs.Bench.{bench_course};
 
 use esto_bench::{MAX_SIZE, summary_text};
-use esto_opening::{Reply, Status};
+use esto_status::{Reply, Status};
 use std::alloc::Global;
 
 /// Sums up the made case of this size, 1 to `MAX_SIZE`, and prints the summary.

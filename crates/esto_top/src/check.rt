@@ -2,16 +2,16 @@
 ghost use Rattle.std.specs.Prelude.{◌≡◌, ◌≤◌, ◌++◌, length, IfOk, OnOk};
 ghost use Rattle.esto_ports.specs.Faults.{Rises};
 ghost use Rattle.esto_query.specs.Schemas.{names_of};
-ghost use Rattle.esto_top.specs.Check.{count_lines, rank_line, rank_lines, check_text};
-ghost use Rattle.esto_top.specs.Check.{prints_check, check_course};
-ghost use Rattle.esto_opening.specs.Answers.{Answers};
-ghost use Rattle.esto_opening.specs.Asked.{AsksIn};
+ghost use Rattle.esto_top.specs.Check.{count_lines, rank_line, rank_lines, check_text, prints_check, check_course};
+ghost use Rattle.esto_status.specs.Answers.{Answers};
+ghost use Rattle.esto_status.specs.Asked.{AsksIn};
 
 use esto_constraint::Ranks;
 use esto_mapping::{Catalogue, catalogues_are_sound};
-use esto_opening::{Reply, Status, open_catalogue};
+use esto_opening::open_catalogue;
 use esto_ports::Shelf;
 use esto_query::Schema;
+use esto_status::{Reply, Status};
 use esto_term::{Bytes, OutOfMemory, Text};
 use std::alloc::Global;
 

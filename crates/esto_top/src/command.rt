@@ -1,15 +1,12 @@
 //! The words of the command line.
-ghost use Rattle.std.specs.Prelude.{◌≡◌, ◌≤◌, ◌<◌, ◌+◌, length, map, true, None, Some};
-ghost use Rattle.std.specs.Prelude.{IfOk, IfSome, MatchOption};
+ghost use Rattle.std.specs.Prelude.{◌≡◌, ◌≤◌, ◌<◌, ◌+◌, length, map, true, None, Some, IfOk, IfSome, MatchOption};
 ghost use Rattle.std.specs.List.{list_all};
 ghost use Rattle.esto_ports.specs.Faults.{Rises};
-ghost use Rattle.esto_opening.specs.Answers.{Answers};
-ghost use Rattle.esto_opening.specs.Asked.{AsksIn};
+ghost use Rattle.esto_status.specs.Answers.{Answers};
+ghost use Rattle.esto_status.specs.Asked.{AsksIn};
 ghost use Rattle.esto_top.specs.DataOutcomes.{AnswersFill};
-ghost use Rattle.esto_top.specs.Grammar.{is_word, is_digit, is_leading_digit, is_list_number};
-ghost use Rattle.esto_top.specs.Grammar.{is_made_size, value_of, request_of_one, request_of_two};
-ghost use Rattle.esto_top.specs.Grammar.{request_of_three, request_of_four, request_of, asked};
-ghost use Rattle.esto_top.specs.Grammar.{IsSized, course_of_request, number_above, numbers_above};
+ghost use Rattle.esto_top.specs.Grammar.{is_word, is_digit, is_leading_digit, is_list_number, is_made_size, value_of, request_of_one, request_of_two};
+ghost use Rattle.esto_top.specs.Grammar.{request_of_three, request_of_four, request_of, asked, IsSized, course_of_request, number_above, numbers_above};
 ghost use Rattle.esto_top.specs.Grammar.{names_atoms, verifies_named};
 
 use crate::bench::bench;
@@ -19,10 +16,10 @@ use crate::run::run;
 use esto_bench::MAX_SIZE;
 use esto_cert::parts_by_comma;
 use esto_data::{answer, audit, fill};
-use esto_opening::{Reply, Status};
 use esto_ports::Shelf;
 use esto_reasoning::{contains, minimise};
 use esto_rewriting::{explain, verify};
+use esto_status::{Reply, Status};
 use esto_term::{OutOfMemory, Text, Values};
 use std::alloc::Global;
 

@@ -3,8 +3,8 @@ ghost use Rattle.std.specs.Prelude.{◌≡◌, ◌≤◌, IfSome, Some, None, Er
 ghost use Rattle.esto_ports.specs.Faults.{Rises};
 ghost use Rattle.esto_top.specs.Outcome.{IsSaid, Finishes, PutsOnce, status_of_error};
 
-use esto_opening::{Reply, Status, status_line};
 use esto_ports::{Sink, SinkError};
+use esto_status::{Reply, Status, status_line};
 use esto_term::{Bytes, OutOfMemory};
 use std::alloc::Global;
 

@@ -23,10 +23,7 @@ use crate::ends::{
 use esto_backchase::listed_sets_cover_rewritings;
 use esto_bench::summaries_are_one;
 use esto_data::{audited_datasets_answer, data_outcomes_are_exact, data_outcomes_are_one};
-use esto_opening::{
-    fragment_files_are_one, opened_unions_are_queries, openings_are_one,
-    readable_fragments_are_opened,
-};
+use esto_opening::{opened_unions_are_queries, openings_are_one};
 use esto_reasoning::{reasoning_outcomes_are_exact, reasoning_outcomes_are_one};
 use esto_rewriting::{
     chosen_items_are_listed, explain_has_one_status, explain_says_certificates,
@@ -35,7 +32,10 @@ use esto_rewriting::{
     union_runs_are_exact, union_runs_are_moved, union_runs_are_one, verify_checks_certificates,
     verify_outcomes_are_one, verify_says_verdicts,
 };
-use esto_run::{rewritings_answer_queries, rising_rows_are_one, used_fragments_are_one};
+use esto_run::{
+    fragment_files_are_one, readable_fragments_are_opened, rewritings_answer_queries,
+    rising_rows_are_one, used_fragments_are_one,
+};
 use esto_semantics::{chosen_atoms_are_named, listed_sets_are_minimal, picks_exist};
 
 // The laws of what is opened, together.

@@ -13,7 +13,7 @@ mod list;
 mod run;
 mod top;
 
-pub use esto_opening::{Status, status_line};
+pub use esto_status::{Status, status_line};
 pub use laws::{
     answers_agree_with_runs, explained_sets_are_accepted, outcomes_are_determined,
     outcomes_are_where_files_are, outcomes_exist,

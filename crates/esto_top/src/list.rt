@@ -1,18 +1,18 @@
 //! The command `list`.
 ghost use Rattle.std.specs.Prelude.{◌≡◌, ◌≤◌, IfOk};
 ghost use Rattle.esto_ports.specs.Faults.{Rises};
-ghost use Rattle.esto_opening.specs.Answers.{Answers};
-ghost use Rattle.esto_opening.specs.Asked.{AsksIn};
-ghost use Rattle.esto_opening.specs.Unions.{FormUnion};
-ghost use Rattle.esto_top.specs.List.{prints_list, lists_query, lists_queries};
-ghost use Rattle.esto_top.specs.List.{lists_read, list_course};
+ghost use Rattle.esto_status.specs.Answers.{Answers};
+ghost use Rattle.esto_status.specs.Asked.{AsksIn};
+ghost use Rattle.esto_query.specs.Unions.{FormUnion};
+ghost use Rattle.esto_top.specs.List.{prints_list, lists_query, lists_queries, lists_read, list_course};
 ghost use Rattle.esto_rewriting.specs.Listing.{IsListing, IsPlanned};
 
 use esto_mapping::Catalogue;
-use esto_opening::{Reply, Status, open_catalogue, open_union};
+use esto_opening::{open_catalogue, open_union};
 use esto_ports::Shelf;
 use esto_query::Query;
 use esto_rewriting::{list_union, listing_of, plan_of};
+use esto_status::{Reply, Status};
 use esto_term::{Bytes, OutOfMemory, Text};
 use esto_views::Plan;
 use std::alloc::Global;

@@ -1,27 +1,27 @@
 //! The command `run`.
 ghost use Rattle.std.specs.Prelude.{◌≡◌, ◌≤◌};
 ghost use Rattle.esto_ports.specs.Faults.{Rises};
-ghost use Rattle.esto_opening.specs.Answers.{Answers};
-ghost use Rattle.esto_opening.specs.Asked.{AsksIn};
-ghost use Rattle.esto_opening.specs.Unions.{FormUnion};
-ghost use Rattle.esto_top.specs.Run.{has_no_answers, runs_item, runs_plan, runs_query};
-ghost use Rattle.esto_top.specs.Run.{runs_queries, runs_read, run_course};
+ghost use Rattle.esto_status.specs.Answers.{Answers};
+ghost use Rattle.esto_status.specs.Asked.{AsksIn};
+ghost use Rattle.esto_query.specs.Unions.{FormUnion};
+ghost use Rattle.esto_top.specs.Run.{has_no_answers, runs_item, runs_plan, runs_query, runs_queries, runs_read, run_course};
 ghost use Rattle.esto_rewriting.specs.Choice.{IsItemOf};
 ghost use Rattle.esto_rewriting.specs.Listing.{IsPlanned};
 
 use either::{Left, Right};
-use esto_chase::Clash;
+use esto_chase_laws::Clash;
 use esto_list::Listed;
 use esto_mapping::Catalogue;
-use esto_opening::{Reply, Status, open_catalogue, open_fragments, open_union};
+use esto_opening::{open_catalogue, open_union};
 use esto_ports::Shelf;
 use esto_query::Query;
 use esto_rewriting::{
     choose, chosen_items_are_listed, listing_of, planned_plans_have_their_form, printed_plan,
     run_union,
 };
-use esto_run::{answers_are_over_files, answers_text, fragments_of_set, run_text};
+use esto_run::{answers_are_over_files, answers_text, fragments_of_set, open_fragments, run_text};
 use esto_semantics::chosen_atoms_are_named;
+use esto_status::{Reply, Status};
 use esto_term::{List, Text};
 use esto_views::Plan;
 use std::alloc::Global;

@@ -1,12 +1,11 @@
 //! The top call.
 ghost use Rattle.std.specs.Prelude.{◌≡◌, ◌≤◌};
 ghost use Rattle.esto_ports.specs.Faults.{Rises};
-ghost use Rattle.esto_opening.specs.Answers.{Answers};
-ghost use Rattle.esto_opening.specs.Asked.{AsksIn, AsksAsTold};
+ghost use Rattle.esto_status.specs.Answers.{Answers};
+ghost use Rattle.esto_status.specs.Asked.{AsksIn, AsksAsTold};
 ghost use Rattle.esto_top.specs.Benches.{BenchesAlways};
 ghost use Rattle.esto_top.specs.CertificateOutcomes.{ExplainsWhereTold, VerifiesWhereTold};
-ghost use Rattle.esto_top.specs.DataOutcomes.{AnswersFill, AnswersWhereTold, AsksFillAsTold};
-ghost use Rattle.esto_top.specs.DataOutcomes.{AuditsWhereTold, FillsWhereTold, MediatesFill};
+ghost use Rattle.esto_top.specs.DataOutcomes.{AnswersFill, AnswersWhereTold, AsksFillAsTold, AuditsWhereTold, FillsWhereTold, MediatesFill};
 ghost use Rattle.esto_top.specs.DataOutcomes.{UnionAnswersWhereTold};
 ghost use Rattle.esto_top.specs.Determined.{ExactWhereTold};
 ghost use Rattle.esto_top.specs.Existing.{AnsweredWhereTold};
@@ -15,8 +14,7 @@ ghost use Rattle.esto_top.specs.Headline.{ListsWhereTold, RefusesWhereTold};
 ghost use Rattle.esto_top.specs.ReasoningOutcomes.{ContainsWhereTold, MinimisesWhereTold};
 ghost use Rattle.esto_top.specs.Runs.{RunsWhereTold};
 ghost use Rattle.esto_top.specs.Unions.{UnionListsWhereTold, UnionRunsWhereTold};
-ghost use Rattle.esto_top.specs.Outcome.{Mediates, CompleteWhereTold, CausedReadFault};
-ghost use Rattle.esto_top.specs.Outcome.{CausedWriteFault, PutsOnce};
+ghost use Rattle.esto_top.specs.Outcome.{Mediates, CompleteWhereTold, CausedReadFault, CausedWriteFault, PutsOnce};
 
 use crate::command::{command_of, obey};
 use crate::ending::finish;
@@ -25,8 +23,8 @@ use crate::laws::{
     outcomes_are_where_files_are, reasoning_outcomes_hold, runs_are_exact, union_lists_hold,
     union_runs_hold,
 };
-use esto_opening::{Reply, Status};
 use esto_ports::{Shelf, Sink};
+use esto_status::{Reply, Status};
 use esto_term::Text;
 use std::alloc::Global;
 

@@ -1,6 +1,5 @@
 -- The sets of a plan's atoms that are listed in a union of queries over a catalogue, and the rewritings of the union.
 use Rattle.std.specs.Prelude.{Bool, List, map, Contains}
-use Rattle.esto_backchase.specs.Listing.{MapsOntoOne}
 use Rattle.esto_mapping.specs.declared.catalogue.Catalogue.{Catalogue}
 use Rattle.esto_constraint.specs.Constraints.{rules_of}
 use Rattle.esto_plan_laws.specs.UnionSets.{AnswersUnion, IsUnionListed, IsUnionRewriting, IsExecutableUnion}
@@ -9,6 +8,7 @@ use Rattle.esto_query.specs.declared.query.Query.{Query}
 use Rattle.esto_semantics.specs.Containment.{IsSatisfiable}
 use Rattle.esto_semantics.specs.Queries.{ConjunctiveQuery}
 use Rattle.esto_semantics.specs.Unions.{ReceivesUnions}
+use Rattle.esto_views.specs.Contained.{MapsOntoOne}
 use Rattle.esto_views.specs.Fragments.{views_of, patterns_of}
 use Rattle.esto_views.specs.Plans.{plan_query}
 use Rattle.esto_views.specs.declared.plan.Plan.{Plan}

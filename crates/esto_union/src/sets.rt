@@ -5,9 +5,10 @@ ghost use Rattle.esto_query.specs.declared.query.Query.{Query};
 ghost use Rattle.esto_views.specs.Plans.{plan_query, IsPlanOver};
 ghost use Rattle.esto_union.specs.Unions.{AreRewritingOf, IsListedIn, IsPlanOfOne, OneMapsOntoOne};
 
-use esto_backchase::{entries_decide_answers, entries_of, executable_products, matching_products};
+use esto_access::executable_products;
 use esto_bits::Products;
-use esto_mapping::Catalogue;
+use esto_condchase::{entries_decide_answers, entries_of, matching_products};
+use esto_mapping::{Catalogue, catalogues_rank_their_rules};
 use esto_plan_laws::{executable_unions_map_onto_sets, sets_listed_in_unions_are_executable};
 use esto_query::Query;
 use esto_term::OutOfMemory;
@@ -37,11 +38,18 @@ pub fn union_sets(
         → AreRewritingOf catalogue.now queries.now others
         → OneMapsOntoOne others (plan_query plan.now) it.sets) }
 {
+    catalogues_rank_their_rules();
     entries_decide_answers();
     sets_listed_in_unions_are_executable();
     executable_unions_map_onto_sets();
-    let entries = entries_of(alloc, plan, catalogue)?;
-    let answering = matching_products(alloc, plan, queries, catalogue, &entries)?;
+    let entries = entries_of(
+        alloc,
+        plan,
+        &catalogue.fragments,
+        &catalogue.rules,
+        &catalogue.ranks,
+    )?;
+    let answering = matching_products(alloc, plan, queries, &entries)?;
     let sets = executable_products(alloc, plan, &catalogue.fragments, &answering)?;
     Ok(sets)
 }

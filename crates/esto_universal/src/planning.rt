@@ -19,8 +19,8 @@ use crate::planned::{
 };
 use crate::rows::view_rows;
 use either::{Either, Left, Right};
-use esto_chase::{Clash, chase};
-use esto_chase_laws::{heads_go_along, queries_have_starts};
+use esto_chase::chase;
+use esto_chase_laws::{Clash, heads_go_along, queries_have_starts};
 use esto_constraint::rules_are_sound;
 use esto_instance::Instance;
 use esto_mapping::{Catalogue, catalogues_are_sound};

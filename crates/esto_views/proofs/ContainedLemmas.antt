@@ -1,13 +1,12 @@
 -- A match in the world of a set shows that the set's candidate is safe and contained in the query.
-use Rattle.std.proofs.Common.{◌≡◌, inl, inr, ℕ, ◌<◌, Bool, false, List, length, filter, map, slice_index_or, Contains, refl, sym, ap, ◌∙◌, subst, arith}
+use Rattle.std.proofs.Common.{◌≡◌, inl, inr, ℕ, ◌<◌, Bool, List, length, map, Contains, refl, sym, ap, ◌∙◌, subst}
 use Rattle.std.proofs.lemmas.List.{length-map}
 use Rattle.esto_term.specs.declared.term.Term.{Term}
 use Rattle.esto_term.specs.declared.term.Term.TheVariants.{Plain}
 use Rattle.esto_term.proofs.ChoiceLemmas.{Decided}
 use Rattle.esto_term.proofs.DistinctLemmas.{decided_contains}
-use Rattle.esto_term.proofs.ListLemmas.{Contains-at, Contains-filter, Contains-filter_from, Contains-map, Contains-map_from, place-from_Contains, thing_at}
+use Rattle.esto_term.proofs.ListLemmas.{Contains-at, Contains-map, Contains-map_from, thing_at}
 use Rattle.esto_semantics.specs.ExpansionLaws.{ExpansionAnswers, PartExpandsCandidate}
-use Rattle.esto_semantics.specs.Expansions.{IsPartOf}
 use Rattle.esto_semantics.specs.Listed.{candidate, chosen, IsSafe}
 use Rattle.esto_semantics.specs.ListedLaws.{ChosenAreNamed}
 use Rattle.esto_semantics.specs.Maps.{IsConstant, IsFixedBy}
@@ -16,19 +15,18 @@ use Rattle.esto_semantics.specs.Rules.{Rule, AreRules}
 use Rattle.esto_term.specs.Sets.{Has}
 use Rattle.esto_semantics.specs.declared.fact.Fact.{Fact}
 use Rattle.esto_semantics.proofs.TermLemmas.{Const-apart-Made, Const-apart-Plain, decided_term, term_cases}
-use Rattle.esto_term.proofs.SetLemmas.{Has-within}
-use Rattle.esto_views.specs.Expanded.{Expands}
-use Rattle.esto_semantics.specs.Expanded.{facts_of}
+use Rattle.esto_views.specs.Expanded.{Expands, facts_chosen}
 use Rattle.esto_views.specs.Fragments.{views_of}
 use Rattle.esto_views.specs.Plans.{fact_of as atom_of, plan_query}
 use Rattle.esto_views.specs.Soundness.{IsSoundPlan}
 use Rattle.esto_semantics.specs.declared.expanded.ExpandedFact.{ExpandedFact}
 use Rattle.esto_views.specs.declared.fragments.FragmentDef.{FragmentDef}
 use Rattle.esto_views.specs.declared.plan.Plan.{Plan}
+use Rattle.esto_views.proofs.ChosenLemmas.{chosen_query, chosen-are_facts, chosen-expands, chosen-given_head}
 use Rattle.esto_views.proofs.FlatLemmas.{named-flat}
 use Rattle.esto_views.specs.Contained.{IsSafelyContained, MatchedSetsAreContained}
 use Rattle.esto_chase_laws.specs.Derived.{AreDerived}
-use Rattle.esto_chase_laws.specs.WorldLaws.{AreFactsOf, HasGivenHead, HasMatch, IsSound, RestsOn, MatchesRestOnAtoms, MatchesShowContainment}
+use Rattle.esto_chase_laws.specs.WorldLaws.{HasMatch, IsSound, RestsOn, MatchesRestOnAtoms, MatchesShowContainment}
 use Rattle.esto_chase_laws.specs.Worlds.{InWorld}
 use Rattle.esto_chase_laws.specs.declared.entry.Entry.{Entry}
 
@@ -40,40 +38,6 @@ decided_constant = term_cases (λ term. Decided (IsConstant term)) (λ text. inl
 module _ (rules : List Rule) (fragments : List FragmentDef) (plan : Plan) (expanded : List ExpandedFact)
     (expands : Expands plan fragments expanded) (are_rules : AreRules rules)
     (sound_plan : IsSoundPlan plan.atoms plan.head plan.names) (set : List Bool) (over : length set ≡ length plan.atoms) where
-  is_in : ExpandedFact → Bool
-  is_in fact = slice_index_or set fact.atom false
-
-  abbrev start : ConjunctiveQuery
-  start = record { head = plan.head; body = map (λ (it : ExpandedFact). it.fact) (filter is_in expanded) }
-
-  are_facts : AreFactsOf expanded set start.body
-  unfolding is_in
-  are_facts fact = (
-    λ inside.
-        let from = Contains-map_from (λ (it : ExpandedFact). it.fact) (filter is_in expanded) fact inside in
-        let kept = Contains-filter_from is_in expanded from.0 from.1 in
-        (from.0, kept.0, kept.1, from.2),
-    λ (part, there, has, is).
-        subst (Contains start.body) is
-        (Contains-map (λ (it : ExpandedFact). it.fact) (filter is_in expanded) part (Contains-filter is_in expanded part there has)),
-  )
-
-  is_part : IsPartOf expands.of set start.body
-  is_part fact = (
-    λ inside.
-        let (part, there, has, is) = (are_facts fact).0 inside in
-        let told = (expands.exact part).0 there in
-        (part.atom, has, (told.1.0, Contains-at (expands.of.view part.atom).body part.place told.1.0 told.1.1, told.1.2 ∙ is)),
-    λ (number, has, (part, inside, is)).
-        let at = place-from_Contains (expands.of.view number).body part inside in
-        let whole : ExpandedFact = record { atom = number; place = at.0; fact = fact } in
-        let small : number < length plan.atoms = omega (arith, Has-within set number has, over) in
-        (are_facts fact).1 (whole, (expands.exact whole).1 (small, (part, at.1, is)), has, refl),
-  )
-
-  given_head : HasGivenHead start
-  given_head term inside = inl (named-flat plan term (sound_plan.named_head term inside))
-
   module _ (entries : List Entry) (derived : AreDerived expanded rules entries) (query : ConjunctiveQuery) (is_query : IsQuery query)
       (matched : HasMatch (InWorld entries set) query.head query.body plan.head) (rest : MatchesRestOnAtoms) where
     rests : RestsOn expanded (Contains plan.head) set
@@ -125,10 +89,10 @@ module _ (rules : List Rule) (fragments : List FragmentDef) (plan : Plan) (expan
         has_candidate = record { over = over ∙ sym (length-map plan.atoms atom_of); some = rests.some };
         safe = is_safe;
         contained = λ database meets row answer.
-            shows expanded rules entries set start query are_facts given_head sound matched database meets row
-            ((means (views_of fragments) (candidate (plan_query plan) set) start.body
-            (expand_candidates (views_of fragments) (plan_query plan) (facts_of expanded) expands.of set (over ∙ sym (length-map plan.atoms atom_of))
-            start.body is_part) database row).0 answer);
+            shows expanded rules entries set (chosen_query plan expanded set) query (chosen-are_facts set expanded)
+            (chosen-given_head plan expanded set sound_plan) sound matched database meets row
+            ((means (views_of fragments) (candidate (plan_query plan) set) (facts_chosen set expanded)
+            (chosen-expands plan fragments expanded expands set over expand_candidates) database row).0 answer);
       }
 
 pub matched_contained : MatchesRestOnAtoms → ChosenAreNamed → MatchesShowContainment → ExpansionAnswers → PartExpandsCandidate → MatchedSetsAreContained

@@ -11,4 +11,5 @@ pub mod RenamedLemmas
 pub mod RenamedOnceLemmas
 pub mod NamingLemmas
 pub mod PrintingLemmas
+pub mod ChosenLemmas
 pub mod ContainedLemmas

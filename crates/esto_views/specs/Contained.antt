@@ -1,8 +1,9 @@
--- Sets of a plan's atoms whose candidates are contained in a query.
+-- Sets of a plan's atoms: onto which of them a query over fragments maps, and whose candidates are contained in a query.
 use Rattle.std.specs.Prelude.{◌≡◌, Bool, List, length}
 use Rattle.esto_semantics.specs.Containment.{IsContained}
 use Rattle.esto_semantics.specs.Listed.{candidate, HasCandidate, IsSafe}
 use Rattle.esto_semantics.specs.Queries.{ConjunctiveQuery, IsAnswer, IsQuery}
+use Rattle.esto_semantics.specs.Rewritings.{MapsOnto}
 use Rattle.esto_semantics.specs.Rules.{Rule, AreRules}
 use Rattle.esto_semantics.specs.Views.{IsFragmentAnswer}
 use Rattle.esto_views.specs.Expanded.{Expands}
@@ -16,6 +17,11 @@ use Rattle.esto_chase_laws.specs.Derived.{AreDerived}
 use Rattle.esto_chase_laws.specs.WorldLaws.{HasMatch, IsSound}
 use Rattle.esto_chase_laws.specs.Worlds.{InWorld}
 use Rattle.esto_chase_laws.specs.declared.entry.Entry.{Entry}
+use Rattle.esto_term.specs.Sets.{Covers}
+
+-- The query over fragments maps onto a set of the plan's atoms that has one of these sets within it.
+abbrev pub MapsOntoOne : ConjunctiveQuery → ConjunctiveQuery → List (List Bool) → Type 0
+MapsOntoOne other plan sets = (set : List Bool) × MapsOnto other plan set × Covers sets set
 
 -- The set has a candidate, which is safe and contained in the query under the rules.
 pub record IsSafelyContained (rules : List Rule) (views : List ConjunctiveQuery) (query plan : ConjunctiveQuery) (set : List Bool) : Type 0 where

@@ -1,5 +1,5 @@
 -- What a plan's atoms ask of the datasets, atom by atom.
-use Rattle.std.specs.Prelude.{◌≡◌, ◌↔◌, ℕ, ◌+◌, ◌<◌, List, [], ◌∷◌, ◌++◌, Some, length, map, slice_get, Contains}
+use Rattle.std.specs.Prelude.{◌≡◌, ◌↔◌, ℕ, ◌+◌, ◌<◌, Bool, false, cond, List, [], ◌∷◌, ◌++◌, Some, length, map, slice_get, slice_index_or, Contains}
 use Rattle.esto_term.specs.declared.term.Term.{Term}
 use Rattle.esto_semantics.specs.Expansions.{IsExpansion}
 use Rattle.esto_semantics.specs.Facts.{image}
@@ -36,3 +36,8 @@ pub record Expands (plan : Plan) (fragments : List FragmentDef) (expanded : List
   pub exact : (fact : ExpandedFact) → Contains expanded fact
       ↔ ((fact.atom < length plan.atoms)
       × ((part : Fact Term) × (slice_get (of.view fact.atom).body fact.place ≡ Some part) × (image (of.spread fact.atom) part ≡ fact.fact)))
+
+-- The facts of an expansion that come from atoms of the set, in order.
+abbrev pub facts_chosen : List Bool → List ExpandedFact → List (Fact Term)
+facts_chosen set [] = []
+facts_chosen set (first ∷ rest) = cond (slice_index_or set first.atom false) (first.fact ∷ facts_chosen set rest) (facts_chosen set rest)

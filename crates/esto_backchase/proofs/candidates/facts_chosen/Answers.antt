@@ -1,7 +1,7 @@
 use Rattle.std.proofs.Common.{[], ◌∷◌, ◌++◌, sym, ap, ◌∙◌}
 use Rattle.std.proofs.lemmas.Bool.{false≢true}
 use Rattle.esto_term.proofs.ListLemmas.{Contains-read}
-use Rattle.esto_backchase.specs.Candidates.{facts_chosen}
+use Rattle.esto_views.specs.Expanded.{facts_chosen}
 use Rattle.esto_backchase.proofs.CandidateLemmas.{chosen-ends, chosen-passed, chosen-taken}
 use Rattle.esto_backchase.proofs.candidates.facts_chosen.Goals as goal
 use Rattle.esto_backchase.proofs.candidates.facts_chosen.Goals.{then-has+in_ok-copy+in_ok-push, else-has}

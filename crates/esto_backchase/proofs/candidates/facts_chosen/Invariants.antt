@@ -1,5 +1,5 @@
 use Rattle.std.proofs.Common.{◌≡◌, ◌++◌, drop}
-use Rattle.esto_backchase.specs.Candidates.{facts_chosen}
+use Rattle.esto_views.specs.Expanded.{facts_chosen}
 use Rattle.esto_backchase.proofs.candidates.facts_chosen.Given as goal
 
 abbrev pub invariant-facts : goal.invariant-facts

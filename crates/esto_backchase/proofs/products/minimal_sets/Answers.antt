@@ -8,10 +8,16 @@ use Rattle.esto_query.specs.Making.{query_of}
 use Rattle.esto_views.specs.Fragments.{views_of, patterns_of}
 use Rattle.esto_views.specs.Plans.{fact_of, plan_query}
 use Rattle.esto_views.proofs.FlatLemmas.{plan_atoms-flat}
-use Rattle.esto_backchase.proofs.EvidenceLemmas.{of_parts_as}
+use Rattle.esto_backchase.proofs.PartLemmas.{of_parts_as}
 use Rattle.esto_backchase.specs.Candidates.{Answers}
-use Rattle.esto_backchase.specs.Evidence.{MatchesIn}
+use Rattle.esto_condchase.specs.Evidence.{MatchesIn}
 use Rattle.esto_backchase.proofs.products.minimal_sets.Goals as goal
+
+pub entries_of-requires-clause-within : goal.entries_of-requires-clause-within
+entries_of-requires-clause-within c = c.catalogues_rank_their_rules.ensures.within c.args.catalogue.now
+
+pub entries_of-requires-clause-ranks : goal.entries_of-requires-clause-ranks
+entries_of-requires-clause-ranks c = c.catalogues_rank_their_rules.ensures.ranks c.args.catalogue.now
 
 pub returns-clause-listed : goal.returns-clause-listed
 returns-clause-listed c = c.in_ok-sets.ensures.listed
@@ -33,8 +39,9 @@ returns-clause-complete c other rewriting =
 
 pub returns-clause-decided : goal.returns-clause-decided
 returns-clause-decided c =
-    c.entries_decide_answers.ensures.decide c.args.catalogue.now c.args.query.now c.args.plan.now c.in_ok-entries.entries c.requires.same_length
-    c.requires.universal c.requires.satisfiable c.in_ok-entries.ensures.entries
+    let catalogue = c.args.catalogue.now in
+    c.entries_decide_answers.ensures.decide catalogue.fragments catalogue.rules catalogue.ranks c.args.query.now c.args.plan.now c.in_ok-entries.entries
+    c.requires.same_length c.requires.universal c.requires.satisfiable c.in_ok-entries.ensures.entries
 
 pub returns-clause-of_parts : goal.returns-clause-of_parts
 returns-clause-of_parts c set =
@@ -55,7 +62,8 @@ returns-clause-of_parts c set =
 
 pub returns-clause-consistent : goal.returns-clause-consistent
 returns-clause-consistent c =
-    c.entries_decide_answers.ensures.consistent c.args.catalogue.now c.args.query.now c.args.plan.now c.in_ok-entries.entries
+    let catalogue = c.args.catalogue.now in
+    c.entries_decide_answers.ensures.consistent catalogue.fragments catalogue.rules catalogue.ranks c.args.query.now c.args.plan.now c.in_ok-entries.entries
     c.requires.satisfiable c.in_ok-entries.ensures.entries
 
 pub returns-in_err-entries : goal.returns-in_err-entries

@@ -1,6 +1,6 @@
 use Rattle.std.proofs.Common.{ap, ◌∙◌}
 use Rattle.esto_catalog.specs.Rows.{fault_at}
-use Rattle.esto_catalog.specs.declared.fault.CatalogueKind.TheVariants.{UnknownKey}
+use Rattle.esto_status.specs.declared.fault.CatalogueKind.TheVariants.{UnknownKey}
 use Rattle.esto_catalog.proofs.RowLemmas.{judges_goes, judges_stops}
 use Rattle.esto_catalog.proofs.row.knows_keys.Goals as goal
 

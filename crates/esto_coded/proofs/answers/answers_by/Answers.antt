@@ -2,7 +2,7 @@ use Rattle.std.proofs.Common.{◌≡◌, ◌≤◌, [], length, sym, subst, ◌�
 use Rattle.std.proofs.lemmas.Result.{IfOk-weaker}
 use Rattle.esto_term.proofs.ZipLemmas.{zip_length}
 use Rattle.esto_columns.specs.CodedRows.{CodedRows}
-use Rattle.esto_plan.specs.Planned.{IsSource}
+use Rattle.esto_steps.specs.Planned.{IsSource}
 use Rattle.esto_semantics.specs.Facts.{terms_of}
 use Rattle.esto_coded.specs.Answered.{AreCodedAnswers}
 use Rattle.esto_coded.specs.Relations.{coded_of}

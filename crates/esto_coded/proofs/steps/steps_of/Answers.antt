@@ -1,5 +1,5 @@
 use Rattle.std.proofs.Common.{sym, subst, ◌∙◌}
-use Rattle.esto_plan.specs.Planned.{IsKnown}
+use Rattle.esto_steps.specs.Planned.{IsKnown}
 use Rattle.esto_coded.proofs.WholeLemmas.{fixed_known, whole_steps}
 use Rattle.esto_coded.proofs.steps.steps_of.Goals as goal
 

@@ -1,7 +1,7 @@
 use Rattle.std.proofs.Common.{ap, refl}
 use Rattle.esto_course.specs.Course.Stops.{is_free}
 use Rattle.esto_course.proofs.Steps.{at_exit, first_stops, gives_goes, then_goes}
-use Rattle.esto_opening.specs.declared.reply.Reply.TheVariants.{Done}
+use Rattle.esto_status.specs.declared.reply.Reply.TheVariants.{Done}
 use Rattle.esto_data.proofs.UnionLemmas.{rows_fit}
 use Rattle.esto_data.proofs.answering.answer_data.Goals as goal
 

@@ -1,7 +1,7 @@
 use Rattle.esto_course.proofs.Asking.{quiet_gives, quiet_judges, quiet_then}
 use Rattle.esto_course.proofs.Steps.{at_exit, first_stops}
-use Rattle.esto_opening.proofs.AskedSteps.{exit_asks, handed_asks, later_asks, quiet_asks}
-use Rattle.esto_opening.proofs.Steps.{answers_still, next_answers}
+use Rattle.esto_status.proofs.AskedSteps.{exit_asks, handed_asks, later_asks, quiet_asks}
+use Rattle.esto_status.proofs.Steps.{answers_still, next_answers}
 use Rattle.esto_data.specs.Answer.{answers_facts}
 use Rattle.esto_data.proofs.WantedLemmas.{answers_all}
 use Rattle.esto_data.proofs.answering.answer_queries.Goals as goal

@@ -1,7 +1,7 @@
 use Rattle.std.proofs.Common.{refl}
 use Rattle.esto_course.specs.Course.Stops.{is_free}
 use Rattle.esto_course.proofs.Steps.{at_exit}
-use Rattle.esto_opening.proofs.AskedSteps.{exit_asks, handed_asks, wanted}
+use Rattle.esto_status.proofs.AskedSteps.{exit_asks, handed_asks, wanted}
 use Rattle.esto_data.specs.Audit.{audits_facts}
 use Rattle.esto_data.specs.Datasets.{AreNeeded, IsAny, loads}
 use Rattle.esto_data.proofs.auditing.audit_catalogue.Goals as goal

@@ -2,8 +2,8 @@ use Rattle.std.proofs.Common.{Err, Ok}
 use Rattle.esto_course.proofs.Asking.{quiet_judges}
 use Rattle.esto_course.proofs.Steps.{at_exit}
 use Rattle.esto_data.specs.Audit.{audits_rows, judges_views}
-use Rattle.esto_opening.proofs.AskedSteps.{exit_asks, handed_asks, later_asks, quiet_asks}
-use Rattle.esto_opening.proofs.Steps.{next_answers, still_stops}
+use Rattle.esto_status.proofs.AskedSteps.{exit_asks, handed_asks, later_asks, quiet_asks}
+use Rattle.esto_status.proofs.Steps.{next_answers, still_stops}
 use Rattle.esto_data.proofs.CodedLemmas.{audit_judged, facts_judged}
 use Rattle.esto_data.proofs.auditing.audit_facts.Goals as goal
 

@@ -1,8 +1,8 @@
 use Rattle.esto_course.proofs.Asking.{quiet_gives, quiet_judges, quiet_then}
 use Rattle.esto_course.proofs.Steps.{at_exit, first_stops}
 use Rattle.esto_data.specs.Audit.{tells}
-use Rattle.esto_opening.proofs.AskedSteps.{exit_asks, handed_asks, later_asks, quiet_asks}
-use Rattle.esto_opening.proofs.Steps.{then_answers_still}
+use Rattle.esto_status.proofs.AskedSteps.{exit_asks, handed_asks, later_asks, quiet_asks}
+use Rattle.esto_status.proofs.Steps.{then_answers_still}
 use Rattle.esto_data.proofs.CodedLemmas.{audit_stays}
 use Rattle.esto_data.proofs.auditing.audit_rows.Goals as goal
 

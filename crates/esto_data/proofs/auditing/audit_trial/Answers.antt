@@ -1,8 +1,8 @@
 use Rattle.std.proofs.Common.{refl}
 use Rattle.esto_course.specs.Course.Stops.{is_free}
 use Rattle.esto_course.proofs.Steps.{at_exit, first_stops}
-use Rattle.esto_opening.proofs.AskedSteps.{exit_asks, handed_asks, later_asks}
-use Rattle.esto_opening.proofs.Steps.{then_answers}
+use Rattle.esto_status.proofs.AskedSteps.{exit_asks, handed_asks, later_asks}
+use Rattle.esto_status.proofs.Steps.{then_answers}
 use Rattle.esto_data.specs.Audit.{audits_facts}
 use Rattle.esto_data.specs.Datasets.{IsAny, loads}
 use Rattle.esto_data.proofs.DatasetLemmas.{loads_want}

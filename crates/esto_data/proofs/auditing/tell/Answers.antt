@@ -1,7 +1,7 @@
 use Rattle.std.proofs.Common.{ap, refl}
 use Rattle.esto_course.specs.Course.Stops.{is_free}
 use Rattle.esto_course.proofs.Steps.{at_exit, first_stops, gives_goes, then_goes}
-use Rattle.esto_opening.specs.declared.reply.Reply.TheVariants.{Done}
+use Rattle.esto_status.specs.declared.reply.Reply.TheVariants.{Done}
 use Rattle.esto_data.proofs.auditing.tell.Goals as goal
 
 pub returns-in_err-compare : goal.returns-in_err-compare

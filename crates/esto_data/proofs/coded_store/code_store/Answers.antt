@@ -1,6 +1,6 @@
 use Rattle.std.proofs.Common.{ℕ, Contains, length, subst, sym}
-use Rattle.esto_mapping.specs.declared.catalogue.Shape.{Shape}
-use Rattle.esto_run.specs.Stores.{IsRowIn, first_fault_in}
+use Rattle.esto_docmodel.specs.declared.file.Shape.{Shape}
+use Rattle.esto_docs.specs.Stores.{IsRowIn, first_fault_in}
 use Rattle.esto_stores.specs.Keys.{key_fault, key_rows}
 use Rattle.esto_data.specs.Coding.{CodesFile}
 use Rattle.esto_data.proofs.coded_store.code_store.Goals as goal

@@ -1,6 +1,6 @@
 use Rattle.std.proofs.Common.{◌<◌, ◌≤◌, ap, arith, get_or, length}
 use Rattle.esto_course.proofs.Steps.{at_exit}
-use Rattle.esto_opening.proofs.FragmentLemmas.{number_inside, number_read}
+use Rattle.esto_run.proofs.FragmentLemmas.{number_inside, number_read}
 use Rattle.esto_data.proofs.DatasetLemmas.{demanding_ends, demanding_goes, demanding_stops}
 use Rattle.esto_data.proofs.datasets.demand_files.Goals as goal
 

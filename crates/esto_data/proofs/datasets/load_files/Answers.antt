@@ -1,9 +1,9 @@
 use Rattle.std.proofs.Common.{◌<◌, ◌≤◌, [], ap, arith, get_or, length, refl, ◌∙◌}
 use Rattle.esto_course.specs.Course.Stops.{is_free}
 use Rattle.esto_ports.specs.Faults.{Rises}
-use Rattle.esto_opening.specs.declared.status.Status.TheVariants.{OutOfMemory}
-use Rattle.esto_opening.proofs.Steps.{end_stops}
-use Rattle.esto_opening.proofs.FragmentLemmas.{number_inside, number_read}
+use Rattle.esto_status.specs.declared.status.Status.TheVariants.{OutOfMemory}
+use Rattle.esto_status.proofs.Steps.{end_stops}
+use Rattle.esto_run.proofs.FragmentLemmas.{number_inside, number_read}
 use Rattle.esto_data.proofs.DatasetLemmas.{files_start, files_stop, files_stop_asks, files_want, loading_ends, loading_exit, loading_goes, loading_starts}
 use Rattle.esto_data.proofs.datasets.load_files.Goals as goal
 

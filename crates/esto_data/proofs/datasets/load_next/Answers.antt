@@ -1,6 +1,6 @@
 use Rattle.std.proofs.lemmas.Option.{slice_get_within}
 use Rattle.esto_course.proofs.Steps.{at_exit}
-use Rattle.esto_opening.proofs.AskedSteps.{handed_asks}
+use Rattle.esto_status.proofs.AskedSteps.{handed_asks}
 use Rattle.esto_data.specs.Datasets.{IsSourceAt, Source}
 use Rattle.esto_data.proofs.DatasetLemmas.{source_opened, source_opened_asks, source_unfetched, source_unfetched_asks, source_unread, source_unread_asks}
 use Rattle.esto_data.proofs.datasets.load_next.Goals as goal

@@ -1,6 +1,6 @@
 use Rattle.esto_course.proofs.Steps.{at_exit, first_stops}
-use Rattle.esto_opening.proofs.AskedSteps.{exit_asks, handed_asks, later_asks}
-use Rattle.esto_opening.proofs.Steps.{then_answers}
+use Rattle.esto_status.proofs.AskedSteps.{exit_asks, handed_asks, later_asks}
+use Rattle.esto_status.proofs.Steps.{then_answers}
 use Rattle.esto_data.proofs.WeakerLemmas.{filled_answers, filled_asks}
 use Rattle.esto_data.proofs.filling.fill.Goals as goal
 

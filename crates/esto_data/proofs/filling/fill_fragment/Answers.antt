@@ -1,7 +1,7 @@
 use Rattle.std.proofs.Common.{Err, Ok, refl}
 use Rattle.esto_course.proofs.Steps.{at_exit}
-use Rattle.esto_opening.specs.declared.reply.Reply.TheVariants.{Done}
-use Rattle.esto_opening.proofs.AskedSteps.{handed_asks}
+use Rattle.esto_status.specs.declared.reply.Reply.TheVariants.{Done}
+use Rattle.esto_status.proofs.AskedSteps.{handed_asks}
 use Rattle.esto_data.proofs.StepLemmas.{fill_goes, fill_goes_asks, fill_unfilled, fill_unfilled_asks, fill_unloaded, fill_unloaded_asks, fragment_stored}
 use Rattle.esto_data.proofs.WantedLemmas.{fills_all}
 use Rattle.esto_data.proofs.filling.fill_fragment.Goals as goal

@@ -1,10 +1,10 @@
 use Rattle.std.proofs.Common.{Err, Ok}
 use Rattle.esto_course.proofs.Asking.{quiet_judges}
 use Rattle.esto_course.proofs.Steps.{at_exit}
-use Rattle.esto_opening.proofs.AskedSteps.{exit_asks, handed_asks, later_asks, quiet_asks}
-use Rattle.esto_opening.proofs.Steps.{still_stops}
+use Rattle.esto_status.proofs.AskedSteps.{exit_asks, handed_asks, later_asks, quiet_asks}
+use Rattle.esto_status.proofs.Steps.{still_stops}
 use Rattle.esto_data.specs.Fill.{finds_fragment}
-use Rattle.esto_opening.proofs.Steps.{next_answers}
+use Rattle.esto_status.proofs.Steps.{next_answers}
 use Rattle.esto_data.proofs.FindLemmas.{found_within}
 use Rattle.esto_data.proofs.filling.fill_named.Goals as goal
 

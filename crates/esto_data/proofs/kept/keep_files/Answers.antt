@@ -2,9 +2,9 @@ use Rattle.std.proofs.Common.{◌<◌, ◌≤◌, ap, arith, get_or, length, ref
 use Rattle.esto_course.specs.Course.Stops.{is_free}
 use Rattle.esto_course.proofs.Steps.{at_exit}
 use Rattle.esto_data.specs.Coding.{IsCodedFrom}
-use Rattle.esto_opening.proofs.AskedSteps.{handed_asks}
-use Rattle.esto_opening.proofs.Steps.{end_stops}
-use Rattle.esto_opening.proofs.FragmentLemmas.{number_inside, number_read}
+use Rattle.esto_status.proofs.AskedSteps.{handed_asks}
+use Rattle.esto_status.proofs.Steps.{end_stops}
+use Rattle.esto_run.proofs.FragmentLemmas.{number_inside, number_read}
 use Rattle.esto_data.proofs.DatasetLemmas.{IsAlongFiles, files_end, files_end_asks, files_go, files_start, files_stop, files_stop_asks, files_want, with_file}
 use Rattle.esto_data.proofs.kept.keep_files.Goals as goal
 

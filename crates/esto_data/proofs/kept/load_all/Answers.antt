@@ -1,5 +1,5 @@
 use Rattle.esto_data.specs.Datasets.{IsAny}
-use Rattle.esto_data.proofs.DatasetLemmas.{demand_asks, demand_stops, keeps_by, keeps_by_asks, load_exit, load_exit_asks, loads_want, needed_there, sources_there}
+use Rattle.esto_data.proofs.DatasetLemmas.{demand_exit, demand_exit_asks, keeps_by, keeps_by_asks, load_exit_asks, loads_want, needed_there, sources_there}
 use Rattle.esto_data.proofs.kept.load_all.Goals as goal
 
 pub demand_files-requires : goal.demand_files-requires
@@ -8,8 +8,7 @@ demand_files-requires g c =
 
 pub returns-in_err-demand_files-clause-answer : goal.returns-in_err-demand_files-clause-answer
 returns-in_err-demand_files-clause-answer g c =
-    load_exit _ _ _ _ c.from_residual-in_err-demand_files.result c.from_residual-in_err-demand_files.ensures.1
-    (demand_stops (g.S.Shelf.files c.args.shelf.now) c.args.catalogue.now.datasets IsAny c.in_ok-numbers.numbers c.in_ok-numbers.ensures _ _ c.in_err-demand_files.ensures)
+    demand_exit c.in_ok-numbers.ensures c.from_residual-in_err-demand_files.ensures.1 c.in_err-demand_files.ensures
 
 pub keep_files-requires-clause-sources : goal.keep_files-requires-clause-sources
 keep_files-requires-clause-sources g c = sources_there c.args.catalogue.now.datasets 0 c.in_ok-numbers.numbers c.in_ok-demand_files.ensures
@@ -25,8 +24,7 @@ returns-in_err-numbers-clause-asked g c =
 
 pub returns-in_err-demand_files-clause-asked : goal.returns-in_err-demand_files-clause-asked
 returns-in_err-demand_files-clause-asked g c =
-    load_exit_asks _ _ _ c.from_residual-in_err-demand_files.result c.from_residual-in_err-demand_files.ensures.1
-    (demand_asks (g.S.Shelf.files c.args.shelf.now) c.args.catalogue.now.datasets IsAny c.in_ok-numbers.numbers c.in_ok-numbers.ensures _ _ c.in_err-demand_files.ensures)
+    demand_exit_asks c.in_ok-numbers.ensures c.from_residual-in_err-demand_files.ensures.1 c.in_err-demand_files.ensures
 
 pub returns-clause-asked : goal.returns-clause-asked
 returns-clause-asked g c =

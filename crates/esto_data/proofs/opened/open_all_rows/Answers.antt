@@ -1,6 +1,6 @@
 use Rattle.std.proofs.Common.{◌<◌, arith, length, refl, ◌∙◌}
 use Rattle.esto_ports.specs.Faults.{Rises}
-use Rattle.esto_opening.proofs.Steps.{end_stops}
+use Rattle.esto_status.proofs.Steps.{end_stops}
 use Rattle.esto_data.proofs.CodedRowLemmas.{stays_itself, stays_on}
 use Rattle.esto_data.proofs.CodedLemmas.{still_coded}
 use Rattle.esto_data.proofs.RowLemmas.{all_rows_exit, rows_end, rows_go, rows_start, rows_stop, rows_stop_asks}

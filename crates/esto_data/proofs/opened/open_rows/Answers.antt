@@ -1,4 +1,4 @@
-use Rattle.esto_opening.specs.Fragments.{IsStoredAt, Stored}
+use Rattle.esto_run.specs.Fragments.{IsStoredAt, Stored}
 use Rattle.esto_data.proofs.RowLemmas.{rows_by, rows_exit}
 use Rattle.esto_data.proofs.opened.open_rows.Goals as goal
 

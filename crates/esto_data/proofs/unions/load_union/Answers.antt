@@ -1,7 +1,7 @@
 use Rattle.std.proofs.Common.{map}
 use Rattle.esto_query.specs.Making.{query_of}
 use Rattle.esto_data.specs.Datasets.{OneNames, named_by}
-use Rattle.esto_data.proofs.DatasetLemmas.{demand_asks, demand_stops, load_exit, load_exit_asks, loads_by, loads_by_asks, loads_want, needed_there, sources_there}
+use Rattle.esto_data.proofs.DatasetLemmas.{demand_exit, demand_exit_asks, load_exit_asks, loads_by, loads_by_asks, loads_want, needed_there, sources_there}
 use Rattle.esto_data.proofs.unions.load_union.Goals as goal
 
 pub demand_files-requires : goal.demand_files-requires
@@ -10,8 +10,7 @@ demand_files-requires g c =
 
 pub returns-in_err-demand_files-clause-answer : goal.returns-in_err-demand_files-clause-answer
 returns-in_err-demand_files-clause-answer g c =
-    load_exit _ _ _ _ c.from_residual-in_err-demand_files.result c.from_residual-in_err-demand_files.ensures.1
-    (demand_stops (g.S.Shelf.files c.args.shelf.now) c.args.catalogue.now.datasets (OneNames (map query_of c.args.queries.now)) c.in_ok-numbers.numbers c.in_ok-numbers.ensures _ _ c.in_err-demand_files.ensures)
+    demand_exit c.in_ok-numbers.ensures c.from_residual-in_err-demand_files.ensures.1 c.in_err-demand_files.ensures
 
 pub load_files-requires : goal.load_files-requires
 load_files-requires g c = sources_there c.args.catalogue.now.datasets 0 c.in_ok-numbers.numbers c.in_ok-demand_files.ensures
@@ -31,8 +30,7 @@ returns-in_err-numbers-clause-asked g c =
 
 pub returns-in_err-demand_files-clause-asked : goal.returns-in_err-demand_files-clause-asked
 returns-in_err-demand_files-clause-asked g c =
-    load_exit_asks _ _ _ c.from_residual-in_err-demand_files.result c.from_residual-in_err-demand_files.ensures.1
-    (demand_asks (g.S.Shelf.files c.args.shelf.now) c.args.catalogue.now.datasets (OneNames (map query_of c.args.queries.now)) c.in_ok-numbers.numbers c.in_ok-numbers.ensures _ _ c.in_err-demand_files.ensures)
+    demand_exit_asks c.in_ok-numbers.ensures c.from_residual-in_err-demand_files.ensures.1 c.in_err-demand_files.ensures
 
 pub returns-clause-asked : goal.returns-clause-asked
 returns-clause-asked g c =

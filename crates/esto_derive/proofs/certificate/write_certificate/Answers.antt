@@ -32,8 +32,8 @@ pub write_match-requires-clause-found : goal.write_match-requires-clause-found
 write_match-requires-clause-found c =
     let over = c.requires.listed.0.has_candidate.over ∙ length-map c.args.plan.now.atoms fact_of in
     subst (λ (it : List Entry). HasMatch (InWorld it c.args.set.now) c.args.query.now.head c.args.query.now.body c.args.plan.now.head) (sym c.items.ensures)
-    ((c.entries_decide_answers.ensures.decide c.args.catalogue.now c.args.query.now c.args.plan.now c.args.entries.now c.requires.same_length
-    c.requires.universal c.requires.satisfiable c.requires.entries c.args.set.now over).0 (record {
+    ((c.entries_decide_answers.ensures.decide c.args.catalogue.now.fragments c.args.catalogue.now.rules c.args.catalogue.now.ranks c.args.query.now
+    c.args.plan.now c.args.entries.now c.requires.same_length c.requires.universal c.requires.satisfiable c.requires.entries c.args.set.now over).0 (record {
       has_candidate = c.requires.listed.0.has_candidate;
       safe = c.requires.listed.0.safe;
       equivalent = c.requires.listed.0.equivalent;

@@ -3,7 +3,7 @@ use Rattle.std.proofs.lemmas.Result.{on_ok_weaker}
 use Rattle.esto_docmodel.proofs.EncodeLemmas.{value_facts, nothing_facts, fields_facts, items_facts, field_rest, item_rest, field_count, item_count}
 use Rattle.esto_docmodel.proofs.EncodeLemmas.{value_inside, nothing_inside, fields_inside, items_inside, leaf_next, leaf_rising, row_next, row_rising}
 use Rattle.esto_docmodel.proofs.EncodeLemmas.{field_inside, item_inside}
-use Rattle.esto_docmodel.proofs.GainLemmas.{gains_both, gains_those, leads_start, leads_more, fields_end, items_end}
+use Rattle.esto_docmodel.proofs.GainLemmas.{gains_both, gains_those, leads_start, leads_more, fields_end, items_end, room_stays}
 use Rattle.esto_docmodel.proofs.RisingLemmas.{field_end, item_end}
 use Rattle.esto_docmodel.proofs.documents.+put.Goals as goal
 
@@ -105,3 +105,16 @@ pub put_node-returns-in_ok-inner-in-Items-clause-next : goal.put_node-returns-in
 put_node-returns-in_ok-inner-in-Items-clause-next g t c =
     row_next _ c.put_items.result _ (items_inside c.args.tree.now c.in-Items.items c.in-Items.is) c.args.number _ c.in_ok-next.ensures
     (rw c.items-in-Items.ensures at c.put_items.ensures.next)
+
+pub put_fields-put_field-requires-clause-room : goal.put_fields-put_field-requires-clause-room
+put_fields-put_field-requires-clause-room g t c =
+    room_stays g.S.FactSink.Holds g.S.FactSink.arities c.args.relations.now.base c.args.sink.now c.fields.sink c.fields.invariant.0.same c.requires.room
+
+pub put_items-put_item-requires-clause-room : goal.put_items-put_item-requires-clause-room
+put_items-put_item-requires-clause-room g t c =
+    room_stays g.S.FactSink.Holds g.S.FactSink.arities c.args.relations.now.base c.args.sink.now c.items.sink c.items.invariant.0.same c.requires.room
+
+pub put_node-put_value-requires-clause-room : goal.put_node-put_value-requires-clause-room
+put_node-put_value-requires-clause-room g t c =
+    room_stays g.S.FactSink.Holds g.S.FactSink.arities c.args.relations.now.base c.args.sink.now c.put_belows.new.sink c.in_ok-put_belows.ensures.same
+    c.requires.room

@@ -1,5 +1,5 @@
 use Rattle.std.proofs.Common.{length, slice_get}
-use Rattle.esto_mapping.specs.declared.catalogue.Store.{Store}
+use Rattle.esto_docmodel.specs.declared.file.Store.{Store}
 use Rattle.esto_query.specs.Making.{query_of}
 use Rattle.esto_semantics.specs.Queries.{IsAnswer}
 use Rattle.esto_views.specs.declared.fragments.FragmentDef.{FragmentDef}

@@ -1,6 +1,6 @@
 use Rattle.std.proofs.Common.{◌↔◌, ℕ, length, Contains, sym, subst}
-use Rattle.esto_mapping.specs.Soundness.{IsShapeFor}
-use Rattle.esto_mapping.specs.declared.catalogue.Shape.{Shape}
+use Rattle.esto_docmodel.specs.Stores.{IsShapeFor}
+use Rattle.esto_docmodel.specs.declared.file.Shape.{Shape}
 use Rattle.esto_docmodel.specs.Shapes.{entries_of}
 use Rattle.esto_docs.specs.Files.{file_trees}
 use Rattle.esto_docs.specs.Rows.{IsRowOf}

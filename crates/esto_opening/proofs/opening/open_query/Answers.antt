@@ -2,8 +2,8 @@ use Rattle.esto_course.proofs.Asking.{quiet_judges}
 use Rattle.esto_course.proofs.Steps.{at_exit, first_stops}
 use Rattle.esto_ports.specs.Faults.{Rises}
 use Rattle.esto_opening.specs.Opening.{reads_query}
-use Rattle.esto_opening.proofs.AskedSteps.{exit_asks, handed_asks, later_asks, quiet_asks}
-use Rattle.esto_opening.proofs.Steps.{then_answers_still}
+use Rattle.esto_status.proofs.AskedSteps.{exit_asks, handed_asks, later_asks, quiet_asks}
+use Rattle.esto_status.proofs.Steps.{then_answers_still}
 use Rattle.esto_opening.proofs.opening.open_query.Goals as goal
 
 pub returns-in_err-bytes-clause-answer : goal.returns-in_err-bytes-clause-answer

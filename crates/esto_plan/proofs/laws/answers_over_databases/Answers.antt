@@ -1,4 +1,4 @@
-use Rattle.esto_plan.proofs.CodedLemmas.{answers_over_a_database}
+use Rattle.esto_steps.proofs.CodedLemmas.{answers_over_a_database}
 use Rattle.esto_plan.proofs.laws.answers_over_databases.Goals as goal
 
 pub returns : goal.returns

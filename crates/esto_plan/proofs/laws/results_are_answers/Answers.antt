@@ -1,5 +1,5 @@
 use Rattle.esto_steps.specs.Rows.{IsRowOf}
-use Rattle.esto_plan.proofs.MeaningLemmas.{results_are_answers}
+use Rattle.esto_steps.proofs.MeaningLemmas.{results_are_answers}
 use Rattle.esto_plan.proofs.laws.results_are_answers.Goals as goal
 
 pub returns : goal.returns

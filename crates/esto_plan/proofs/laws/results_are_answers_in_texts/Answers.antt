@@ -1,4 +1,4 @@
-use Rattle.esto_plan.proofs.CodedLemmas.{results_are_answers_in_texts}
+use Rattle.esto_steps.proofs.CodedLemmas.{results_are_answers_in_texts}
 use Rattle.esto_plan.proofs.laws.results_are_answers_in_texts.Goals as goal
 
 pub returns : goal.returns

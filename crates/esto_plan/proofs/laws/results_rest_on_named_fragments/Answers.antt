@@ -1,4 +1,4 @@
-use Rattle.esto_plan.proofs.MeaningLemmas.{results_rest}
+use Rattle.esto_steps.proofs.MeaningLemmas.{results_rest}
 use Rattle.esto_plan.proofs.laws.results_rest_on_named_fragments.Goals as goal
 
 pub returns : goal.returns

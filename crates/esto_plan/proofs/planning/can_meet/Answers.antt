@@ -2,7 +2,7 @@ use Rattle.std.proofs.Common.{Some, true, slice_get, ◌≡◌, refl, sym, ap, �
 use Rattle.std.proofs.lemmas.Bool.{false≢true}
 use Rattle.std.proofs.lemmas.Option.{slice_get-get_or}
 use Rattle.esto_term.proofs.ListLemmas.{holds_all}
-use Rattle.esto_plan.specs.Planned.{IsKnown}
+use Rattle.esto_steps.specs.Planned.{IsKnown}
 use Rattle.esto_plan.proofs.planning.can_meet.Goals as goal
 
 pub columns-init : goal.columns-init

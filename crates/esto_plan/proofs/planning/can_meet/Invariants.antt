@@ -1,6 +1,6 @@
 use Rattle.std.proofs.Common.{◌≡◌, Some, true, slice_get}
 use Rattle.esto_term.proofs.ListLemmas.{HoldsBelow}
-use Rattle.esto_plan.specs.Planned.{IsKnown}
+use Rattle.esto_steps.specs.Planned.{IsKnown}
 use Rattle.esto_plan.proofs.planning.can_meet.Given as goal
 
 abbrev pub invariant-columns : goal.invariant-columns

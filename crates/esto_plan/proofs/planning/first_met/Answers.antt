@@ -3,7 +3,7 @@ use Rattle.std.proofs.lemmas.Bool.{false≢true}
 use Rattle.std.proofs.lemmas.Option.{slice_get-get_or}
 use Rattle.esto_term.proofs.ListLemmas.{place-from_Contains}
 use Rattle.esto_term.proofs.ListLemmas.{holds_more, holds_all}
-use Rattle.esto_plan.specs.Planned.{CanMeet}
+use Rattle.esto_steps.specs.Planned.{CanMeet}
 use Rattle.esto_plan.proofs.planning.first_met.Goals as goal
 
 pub returns-then-can_meet : goal.returns-then-can_meet

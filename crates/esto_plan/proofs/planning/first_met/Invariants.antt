@@ -1,5 +1,5 @@
 use Rattle.esto_term.proofs.ListLemmas.{HoldsBelow}
-use Rattle.esto_plan.specs.Planned.{CanMeet}
+use Rattle.esto_steps.specs.Planned.{CanMeet}
 use Rattle.esto_plan.proofs.planning.first_met.Given as goal
 
 abbrev pub invariant-patterns : goal.invariant-patterns

@@ -3,8 +3,9 @@ use Rattle.std.proofs.lemmas.Option.{same_Some, slice_get_within}
 use Rattle.esto_term.proofs.ListLemmas.{Contains-at}
 use Rattle.esto_views.specs.Plans.{fact_of}
 use Rattle.esto_columns.proofs.CodingLemmas.{grows_on}
-use Rattle.esto_plan.specs.Planned.{CanMeet, IsFirstMet}
-use Rattle.esto_plan.proofs.PlanLemmas.{below_start, grows_refl, whole_get}
+use Rattle.esto_steps.specs.Planned.{CanMeet, IsFirstMet}
+use Rattle.esto_steps.proofs.GrowthLemmas.{grows_refl}
+use Rattle.esto_plan.proofs.PlanLemmas.{below_start, whole_get}
 use Rattle.esto_plan.proofs.planning.get_of.Goals as goal
 
 pub unreachable-requires : goal.unreachable-requires

@@ -1,7 +1,7 @@
 use Rattle.std.proofs.Common.{◌++◌, [], Contains, sym, subst}
 use Rattle.std.proofs.lemmas.Option.{MatchOption-at_none, MatchOption-at_some}
 use Rattle.esto_columns.proofs.CodingLemmas.{grows_on}
-use Rattle.esto_plan.specs.Planned.{IsNew, IsSource}
+use Rattle.esto_steps.specs.Planned.{IsNew, IsSource}
 use Rattle.esto_plan.proofs.PlanLemmas.{known_not_new, head_more}
 use Rattle.esto_plan.proofs.planning.head_of.Goals as goal
 

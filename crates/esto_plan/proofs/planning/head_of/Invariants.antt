@@ -1,6 +1,6 @@
 use Rattle.std.proofs.Common.{take}
 use Rattle.std.specs.List.{AllZip}
-use Rattle.esto_plan.specs.Planned.{IsSource}
+use Rattle.esto_steps.specs.Planned.{IsSource}
 use Rattle.esto_columns.specs.Interned.{Grows}
 use Rattle.esto_plan.proofs.planning.head_of.Given as goal
 

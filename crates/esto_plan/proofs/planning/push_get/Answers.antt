@@ -1,7 +1,7 @@
 use Rattle.std.proofs.Common.{◌++◌, ap, sym, subst, ◌∙◌}
 use Rattle.std.proofs.lemmas.Result.{on_ok_weaker}
 use Rattle.esto_views.specs.Plans.{fact_of}
-use Rattle.esto_plan.specs.Planned.{CanMeet, IsGetOf}
+use Rattle.esto_steps.specs.Planned.{CanMeet, IsGetOf}
 use Rattle.esto_plan.proofs.planning.push_get.Goals as goal
 
 pub get_of-requires-clause-met : goal.get_of-requires-clause-met

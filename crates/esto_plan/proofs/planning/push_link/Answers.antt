@@ -1,7 +1,7 @@
 use Rattle.std.proofs.Common.{◌++◌, take, Some, inr, refl, sym, ap, ◌∙◌}
 use Rattle.std.proofs.lemmas.Option.{MatchOption-at_some, slice_get-get_or}
 use Rattle.std.proofs.lemmas.Result.{on_ok_weaker}
-use Rattle.esto_plan.specs.Planned.{IsSource}
+use Rattle.esto_steps.specs.Planned.{IsSource}
 use Rattle.esto_plan.proofs.planning.push_link.Goals as goal
 
 pub returns-clause-made : goal.returns-clause-made

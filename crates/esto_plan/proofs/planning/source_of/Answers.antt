@@ -1,5 +1,6 @@
 use Rattle.std.proofs.Common.{sym}
-use Rattle.esto_plan.proofs.PlanLemmas.{bound_place, own_place, grows_refl}
+use Rattle.esto_steps.proofs.GrowthLemmas.{grows_refl}
+use Rattle.esto_plan.proofs.PlanLemmas.{bound_place, own_place}
 use Rattle.esto_plan.proofs.planning.source_of.Goals as goal
 
 pub returns-in-Some : goal.returns-in-Some

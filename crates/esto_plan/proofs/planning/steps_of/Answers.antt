@@ -9,7 +9,7 @@ use Rattle.esto_term.proofs.ListLemmas.{map_at}
 use Rattle.esto_views.specs.Fragments.{patterns_of}
 use Rattle.esto_views.specs.Plans.{fact_of}
 use Rattle.esto_columns.proofs.CodingLemmas.{grows_on}
-use Rattle.esto_plan.specs.Planned.{IsGetOf, IsKnown, IsSource, AreStepsAfter, atoms_of}
+use Rattle.esto_steps.specs.Planned.{IsGetOf, IsKnown, IsSource, AreStepsAfter, atoms_of}
 use Rattle.esto_plan.proofs.PlanLemmas.{planned_more, can_here, fragment_there, head_known, planned_all}
 use Rattle.esto_plan.proofs.planning.steps_of.Goals as goal
 

@@ -1,5 +1,5 @@
 use Rattle.std.proofs.Common.{◌≡◌, map, take}
-use Rattle.esto_plan.specs.Planned.{inputs_of}
+use Rattle.esto_steps.specs.Planned.{inputs_of}
 use Rattle.esto_plan.proofs.ways.ways_of.Given as goal
 
 abbrev pub invariant-patterns : goal.invariant-patterns

@@ -11,16 +11,11 @@ use Rattle.esto_query.proofs.OrderLemmas.{taken_same, taken_shorter, put_back, s
 use Rattle.esto_query.proofs.TrailLemmas.{undone}
 use Rattle.esto_query.proofs.active.+seek.Goals as goal
 
-pub is_active-seek-requires : goal.is_active-seek-requires
-is_active-seek-requires t c =
+pub is_active-has_active-requires : goal.is_active-has_active-requires
+is_active-has_active-requires t c =
     let aimed = rw c.in-Extends.is at c.requires.aimed in (
-      omega (
-        arith,
-        c.decreases,
-        head_less c.args.rule.now.conclusion c.in-Extends.head c.in_ok-left-in-Extends.left c.in-Extends.is
-            c.in_ok-left-in-Extends.ensures,
-      ),
-      (rw c.in_ok-left-in-Extends.ensures aimed.1, tt),
+      omega (arith, c.decreases, head_less c.args.rule.now.conclusion c.in-Extends.head c.in-Extends.is),
+      (aimed.1, tt),
     )
 
 pub is_active-returns-in_ok-extends-in-Extends-clause-tells : goal.is_active-returns-in_ok-extends-in-Extends-clause-tells
@@ -28,17 +23,28 @@ is_active-returns-in_ok-extends-in-Extends-clause-tells t c =
     let known = with_trail c.args.start.now c.args.trail.now.items in
     let body = c.args.rule.now.body.now in
     let aimed = rw c.in-Extends.is at c.requires.aimed in
-    let decides = rw c.in_ok-left-in-Extends.ensures at c.in_ok-extends-in-Extends.ensures.decides in
     rw c.in-Extends.is (tuple_told body known aimed.0 (over_at_end known body aimed.2) c.in-Extends.head.now c.args.facts.now _
-    (denial_decides c.in-Extends.head.now c.args.facts.now known _ decides))
+    (denial_decides c.in-Extends.head.now c.args.facts.now known _ c.in_ok-extends-in-Extends.ensures.decides))
 
 pub is_active-returns-in-Equals-clause-tells : goal.is_active-returns-in-Equals-clause-tells
 is_active-returns-in-Equals-clause-tells t c =
     let known = with_trail c.args.start.now c.args.trail.now.items in
     let aimed = rw c.in-Equals.is at c.requires.aimed in
-    let told = rw (c.value_of.ensures, c.value_of-in-Equals.ensures, c.deref-in-Equals.ensures.value, c.deref-in-Equals-2.ensures.value) at c.equal-is_same.ensures in
+    let told = rw (c.value_of.ensures, c.value_of-in-Equals.ensures, c.deref.ensures.value, c.deref-in-Equals.ensures.value) at c.equal-is_same.ensures in
     rw c.in-Equals.is (equality_told c.args.rule.now.body.now c.args.facts.now c.in-Equals.one.now c.in-Equals.other.now known aimed
     c.equal-is_same.result told)
+
+pub has_active-seek-requires : goal.has_active-seek-requires
+has_active-seek-requires t c = (
+  omega (arith, c.decreases, ap length c.in_ok-left.ensures),
+  (rw c.in_ok-left.ensures c.requires.flat, rw c.in_ok-left.ensures c.requires.aimed),
+)
+
+pub has_active-returns-clause-decides : goal.has_active-returns-clause-decides
+has_active-returns-clause-decides t c = rw c.in_ok-left.ensures at c.seek.ensures.decides
+
+pub seek-take-waiting-requires : goal.seek-take-waiting-requires
+seek-take-waiting-requires t c = c.in-Some.ensures.within
 
 pub seek-returns-in_default-clause-decides : goal.seek-returns-in_default-clause-decides
 seek-returns-in_default-clause-decides t c =
@@ -62,6 +68,17 @@ seek-seek_each-requires t c =
           choice.serves atom c.take-waiting.ensures.atom,
         ),
       ),
+    )
+
+pub seek-put-requires : goal.seek-put-requires
+seek-put-requires t c =
+    let left = c.args.left.now in
+    let place = c.in-Some.choice.place in
+    omega (
+      arith,
+      c.in-Some.ensures.within,
+      ap length (c.in_ok-is_found.ensures.left ∙ c.take-waiting.ensures.left),
+      taken_shorter left place c.take-waiting.result.atom.now c.take-waiting.ensures.atom,
     )
 
 pub seek-returns-clause-left : goal.seek-returns-clause-left

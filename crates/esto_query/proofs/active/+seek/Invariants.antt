@@ -7,6 +7,9 @@ use Rattle.esto_query.proofs.active.+seek.Given as goal
 abbrev pub decreases-is_active : goal.decreases-is_active
 decreases-is_active l = work l.rule.now.conclusion
 
+abbrev pub decreases-has_active : goal.decreases-has_active
+decreases-has_active l = 3 * length l.atoms.now + 2 + work l.rule.now.conclusion
+
 abbrev pub decreases-seek : goal.decreases-seek
 decreases-seek l = 3 * length l.left.now + 1 + work l.rule.now.conclusion
 

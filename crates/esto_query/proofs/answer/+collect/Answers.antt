@@ -47,6 +47,20 @@ collect-collect_each-requires t c =
       ),
     )
 
+pub collect-take-waiting-requires : goal.collect-take-waiting-requires
+collect-take-waiting-requires t c = c.in-Some.ensures.within
+
+pub collect-put-requires : goal.collect-put-requires
+collect-put-requires t c =
+    let left = c.args.left.now in
+    let place = c.in-Some.choice.place in
+    omega (
+      arith,
+      c.in-Some.ensures.within,
+      ap length (c.in_ok-collect_each.ensures.left ∙ c.take-waiting.ensures.left),
+      taken_shorter left place c.take-waiting.result.atom.now c.take-waiting.ensures.atom,
+    )
+
 pub collect-returns-clause-left : goal.collect-returns-clause-left
 collect-returns-clause-left t c =
     let place = c.in-Some.choice.place in

@@ -1,9 +1,9 @@
 use Rattle.esto_course.proofs.Steps.{at_exit, first_stops}
 use Rattle.esto_opening.specs.Opening.{opens_query}
-use Rattle.esto_opening.proofs.AskedSteps.{exit_asks, handed_asks}
+use Rattle.esto_status.proofs.AskedSteps.{exit_asks, handed_asks}
 use Rattle.esto_reasoning.specs.Contains.{compares}
 use Rattle.esto_reasoning.proofs.CourseLemmas.{compares_quiet}
-use Rattle.esto_opening.proofs.TextSteps.{stop_asks, text_asks, text_goes, text_stops}
+use Rattle.esto_status.proofs.TextSteps.{stop_asks, text_asks, text_goes, text_stops}
 use Rattle.esto_reasoning.proofs.containing.compare_right.Goals as goal
 
 pub returns-in_err-right-clause-answer : goal.returns-in_err-right-clause-answer

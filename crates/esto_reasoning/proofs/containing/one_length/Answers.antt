@@ -1,7 +1,7 @@
 use Rattle.std.proofs.Common.{sym, ◌∙◌}
 use Rattle.esto_course.specs.Course.{demands}
 use Rattle.esto_course.specs.Course.Stops.{refused}
-use Rattle.esto_opening.specs.declared.status.Status.TheVariants.{HeadLengths}
+use Rattle.esto_status.specs.declared.status.Status.TheVariants.{HeadLengths}
 use Rattle.esto_reasoning.proofs.containing.one_length.Goals as goal
 
 pub returns-then-one-other : goal.returns-then-one-other

@@ -1,9 +1,9 @@
 use Rattle.esto_course.proofs.Steps.{at_exit, first_stops}
 use Rattle.esto_opening.specs.Opening.{opens_query}
-use Rattle.esto_opening.proofs.AskedSteps.{exit_asks, handed_asks}
+use Rattle.esto_status.proofs.AskedSteps.{exit_asks, handed_asks}
 use Rattle.esto_reasoning.specs.Minimise.{minimises}
 use Rattle.esto_reasoning.proofs.CourseLemmas.{minimises_quiet}
-use Rattle.esto_opening.proofs.TextSteps.{stop_asks, text_asks, text_goes, text_stops}
+use Rattle.esto_status.proofs.TextSteps.{stop_asks, text_asks, text_goes, text_stops}
 use Rattle.esto_reasoning.proofs.minimising.minimise_read.Goals as goal
 
 pub returns-in_err-query-clause-answer : goal.returns-in_err-query-clause-answer

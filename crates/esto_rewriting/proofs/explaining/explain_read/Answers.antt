@@ -1,8 +1,8 @@
 use Rattle.esto_course.proofs.Steps.{at_exit, first_stops}
 use Rattle.esto_opening.specs.Opening.{opens_query}
-use Rattle.esto_opening.proofs.AskedSteps.{exit_asks, handed_asks}
+use Rattle.esto_status.proofs.AskedSteps.{exit_asks, handed_asks}
 use Rattle.esto_rewriting.specs.Explain.{explains_query}
-use Rattle.esto_opening.proofs.TextSteps.{stop_asks, text_asks, text_goes, text_stops}
+use Rattle.esto_status.proofs.TextSteps.{stop_asks, text_asks, text_goes, text_stops}
 use Rattle.esto_rewriting.proofs.ExplainLemmas.{quiet_explains}
 use Rattle.esto_rewriting.proofs.explaining.explain_read.Goals as goal
 

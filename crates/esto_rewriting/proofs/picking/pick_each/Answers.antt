@@ -1,5 +1,5 @@
 use Rattle.esto_course.specs.Course.{Stops}
-use Rattle.esto_opening.specs.Answers.{IsCaused, IsWant}
+use Rattle.esto_status.specs.Answers.{IsCaused, IsWant}
 use Rattle.esto_rewriting.specs.Run.{chooses_each}
 use Rattle.esto_rewriting.proofs.PickingLemmas.{choice_refused, handed_holds}
 use Rattle.esto_rewriting.proofs.picking.pick_each.Goals as goal

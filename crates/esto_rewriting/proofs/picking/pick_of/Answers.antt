@@ -1,6 +1,6 @@
 use Rattle.std.proofs.Common.{refl}
 use Rattle.esto_course.specs.Course.{judges}
-use Rattle.esto_opening.specs.Answers.{IsWant}
+use Rattle.esto_status.specs.Answers.{IsWant}
 use Rattle.esto_rewriting.proofs.PickingLemmas.{handed_holds, only_wants}
 use Rattle.esto_rewriting.proofs.picking.pick_of.Goals as goal
 

@@ -1,5 +1,5 @@
 use Rattle.std.proofs.Common.{List, ap, ◌∙◌}
-use Rattle.esto_opening.specs.declared.reply.Reply.TheVariants.{Unsatisfiable}
+use Rattle.esto_status.specs.declared.reply.Reply.TheVariants.{Unsatisfiable}
 use Rattle.esto_run.specs.Answers.{rows_text}
 use Rattle.esto_stores.specs.Rows.{Row}
 use Rattle.esto_rewriting.proofs.RunLemmas.{first_of}

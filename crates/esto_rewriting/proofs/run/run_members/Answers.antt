@@ -3,8 +3,8 @@ use Rattle.std.specs.Prelude.{Contains, MatchOption}
 use Rattle.esto_chase_laws.specs.declared.clash.Clash.{Clash}
 use Rattle.esto_course.specs.Course.{Stops}
 use Rattle.esto_course.proofs.Steps.{at_exit}
-use Rattle.esto_opening.specs.Answers.{IsCaused, IsWant}
-use Rattle.esto_opening.proofs.AskedSteps.{handed_asks}
+use Rattle.esto_status.specs.Answers.{IsCaused, IsWant}
+use Rattle.esto_status.proofs.AskedSteps.{handed_asks}
 use Rattle.esto_run.specs.Picks.{candidate_of}
 use Rattle.esto_run.specs.declared.picks.Pick.{Pick}
 use Rattle.esto_rewriting.specs.Members.{ClashAt, HavePlan, IsMemberOf}

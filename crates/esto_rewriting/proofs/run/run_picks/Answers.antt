@@ -1,6 +1,6 @@
 use Rattle.std.proofs.Common.{map}
 use Rattle.esto_course.proofs.Steps.{at_exit}
-use Rattle.esto_opening.proofs.AskedSteps.{handed_asks}
+use Rattle.esto_status.proofs.AskedSteps.{handed_asks}
 use Rattle.esto_run.specs.Opened.{rows_held}
 use Rattle.esto_run.specs.Picks.{candidate_of}
 use Rattle.esto_rewriting.proofs.RunAskedLemmas.{chosen_asks, chosen_exit_asks, chosen_text_wants, chosen_wants}

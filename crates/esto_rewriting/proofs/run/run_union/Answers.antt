@@ -1,5 +1,5 @@
 use Rattle.esto_course.proofs.Steps.{at_exit}
-use Rattle.esto_opening.proofs.AskedSteps.{handed_asks}
+use Rattle.esto_status.proofs.AskedSteps.{handed_asks}
 use Rattle.esto_rewriting.proofs.RunAskedLemmas.{union_asks, union_wants}
 use Rattle.esto_rewriting.proofs.RunLemmas.{union_goes, union_stops}
 use Rattle.esto_rewriting.proofs.run.run_union.Goals as goal

@@ -2,8 +2,8 @@ use Rattle.std.proofs.Common.{Err}
 use Rattle.esto_course.specs.Course.{judges}
 use Rattle.esto_course.proofs.Asking.{quiet_judges}
 use Rattle.esto_course.proofs.Steps.{at_exit, then_goes, then_stops}
-use Rattle.esto_opening.proofs.AskedSteps.{exit_asks, handed_asks, quiet_asks}
-use Rattle.esto_opening.proofs.Steps.{still_stops}
+use Rattle.esto_status.proofs.AskedSteps.{exit_asks, handed_asks, quiet_asks}
+use Rattle.esto_status.proofs.Steps.{still_stops}
 use Rattle.esto_rewriting.specs.Planning.{plans_query}
 use Rattle.esto_rewriting.proofs.AskedLemmas.{set_asks, set_exit_asks}
 use Rattle.esto_rewriting.proofs.verifying.verify_query.Goals as goal

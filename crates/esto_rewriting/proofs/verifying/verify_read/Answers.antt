@@ -1,8 +1,8 @@
 use Rattle.std.proofs.Common.{Err, refl}
 use Rattle.esto_course.proofs.Steps.{at_exit, first_stops, gives_goes, then_goes}
-use Rattle.esto_opening.proofs.AskedSteps.{exit_asks, handed_asks}
+use Rattle.esto_status.proofs.AskedSteps.{exit_asks, handed_asks}
 use Rattle.esto_rewriting.proofs.AskedLemmas.{text_asks, text_exit_asks}
-use Rattle.esto_opening.proofs.Steps.{then_answers}
+use Rattle.esto_status.proofs.Steps.{then_answers}
 use Rattle.esto_rewriting.proofs.verifying.verify_read.Goals as goal
 
 pub returns-in_err-query-clause-answer : goal.returns-in_err-query-clause-answer

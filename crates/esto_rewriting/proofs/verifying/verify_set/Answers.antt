@@ -1,8 +1,8 @@
 use Rattle.std.proofs.Common.{Err, Ok}
 use Rattle.esto_course.proofs.Asking.{quiet_judges}
 use Rattle.esto_course.proofs.Steps.{at_exit, first_stops, then_goes, then_stops}
-use Rattle.esto_opening.proofs.AskedSteps.{exit_asks, handed_asks, later_asks, quiet_asks}
-use Rattle.esto_opening.proofs.Steps.{last_stops}
+use Rattle.esto_status.proofs.AskedSteps.{exit_asks, handed_asks, later_asks, quiet_asks}
+use Rattle.esto_status.proofs.Steps.{last_stops}
 use Rattle.esto_rewriting.specs.Verify.{judges_certificate}
 use Rattle.esto_rewriting.proofs.verifying.verify_set.Goals as goal
 

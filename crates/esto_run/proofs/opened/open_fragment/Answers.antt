@@ -2,7 +2,7 @@ use Rattle.std.proofs.Common.{◌<◌, ◌↔◌, ℕ, List, length, sym, subst,
 use Rattle.std.proofs.lemmas.List.{length-map}
 use Rattle.esto_stores.specs.Rows.{Row}
 use Rattle.esto_run.specs.Opened.{rows_held}
-use Rattle.esto_run.specs.Stores.{IsRowIn}
+use Rattle.esto_docs.specs.Stores.{IsRowIn}
 use Rattle.esto_run.proofs.OpenedLemmas.{held_many, opened_more, elsewhere, rows_are_set, rows_put}
 use Rattle.esto_run.proofs.opened.open_fragment.Goals as goal
 

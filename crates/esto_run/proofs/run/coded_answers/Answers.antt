@@ -1,5 +1,5 @@
 use Rattle.std.proofs.Common.{map, sym, ◌∙◌}
-use Rattle.esto_plan.specs.Planned.{ordered, atoms_of}
+use Rattle.esto_steps.specs.Planned.{ordered, atoms_of}
 use Rattle.esto_steps.specs.Rows.{held_by}
 use Rattle.esto_semantics.specs.Listed.{candidate}
 use Rattle.esto_views.specs.Fragments.{patterns_of}

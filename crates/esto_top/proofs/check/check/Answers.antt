@@ -1,8 +1,8 @@
 use Rattle.esto_course.proofs.Asking.{quiet_gives}
 use Rattle.esto_course.proofs.Steps.{at_exit, first_stops}
-use Rattle.esto_opening.proofs.AskedSteps.{exit_asks, handed_asks, later_asks, quiet_asks}
+use Rattle.esto_status.proofs.AskedSteps.{exit_asks, handed_asks, later_asks, quiet_asks}
 use Rattle.esto_top.specs.Check.{prints_check}
-use Rattle.esto_opening.proofs.Steps.{then_answers_still}
+use Rattle.esto_status.proofs.Steps.{then_answers_still}
 use Rattle.esto_top.proofs.check.check.Goals as goal
 
 pub returns-in_err-catalogue-clause-answer : goal.returns-in_err-catalogue-clause-answer

@@ -1,5 +1,5 @@
 use Rattle.esto_top.specs.Bench.{bench_course}
-use Rattle.esto_opening.proofs.Steps.{answers_still}
+use Rattle.esto_status.proofs.Steps.{answers_still}
 use Rattle.esto_top.proofs.BenchLemmas.{bench_asks}
 use Rattle.esto_top.proofs.command.obey.Goals as goal
 

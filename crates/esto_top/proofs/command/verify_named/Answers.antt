@@ -1,6 +1,6 @@
 use Rattle.esto_course.proofs.Steps.{at_exit}
-use Rattle.esto_opening.proofs.AskedSteps.{handed_asks}
-use Rattle.esto_opening.proofs.Steps.{still_stops}
+use Rattle.esto_status.proofs.AskedSteps.{handed_asks}
+use Rattle.esto_status.proofs.Steps.{still_stops}
 use Rattle.esto_top.proofs.AtomLemmas.{named_answers, named_asks, unnamed_asks}
 use Rattle.esto_top.proofs.command.verify_named.Goals as goal
 

@@ -1,5 +1,5 @@
 use Rattle.esto_course.proofs.Steps.{at_exit, first_stops}
-use Rattle.esto_opening.proofs.AskedSteps.{exit_asks, handed_asks, later_asks}
+use Rattle.esto_status.proofs.AskedSteps.{exit_asks, handed_asks, later_asks}
 use Rattle.esto_top.proofs.ListCourseLemmas.{lists_asks, text_asks, text_goes, text_stops}
 use Rattle.esto_top.proofs.list.list_read.Goals as goal
 

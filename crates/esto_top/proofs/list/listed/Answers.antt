@@ -1,5 +1,5 @@
 use Rattle.esto_course.proofs.Steps.{at_exit, first_stops}
-use Rattle.esto_opening.proofs.Steps.{then_answers_still}
+use Rattle.esto_status.proofs.Steps.{then_answers_still}
 use Rattle.esto_top.proofs.list.listed.Goals as goal
 
 pub returns-in_err-plan : goal.returns-in_err-plan

@@ -1,7 +1,7 @@
 use Rattle.std.proofs.Common.{◌∙◌}
 use Rattle.esto_course.proofs.Steps.{at_exit, first_stops}
-use Rattle.esto_opening.proofs.AskedSteps.{exit_asks, handed_asks, later_asks}
-use Rattle.esto_opening.proofs.Steps.{then_answers}
+use Rattle.esto_status.proofs.AskedSteps.{exit_asks, handed_asks, later_asks}
+use Rattle.esto_status.proofs.Steps.{then_answers}
 use Rattle.esto_top.proofs.run.run.Goals as goal
 
 pub returns-in_err-catalogue-clause-answer : goal.returns-in_err-catalogue-clause-answer

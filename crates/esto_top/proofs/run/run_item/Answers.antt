@@ -2,8 +2,8 @@ use Rattle.std.proofs.Common.{refl}
 use Rattle.esto_run.specs.Opened.{rows_held}
 use Rattle.esto_course.proofs.Steps.{at_exit}
 use Rattle.esto_course.specs.Course.Stops.{is_free}
-use Rattle.esto_opening.proofs.AskedSteps.{handed_asks}
-use Rattle.esto_opening.specs.declared.status.Status.TheVariants.{OutOfMemory}
+use Rattle.esto_status.proofs.AskedSteps.{handed_asks}
+use Rattle.esto_status.specs.declared.status.Status.TheVariants.{OutOfMemory}
 use Rattle.esto_top.proofs.RunAskedLemmas.{item_asks, item_exit_asks, item_text_wants, item_wants}
 use Rattle.esto_top.proofs.RunLemmas.{item_goes, item_stops, text_over_files, used_are_there}
 use Rattle.esto_top.proofs.run.run_item.Goals as goal

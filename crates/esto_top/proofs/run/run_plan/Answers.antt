@@ -1,6 +1,6 @@
 use Rattle.esto_course.specs.Course.{judges}
 use Rattle.esto_course.proofs.Steps.{at_exit}
-use Rattle.esto_opening.proofs.AskedSteps.{handed_asks}
+use Rattle.esto_status.proofs.AskedSteps.{handed_asks}
 use Rattle.esto_top.proofs.RunAskedLemmas.{choice_asks, chosen_asks, list_wants}
 use Rattle.esto_top.proofs.RunLemmas.{choice_stops, chosen_answers}
 use Rattle.esto_top.proofs.run.run_plan.Goals as goal

@@ -1,4 +1,4 @@
-use Rattle.esto_opening.proofs.AskedSteps.{handed_asks}
+use Rattle.esto_status.proofs.AskedSteps.{handed_asks}
 use Rattle.esto_top.proofs.RunAskedLemmas.{clash_asks, plan_asks, plan_wants}
 use Rattle.esto_top.proofs.RunLemmas.{clash_answers, plan_answers}
 use Rattle.esto_top.proofs.run.run_query.Goals as goal

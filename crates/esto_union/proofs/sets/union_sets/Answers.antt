@@ -10,6 +10,12 @@ use Rattle.esto_views.specs.Plans.{fact_of, plan_query}
 use Rattle.esto_union.specs.Unions.{AnswersPart, IsRewritingIn, queries_of}
 use Rattle.esto_union.proofs.sets.union_sets.Goals as goal
 
+pub entries_of-requires-clause-within : goal.entries_of-requires-clause-within
+entries_of-requires-clause-within c = c.catalogues_rank_their_rules.ensures.within c.args.catalogue.now
+
+pub entries_of-requires-clause-ranks : goal.entries_of-requires-clause-ranks
+entries_of-requires-clause-ranks c = c.catalogues_rank_their_rules.ensures.ranks c.args.catalogue.now
+
 pub returns-clause-listed : goal.returns-clause-listed
 returns-clause-listed c set =
     let catalogue = c.args.catalogue.now in
@@ -18,11 +24,11 @@ returns-clause-listed c set =
     let entries = c.in_ok-entries.entries in
     let sets = c.in_ok-answering.answering.sets in
     let (query, inside, plan_of) = c.requires.plan_of_one in
-    let agree = c.entries_decide_answers.ensures.consistent catalogue query plan entries plan_of.satisfiable c.in_ok-entries.ensures.entries
-    plan_of.receives in
+    let agree = c.entries_decide_answers.ensures.consistent catalogue.fragments catalogue.rules catalogue.ranks query plan entries plan_of.satisfiable
+    c.in_ok-entries.ensures.entries plan_of.receives in
     let told : TellHolds (length (plan_query plan).body) (AnswersPart catalogue queries plan) sets = λ it over.
-    let decided = c.entries_decide_answers.ensures.unions catalogue queries plan entries c.in_ok-entries.ensures.entries agree it
-    (over ∙ length-map plan.atoms fact_of) in
+    let decided = c.entries_decide_answers.ensures.unions catalogue.fragments catalogue.rules catalogue.ranks queries plan entries
+    c.in_ok-entries.ensures.entries agree it (over ∙ length-map plan.atoms fact_of) in
     let tell = c.in_ok-answering.ensures.tell it in
     (λ covers. decided.1 (tell.0 covers), λ answers. tell.1 (decided.0 answers)) in
     let listed = c.sets_listed_in_unions_are_executable.ensures.executable (rules_of catalogue.rules) (views_of catalogue.fragments)

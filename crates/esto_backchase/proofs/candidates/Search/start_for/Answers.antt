@@ -1,7 +1,7 @@
 use Rattle.std.proofs.Common.{Contains, ap, subst, ◌∙◌}
 use Rattle.std.proofs.lemmas.Result.{IfOk-weaker}
 use Rattle.esto_chase_laws.specs.Runs.{start_of}
-use Rattle.esto_backchase.specs.Candidates.{facts_chosen}
+use Rattle.esto_views.specs.Expanded.{facts_chosen}
 use Rattle.esto_backchase.proofs.candidates.Search.start_for.Goals as goal
 
 pub facts_chosen-requires : goal.facts_chosen-requires

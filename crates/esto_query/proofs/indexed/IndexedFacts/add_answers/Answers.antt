@@ -1,23 +1,9 @@
-use Rattle.std.proofs.Common.{◌∙◌, ap}
-use Rattle.esto_query.specs.Making.{query_of}
+use Rattle.std.proofs.Common.{ap, ◌∙◌}
 use Rattle.esto_query.specs.Trails.{with_trail}
-use Rattle.esto_query.proofs.SoundLemmas.{sound_of}
-use Rattle.esto_query.proofs.RowLemmas.{known_at_first, answers_added}
 use Rattle.esto_query.proofs.indexed.IndexedFacts.add_answers.Goals as goal
 
-pub collect-requires-clause-flat : goal.collect-requires-clause-flat
-collect-requires-clause-flat c =
-    let kept = sound_of c.args.query.now.head c.args.query.now.body c.args.query.now.names c.args.query.now.sound in
-    rw (c.in_ok-left.ensures, c.items.ensures) kept.query.flat_body
-
-pub collect-requires-clause-known : goal.collect-requires-clause-known
-collect-requires-clause-known c =
-    let kept = sound_of c.args.query.now.head c.args.query.now.body c.args.query.now.names c.args.query.now.sound in
-    rw (c.items-head.ensures, c.in_ok-left.ensures, c.items.ensures) (known_at_first (query_of c.args.query.now) _ kept.query)
+pub add_found-requires : goal.add_found-requires
+add_found-requires c = ap (with_trail c.new-start.result) c.new-trail.ensures.items ∙ c.new-start.ensures
 
 pub returns : goal.returns
-returns c =
-    let adds = rw (c.items-head.ensures, c.in_ok-left.ensures, c.items.ensures) at c.in_ok-collect.ensures.adds in
-    answers_added (query_of c.args.query.now) c.args.self.now c.args.rows.now.items c.collect.new.rows.items
-    (with_trail c.new-start.result c.new-trail.result.items)
-    (ap (with_trail c.new-start.result) c.new-trail.ensures.items ∙ c.new-start.ensures) adds
+returns c = c.add_found.ensures

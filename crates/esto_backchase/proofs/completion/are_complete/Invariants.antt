@@ -1,7 +1,0 @@
-use Rattle.esto_term.proofs.ListLemmas.{HoldsBelow}
-use Rattle.esto_backchase.specs.Completion.{IsCompletedIn}
-use Rattle.esto_backchase.proofs.completion.are_complete.Given as goal
-
--- the sets so far are complete
-abbrev pub invariant-sets : goal.invariant-sets
-invariant-sets l = HoldsBelow (λ _ low. IsCompletedIn l.supplies low low) l.products.sets l.at

@@ -1,7 +1,0 @@
-use Rattle.std.proofs.Common.{◌≡◌}
-use Rattle.esto_backchase.proofs.CompleteLemmas.{AreAllCompletedBelow}
-use Rattle.esto_backchase.proofs.completion.complete_each.Given as goal
-
--- the sets so far are completed
-abbrev pub invariant-sets : goal.invariant-sets
-invariant-sets l = (l.found.count ≡ l.products.count) × AreAllCompletedBelow l.supplies l.products.sets l.at l.found.sets

@@ -1,9 +1,0 @@
-use Rattle.esto_term.proofs.ListLemmas.{Contains-at}
-use Rattle.esto_opening.proofs.TextLemmas.{first_text}
-use Rattle.esto_opening.proofs.texts.union_rows_text.Goals as goal
-
-pub answers_text-requires : goal.answers_text-requires
-answers_text-requires c = c.requires.fit c.item.result.now (Contains-at c.args.queries.now 0 c.item.result.now c.item.ensures)
-
-pub returns : goal.returns
-returns c = first_text c.args.queries.now c.args.rows.now c.item.result.now c.in_ok-text.text c.item.ensures c.in_ok-text.ensures

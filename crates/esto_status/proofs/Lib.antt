@@ -1,0 +1,10 @@
+pub mod AgreeLemmas
+pub mod AskedSteps
+pub mod FileSteps
+pub mod LeadLemmas
+pub mod LineLemmas
+pub mod LoopSteps
+pub mod StatusLemmas
+pub mod Steps
+pub mod TextSteps
+pub mod RefusalLemmas

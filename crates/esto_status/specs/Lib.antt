@@ -1,0 +1,6 @@
+pub mod Answers
+pub mod Asked
+pub mod Calm
+pub mod Fetch
+pub mod Line
+pub mod Replies
