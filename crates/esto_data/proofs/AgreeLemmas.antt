@@ -1,4 +1,4 @@
--- The courses of `fill`, `answer` and `audit` agree with themselves, over catalogues that say the same.
+-- What `fill`, `answer` and `audit` say agrees, over catalogues that say the same.
 use Rattle.std.proofs.Common.{◌≡◌, ◌≢◌, ℕ, List, map, Contains, Some, None, Option, Result, Ok, Err, refl, sym, ap, subst, ◌∙◌}
 use Rattle.std.specs.List.{range_with_len}
 use Rattle.std.proofs.lemmas.Option.{none-some, same_Some}
@@ -32,7 +32,7 @@ use Rattle.esto_term.specs.declared.term.Term.{Term}
 use Rattle.esto_views.specs.Fragments.{views_of}
 use Rattle.esto_query.specs.Same.{AreSameQueries}
 use Rattle.esto_status.specs.Answers.{IsCaused}
-use Rattle.esto_status.specs.Calm.{AgreeCalmly, IsOne}
+use Rattle.esto_status.specs.Calm.{AgreeCalmly}
 use Rattle.esto_run.specs.Fragments.{Stored, IsStoredAt, opens_fragments}
 use Rattle.esto_run.specs.Texts.{union_rows_text}
 use Rattle.esto_status.specs.declared.reply.Reply.TheVariants.{Done}
@@ -41,11 +41,11 @@ use Rattle.esto_status.specs.declared.status.Status.TheVariants as status
 use Rattle.esto_status.proofs.Steps.{never_wanting}
 use Rattle.esto_run.proofs.StoreAlikeLemmas.{same_stored}
 use Rattle.esto_constraint.proofs.RuleLemmas.{are_rules}
-use Rattle.esto_data.specs.Answer.{IsUnionAnswerOfFacts, answer_course, answers_union, lists_texts}
-use Rattle.esto_data.specs.Audit.{AuditsFiles, all_fragments, audit_course, audit_text, audits_catalogue, audits_facts, compares, judges_views}
+use Rattle.esto_data.specs.Answer.{IsUnionAnswerOfFacts, answers_union, lists_texts}
+use Rattle.esto_data.specs.Audit.{AuditsFiles, all_fragments, audit_text, audits_catalogue, audits_facts, compares, judges_views}
 use Rattle.esto_data.specs.Datasets.{IsAny, Names, OneNames, loads}
 use Rattle.esto_data.specs.DataLaws.{DataLaws}
-use Rattle.esto_data.specs.Fill.{IsFilled, IsFirstOf, IsMade, fill_course, fill_status, finds_fragment, gives_course, gives_file, gives_fragment, gives_named, make_course}
+use Rattle.esto_data.specs.Fill.{IsFirstOf, IsMade, fill_status, finds_fragment, gives_file, gives_fragment, gives_named}
 use Rattle.esto_data.specs.Fill.{names_of}
 use Rattle.esto_data.proofs.AlikeLemmas.{audits_over, first_one, fragments_long, texts_one, same_view}
 use Rattle.esto_data.proofs.LoadLemmas.{loads_agree, loads_flat}
@@ -269,7 +269,7 @@ module _ (laws : DataLaws) where
           (λ value1 other_value1 goes2 same2. gives_agree _ (Done (audit_text catalogue)) (Done (audit_text other))
           (ap Done (texts_one catalogue other alike)))))
 
-    catalogue_agree : AgreeCalmly ◌≡◌ (audits_catalogue (Some files) catalogue) (audits_catalogue (Some files) other)
+    pub catalogue_agree : AgreeCalmly ◌≡◌ (audits_catalogue (Some files) catalogue) (audits_catalogue (Some files) other)
     catalogue_agree =
         then_agree _ ◌≡◌ ◌≡◌ _ _ _ _
         (subst (λ (it : List Dataset). AgreeCalmly ◌≡◌ (loads (Some files) catalogue.datasets IsAny) (loads (Some files) it IsAny)) alike.datasets
@@ -277,27 +277,3 @@ module _ (laws : DataLaws) where
         (λ facts others goes one. subst (λ (it : List (Fact Term)). AgreeCalmly ◌≡◌ (audits_facts (Some files) catalogue facts)
         (audits_facts (Some files) other it)) one
         (audited_agree (are_rules laws.rules catalogue.rules) facts (loads_flat (Some files) catalogue.datasets IsAny facts goes)))
-
-  -- ---- the commands
-
-  module _ (files : Files) where
-    pub gives_one : (Is : Stored → List (Fact Term) → List ℕ → Type 0)
-        → ((stored : Stored) (facts : List (Fact Term)) (text : List ℕ) → Is stored facts text → IsMade stored facts text)
-        → (catalogue_name name : List ℕ) → IsOne (gives_course Is (Some files) catalogue_name name)
-    gives_one Is made catalogue_name name = then_agree _ AreSame ◌≡◌ _ _ _ _ (laws.catalogues files catalogue_name)
-        (λ catalogue other goes alike. fills_agree files catalogue other alike Is made name)
-
-    pub fills_one : (catalogue_name name : List ℕ) → IsOne (fill_course (Some files) catalogue_name name)
-    fills_one = gives_one IsFilled (λ stored facts text is. is.filled)
-
-    pub makes_one : (catalogue_name name : List ℕ) → IsOne (make_course (Some files) catalogue_name name)
-    makes_one = gives_one IsMade (λ stored facts text is. is)
-
-    pub answers_one : (catalogue_name query_name : List ℕ) → IsOne (answer_course (Some files) catalogue_name query_name)
-    answers_one catalogue_name query_name = then_agree _ AreSame ◌≡◌ _ _ _ _ (laws.catalogues files catalogue_name)
-        (λ catalogue other goes alike. then_agree _ AreSameQueries ◌≡◌ _ _ _ _ (laws.unions files query_name catalogue other alike)
-        (λ queries others goes1 same. answers_agree files catalogue other alike queries others same))
-
-    pub audits_one : (name : List ℕ) → IsOne (audit_course (Some files) name)
-    audits_one name = then_agree _ AreSame ◌≡◌ _ _ _ _ (laws.catalogues files name)
-        (λ catalogue other goes alike. catalogue_agree files catalogue other alike)

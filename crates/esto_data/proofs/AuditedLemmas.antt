@@ -1,8 +1,7 @@
--- Where `audit` has a reply, and what `answer` prints then.
-use Rattle.std.proofs.Common.{◌≡◌, ◌↔◌, ◌<◌, ℕ, List, [], ◌∷◌, map, length, slice_get, Contains, Option, Some, None, refl, sym, subst, ◌∙◌, arith}
+-- What `answer` prints where all datasets are loaded.
+use Rattle.std.proofs.Common.{◌≡◌, ◌↔◌, ℕ, List, map, slice_get, Contains, Option, Some, refl, sym, subst, ◌∙◌, arith}
 use Rattle.std.specs.Prelude.{IsSome}
 use Rattle.std.proofs.lemmas.Option.{same_Some}
-use Rattle.esto_mapping.specs.Catalogues.{AreSame}
 use Rattle.esto_mapping.specs.declared.catalogue.Catalogue.{Catalogue}
 use Rattle.esto_mapping.specs.declared.dataset.Dataset.{Dataset}
 use Rattle.esto_course.specs.Course.{judges, gives, and_then}
@@ -27,23 +26,17 @@ use Rattle.esto_query.specs.Same.{AreSameQueries}
 use Rattle.esto_status.specs.Calm.{Leads}
 use Rattle.esto_status.specs.Fetch.{fetches}
 use Rattle.esto_run.specs.Fragments.{IsReadableFragment, opens_fragment}
-use Rattle.esto_opening.specs.Opening.{opens_union}
-use Rattle.esto_opening.specs.Unions.{UnionsOfOneAreQueries}
 use Rattle.esto_run.specs.Texts.{union_rows_text}
 use Rattle.esto_status.specs.declared.reply.Reply.TheVariants.{Done}
-use Rattle.esto_status.proofs.LeadLemmas.{then-leads, leads-more, gives-leads, agreed_leads}
-use Rattle.esto_data.specs.Answer.{IsAnswerOfFacts, IsUnionAnswerOfFacts, answer_course, answers_union, lists_texts}
+use Rattle.esto_status.proofs.LeadLemmas.{then-leads, leads-more, gives-leads}
+use Rattle.esto_data.specs.Answer.{IsUnionAnswerOfFacts, answers_union, lists_texts}
 use Rattle.esto_data.specs.Datasets.{IsAny, Names, OneNames, loads, opens_dataset}
 use Rattle.esto_data.specs.Exact.{PrintsRows}
-use Rattle.esto_data.specs.Laws.{RepliesAreAudited}
 use Rattle.esto_data.specs.DataLaws.{DataLaws}
-use Rattle.esto_data.proofs.AlikeLemmas.{fragments_long}
 use Rattle.esto_data.proofs.DatasetLemmas.{sources_there}
-use Rattle.esto_data.proofs.FragmentLemmas.{each_opened, opened_within}
 use Rattle.esto_data.proofs.LeadLemmas.{AreLoaded, AreOpenedFiles, CanOpen, are_loaded, entries_apart, loads_never}
 use Rattle.esto_data.proofs.LoadLemmas.{dataset_agree}
-use Rattle.esto_data.proofs.MovedLemmas.{over_this}
-use Rattle.esto_data.proofs.UnionLemmas.{one_union, same_queries, same_union, same_union_text, texts_moved}
+use Rattle.esto_data.proofs.UnionLemmas.{same_queries, same_union, same_union_text, texts_moved}
 
 -- ---- the files of some of the datasets
 
@@ -111,7 +104,7 @@ module _ (files : Files) (datasets : List Dataset) where
 -- ---- the answers
 
 -- a fragment's file that is readable is opened
-readable_goes : (files : Files) (catalogue : Catalogue) (number : ℕ) (bytes : List ℕ) → IsReadableFragment files catalogue number bytes
+pub readable_goes : (files : Files) (catalogue : Catalogue) (number : ℕ) (bytes : List ℕ) → IsReadableFragment files catalogue number bytes
     → (opens_fragment (Some files) catalogue number).goes bytes
 unfolding fetches judges and_then gives
 readable_goes files catalogue number bytes (stored, at, has, none) = (stored, at, (bytes, has, (tt, none, refl)))
@@ -207,39 +200,3 @@ module _ (laws : DataLaws) (rest : AnswersRestOnDatasets) (files : Files) (datas
 
       other_texts : HaveTextsOnly (IsUnionAnswerOfFacts others facts)
       other_texts values holds = texts values ((back values).0 holds)
-
-pub replies_audited : DataLaws → UnionsOfOneAreQueries → AnswersRestOnDatasets → RepliesAreAudited
-unfolding and_then judges
-replies_audited laws one rest files catalogue_name catalogue reply
-    (other, opens, (facts, loaded, (value, texts, (contents, opened, (given, agree, done))))) here =
-    let alike : AreSame catalogue other = (laws.catalogues files catalogue_name).one catalogue other here opens in record {
-      facts = facts;
-      contents = contents;
-      agree = over_this files catalogue other alike laws.fault laws.rows laws.file facts contents None agree;
-      readable = λ number bytes is.
-          let goes = readable_goes files catalogue number bytes is in
-          let within : number < length other.fragments =
-          omega (arith, opened_within (Some files) catalogue number bytes goes, fragments_long catalogue other alike) in
-          (laws.fragment files catalogue other number alike).one bytes (contents number) goes
-          (each_opened (Some files) other contents opened number within);
-      unions = union_answers alike facts loaded;
-      answers = λ query_name query reads query_texts.
-          leads-more _ _ _ (λ _. ⊥) (λ said (text, is, (rows, are, printed)). (
-            text,
-            is,
-            (rows, texts_moved (IsUnionAnswerOfFacts (query ∷ []) facts) (IsAnswerOfFacts query facts) (one_union query facts) rows are, printed),
-          ))
-          (union_answers alike facts loaded query_name (query ∷ []) ((one (Some files) query_name catalogue query).1 reads)
-          (λ values holds. query_texts values ((one_union query facts values).0 holds)));
-    }
-  where
-    union_answers : AreSame catalogue other → (facts : List (Fact Term)) → (loads (Some files) other.datasets IsAny).goes facts → (query_name : List ℕ)
-        (queries : List Query) → (opens_union (Some files) query_name catalogue).goes queries → HaveTextsOnly (IsUnionAnswerOfFacts queries facts)
-        → Leads (answer_course (Some files) catalogue_name query_name)
-        (λ reply. (text : List ℕ) × (reply ≡ Done text) × PrintsRows (IsUnionAnswerOfFacts queries facts) (union_rows_text queries) text) (λ _. ⊥)
-    union_answers alike facts loaded query_name queries reads texts =
-        then-leads _ _ (AreSame catalogue) _ _ (agreed_leads AreSame _ _ catalogue _ (laws.catalogues files catalogue_name) here)
-        (λ third third_alike. then-leads _ _ (AreSameQueries queries) _ _
-        (agreed_leads AreSameQueries _ _ queries _ (laws.unions files query_name catalogue third third_alike) reads)
-        (λ others same. union_leads laws rest files other.datasets facts loaded queries others same texts third
-        (sym alike.datasets ∙ third_alike.datasets)))

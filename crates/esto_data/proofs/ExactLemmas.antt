@@ -1,7 +1,6 @@
--- What `fill`, `answer` and `audit` answer where nothing is wrong with the files.
+-- What `fill`, `answer` and `audit` say of a catalogue where nothing is wrong with the files.
 use Rattle.std.proofs.Common.{◌≡◌, ◌≢◌, ◌↔◌, ℕ, suc, List, [], ◌∷◌, ◌++◌, map, length, Contains, Option, Some, None, Err, refl, sym, ap, subst, ◌∙◌, inl, inr}
 use Rattle.std.proofs.lemmas.Option.{same_Some, none-some}
-use Rattle.esto_mapping.specs.Catalogues.{AreSame, CataloguesAreSound}
 use Rattle.esto_mapping.specs.declared.catalogue.Catalogue.{Catalogue}
 use Rattle.esto_mapping.specs.declared.dataset.Dataset.{Dataset}
 use Rattle.esto_constraint.specs.Constraints.{rules_of}
@@ -31,56 +30,38 @@ use Rattle.esto_stores.specs.Rows.{Row}
 use Rattle.esto_term.proofs.ListLemmas.{Contains-at, place-from_Contains}
 use Rattle.esto_term.specs.declared.term.Term.{Term}
 use Rattle.esto_views.specs.Fragments.{views_of}
-use Rattle.esto_query.specs.Same.{AreSameQueries}
 use Rattle.esto_status.specs.Answers.{IsCaused}
 use Rattle.esto_status.specs.Calm.{Leads, SaysAlways}
 use Rattle.esto_status.specs.Fetch.{fetches, FetchStops}
 use Rattle.esto_status.specs.Fetch.FetchStops.{fails, is_longer}
 use Rattle.esto_run.specs.Fragments.{Stored, IsStoredAt, opens_fragments}
 use Rattle.esto_status.specs.Line.{line_of}
-use Rattle.esto_opening.specs.Opening.{FilesSayCatalogue, FilesSayQuery, FilesSayUnion, opens_catalogue, opens_query, opens_union, reads_catalogue, reads_query}
-use Rattle.esto_opening.specs.Unions.{SaidUnionsOpen, UnionsOfOneAreQueries}
 use Rattle.esto_run.specs.Texts.{union_rows_text}
-use Rattle.esto_status.specs.declared.limits.TheConstants.{CATALOGUE_LIMIT, DATA_LIMIT, QUERY_LIMIT}
+use Rattle.esto_status.specs.declared.limits.TheConstants.{DATA_LIMIT}
 use Rattle.esto_status.specs.declared.reply.Reply.{Reply}
 use Rattle.esto_status.specs.declared.reply.Reply.TheVariants.{Done}
 use Rattle.esto_status.specs.declared.status.Status.{Status}
 use Rattle.esto_status.specs.declared.status.Status.TheVariants as status
-use Rattle.esto_status.proofs.LeadLemmas.{then-leads, leads-more, gives-leads, agreed_leads}
+use Rattle.esto_status.proofs.LeadLemmas.{then-leads, leads-more, gives-leads}
 use Rattle.esto_status.proofs.Steps.{never_wanting, read_cause}
-use Rattle.esto_course.proofs.Steps.{then_goes}
 use Rattle.esto_constraint.proofs.RuleLemmas.{are_rules}
-use Rattle.esto_data.specs.Answer.{IsAnswerOfFacts, IsUnionAnswerOfFacts, answer_course, answers_union}
-use Rattle.esto_data.specs.Audit.{AuditsFiles, all_fragments, audit_course, audit_text, audits_catalogue}
+use Rattle.esto_data.specs.Answer.{IsAnswerOfFacts, IsUnionAnswerOfFacts, answers_union}
+use Rattle.esto_data.specs.Audit.{AuditsFiles, all_fragments, audit_text, audits_catalogue}
 use Rattle.esto_data.specs.Datasets.{IsAny, Names, OneNames, demands_file, loads, loads_next, opens_dataset}
 use Rattle.esto_data.specs.Exact.{AreReadableFragments, AuditsExactly, FillsExactly, GivesExactly, HoldFacts, IsExactAnswer, IsExactAudit, IsExactFill}
 use Rattle.esto_data.specs.Exact.{IsExactUnionAnswer}
 use Rattle.esto_data.specs.Exact.FillsExactly.{prints, tells_key, tells_node}
-use Rattle.esto_data.specs.Fill.{IsFilled, IsFirstOf, IsRowOfView, fill_course, fill_status, fills_file, fills_named, names_of}
+use Rattle.esto_data.specs.Fill.{IsFilled, IsFirstOf, IsRowOfView, fill_status, fills_file, fills_named, names_of}
 use Rattle.esto_data.specs.DataLaws.{DataLaws}
 use Rattle.esto_data.proofs.AlikeLemmas.{audits-moved, first_one}
 use Rattle.esto_data.proofs.FragmentLemmas.{fragments_never, rows_same}
 use Rattle.esto_data.proofs.LeadLemmas.{holds-leads, holds_leads}
 use Rattle.esto_data.proofs.LoadLemmas.{loads_flat}
-use Rattle.esto_data.proofs.MovedLemmas.{answer_moved, audit_moved, fill_moved}
 use Rattle.esto_data.proofs.NodeLemmas.{TellsNoNode, opened_without_node}
 use Rattle.esto_data.proofs.UnionLemmas.{gives_moved, holds_for, one_names, one_union}
 
--- ---- the catalogue and the query that the files say
-
-module _ (files : Files) where
-  pub said_opens : (name : List ℕ) (catalogue : Catalogue) → FilesSayCatalogue files name catalogue → (opens_catalogue (Some files) name).goes catalogue
-  unfolding fetches judges
-  said_opens name catalogue say = then_goes (fetches (Some files) name CATALOGUE_LIMIT) reads_catalogue say.bytes catalogue say.has say.is_catalogue
-
-  said_query_opens : (name : List ℕ) (catalogue : Catalogue) (query : Query) → FilesSayQuery files name catalogue query
-      → (opens_query (Some files) name catalogue).goes query
-  unfolding fetches judges
-  said_query_opens name catalogue query say = then_goes (fetches (Some files) name QUERY_LIMIT) (reads_query catalogue) say.bytes query say.has
-      (say.named, say.is_query, say.query_is)
-
 -- what holds of replies and refusals, as it is said, once more is
-says-more : (course : Course Status Reply) (Fact More : Status → List ℕ → Type 0) → ((said : Status) (text : List ℕ) → Fact said text → More said text)
+pub says-more : (course : Course Status Reply) (Fact More : Status → List ℕ → Type 0) → ((said : Status) (text : List ℕ) → Fact said text → More said text)
     → SaysAlways course Fact → SaysAlways course More
 says-more course Fact More more says = record {
   goes = λ reply goes. let found = says.goes reply goes in (found.0, found.1, more status.Done found.0 found.2);
@@ -118,7 +99,7 @@ module _ (Rows : List Value → Type 0) (text_of : List Row → List ℕ) where
   }
 
 -- what is exact of the union of one query is exact of the query
-one_exact : (files : Files) (catalogue : Catalogue) (query : Query) (said : Status) (text : List ℕ)
+pub one_exact : (files : Files) (catalogue : Catalogue) (query : Query) (said : Status) (text : List ℕ)
     → IsExactUnionAnswer files catalogue (query ∷ []) said text → IsExactAnswer files catalogue query said text
 one_exact files catalogue query said text exact facts holds =
     gives_moved (IsUnionAnswerOfFacts (query ∷ []) facts) (IsAnswerOfFacts query facts) (one_union query facts) (union_rows_text (query ∷ [])) (rows_text query)
@@ -131,7 +112,7 @@ module _ (laws : DataLaws) (files : Files) (catalogue : Catalogue) where
     abbrev needs : Dataset → Type 0
     needs = OneNames (map query_of queries)
 
-    answer_says : SaysAlways (answers_union (Some files) catalogue queries) (IsExactUnionAnswer files catalogue queries)
+    pub answer_says : SaysAlways (answers_union (Some files) catalogue queries) (IsExactUnionAnswer files catalogue queries)
     unfolding and_then judges gives
     answer_says = record {
       goes = λ reply (others, loaded, (rows, texts, done)). (
@@ -293,7 +274,7 @@ module _ (laws : DataLaws) (files : Files) (catalogue : Catalogue) where
         one_stored other stored its
         (subst (λ (it : ℕ). IsStoredAt catalogue it stored) (first_one (names_of catalogue.fragments) name number other first its_first) here) there
 
-    fill_says : SaysAlways (fills_named (Some files) name catalogue) (IsExactFill files catalogue name)
+    pub fill_says : SaysAlways (fills_named (Some files) name catalogue) (IsExactFill files catalogue name)
     unfolding and_then judges gives
     fill_says = record {
       goes = λ reply (number, first, (stored, here, (others, loaded, (text, filled, done)))). (
@@ -465,7 +446,7 @@ module _ (laws : DataLaws) (files : Files) (catalogue : Catalogue) (many : lengt
         ]
       ]
 
-  audit_says : SaysAlways (audits_catalogue (Some files) catalogue) (IsExactAudit files catalogue)
+  pub audit_says : SaysAlways (audits_catalogue (Some files) catalogue) (IsExactAudit files catalogue)
   unfolding and_then judges gives
   audit_says = record {
     goes = λ reply (others, loaded, (value, texts, (their, opened, (given, agree, done)))). (
@@ -483,40 +464,3 @@ module _ (laws : DataLaws) (files : Files) (catalogue : Catalogue) (many : lengt
       audits = λ facts contents holds readable. audit_stops facts holds contents readable said caused stop;
     };
   }
-
--- ---- the commands
-
-module _ (laws : DataLaws) (sound : CataloguesAreSound) (files : Files) (catalogue_name : List ℕ) (catalogue : Catalogue)
-    (say : FilesSayCatalogue files catalogue_name catalogue) where
-  -- the catalogue that is opened says the same
-  opened-leads : (Refusal : Status → Type 0) → Leads (opens_catalogue (Some files) catalogue_name) (AreSame catalogue) Refusal
-  opened-leads Refusal = agreed_leads AreSame _ _ catalogue Refusal (laws.catalogues files catalogue_name) (said_opens files catalogue_name catalogue say)
-
-  pub fills_exact : (name : List ℕ) → SaysAlways (fill_course (Some files) catalogue_name name) (IsExactFill files catalogue name)
-  fills_exact name = then-leads _ _ (AreSame catalogue) _ _ (opened-leads _) (λ other alike.
-      says-more _ (IsExactFill files other name) (IsExactFill files catalogue name)
-      (fill_moved files catalogue other alike laws.fault laws.rows name) (fill_says laws files other name))
-
-  -- the union that is opened is answered
-  union_exact : (query_name : List ℕ) (queries : List Query) → (opens_union (Some files) query_name catalogue).goes queries
-      → SaysAlways (answer_course (Some files) catalogue_name query_name) (IsExactUnionAnswer files catalogue queries)
-  union_exact query_name queries opens = then-leads _ _ (AreSame catalogue) _ _ (opened-leads _) (λ other alike.
-      then-leads _ _ (AreSameQueries queries) _ _
-      (agreed_leads AreSameQueries _ _ queries _ (laws.unions files query_name catalogue other alike) opens)
-      (λ others same. says-more _ (IsExactUnionAnswer files other others) (IsExactUnionAnswer files catalogue queries)
-      (answer_moved files catalogue other alike queries others same) (answer_says laws files other others)))
-
-  pub unions_exact : SaidUnionsOpen → (query_name : List ℕ) (queries : List Query) → FilesSayUnion files query_name catalogue queries
-      → SaysAlways (answer_course (Some files) catalogue_name query_name) (IsExactUnionAnswer files catalogue queries)
-  unions_exact said query_name queries say_union = union_exact query_name queries (said files query_name catalogue queries say_union)
-
-  pub answers_exact : UnionsOfOneAreQueries → (query_name : List ℕ) (query : Query) → FilesSayQuery files query_name catalogue query
-      → SaysAlways (answer_course (Some files) catalogue_name query_name) (IsExactAnswer files catalogue query)
-  answers_exact one query_name query say_query = says-more _ (IsExactUnionAnswer files catalogue (query ∷ [])) (IsExactAnswer files catalogue query)
-      (one_exact files catalogue query)
-      (union_exact query_name (query ∷ []) ((one (Some files) query_name catalogue query).1 (said_query_opens files query_name catalogue query say_query)))
-
-  pub audits_exact : SaysAlways (audit_course (Some files) catalogue_name) (IsExactAudit files catalogue)
-  audits_exact = then-leads _ _ (AreSame catalogue) _ _ (opened-leads _) (λ other alike.
-      says-more _ (IsExactAudit files other) (IsExactAudit files catalogue)
-      (audit_moved files catalogue other alike laws.fault laws.rows laws.file) (audit_says laws files other (sound other).stored))

@@ -21,5 +21,3 @@ pub mod NodeLemmas
 pub mod MovedLemmas
 pub mod ExactLemmas
 pub mod AuditedLemmas
-pub mod RefusalLemmas
-pub mod WeakerLemmas

@@ -21,7 +21,7 @@ use Rattle.esto_query.specs.Same.{AreSameQueries}
 use Rattle.esto_query.specs.Unions.{FormUnion}
 use Rattle.esto_run.specs.Texts.{FitHeads, union_rows_text}
 use Rattle.esto_status.specs.declared.status.Status.{Status}
-use Rattle.esto_opening.proofs.AlikeLemmas.{same_query}
+use Rattle.esto_run.proofs.SameLemmas.{same_query}
 use Rattle.esto_run.proofs.RowsTextLemmas.{same_rows_text}
 use Rattle.esto_data.specs.Answer.{IsAnswerOfFacts, IsUnionAnswerOfFacts, lists_texts}
 use Rattle.esto_data.specs.Datasets.{AreNeeded, Names, OneNames}

@@ -1,4 +1,4 @@
--- The command `answer`.
+-- What `answer` says of queries.
 use Rattle.std.specs.Prelude.{◌≡◌, ℕ, List, Option, map}
 use Rattle.esto_mapping.specs.declared.catalogue.Catalogue.{Catalogue}
 use Rattle.esto_course.specs.Course.{Course, judges, gives, and_then}
@@ -14,7 +14,6 @@ use Rattle.esto_semantics.specs.declared.fact.Value.{Value}
 use Rattle.esto_stores.specs.Rows.{Row}
 use Rattle.esto_term.specs.declared.term.Term.{Term}
 use Rattle.esto_data.specs.Datasets.{OneNames, loads}
-use Rattle.esto_opening.specs.Opening.{opens_catalogue, opens_union}
 use Rattle.esto_run.specs.Texts.{union_rows_text}
 use Rattle.esto_status.specs.declared.reply.Reply.{Reply}
 use Rattle.esto_status.specs.declared.reply.Reply.TheVariants.{Done}
@@ -43,11 +42,3 @@ answers_facts queries facts =
 abbrev pub answers_union : Option Files → Catalogue → List Query → Course Status Reply
 answers_union files catalogue queries =
     and_then (loads files catalogue.datasets (OneNames (map query_of queries))) (answers_facts queries)
-
--- The union of queries is fetched and read, and it is answered.
-abbrev pub answers_read : Option Files → List ℕ → Catalogue → Course Status Reply
-answers_read files query_name catalogue = and_then (opens_union files query_name catalogue) (answers_union files catalogue)
-
--- The catalogue is fetched and read, then the union of queries, and it is answered.
-abbrev pub answer_course : Option Files → List ℕ → List ℕ → Course Status Reply
-answer_course files catalogue_name query_name = and_then (opens_catalogue files catalogue_name) (answers_read files query_name)

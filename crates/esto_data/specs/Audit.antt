@@ -1,4 +1,4 @@
--- The command `audit`.
+-- What `audit` says of a catalogue.
 use Rattle.std.specs.Prelude.{◌≡◌, ◌↔◌, ℕ, List, [], ◌∷◌, ◌++◌, length, map, codes, slice_get, Contains, Option, Some, None, Result, Ok, Err}
 use Rattle.std.specs.Fmt.{decimal}
 use Rattle.std.specs.List.{range_with_len}
@@ -31,7 +31,6 @@ use Rattle.esto_status.specs.Answers.{IsWant, IsCaused}
 use Rattle.esto_status.specs.Asked.{AsksIn}
 use Rattle.esto_data.specs.Datasets.{AreFactsOfFiles, AreLawful, HoldsFiles, IsAny, loads}
 use Rattle.esto_data.specs.Fill.{names_of}
-use Rattle.esto_opening.specs.Opening.{opens_catalogue}
 use Rattle.esto_status.specs.declared.reply.Reply.{Reply}
 use Rattle.esto_status.specs.declared.reply.Reply.TheVariants.{Done}
 use Rattle.esto_status.specs.declared.status.Status.{Status}
@@ -79,10 +78,6 @@ audits_facts files catalogue facts =
 -- All datasets are loaded, and audited.
 abbrev pub audits_catalogue : Option Files → Catalogue → Course Status Reply
 audits_catalogue files catalogue = and_then (loads files catalogue.datasets IsAny) (audits_facts files catalogue)
-
--- The catalogue is fetched and read, and audited.
-abbrev pub audit_course : Option Files → List ℕ → Course Status Reply
-audit_course files name = and_then (opens_catalogue files name) (audits_catalogue files)
 
 -- The files of all fragments are opened, and compared with the facts; the text is the reply.
 abbrev pub audits_rows : Option Files → Catalogue → List (Fact Term) → Course Status Reply

@@ -1,4 +1,4 @@
--- The command `fill`.
+-- What `fill` says of a fragment.
 use Rattle.std.specs.Prelude.{◌≡◌, ◌≢◌, ℕ, ◌<◌, List, map, slice_get, Contains, Option, Some, Ok, Err, length}
 use Rattle.esto_mapping.specs.declared.catalogue.Catalogue.{Catalogue}
 use Rattle.esto_run.specs.Fragments.{Stored, IsStoredAt}
@@ -16,7 +16,6 @@ use Rattle.esto_semantics.specs.declared.fact.Value.{Value}
 use Rattle.esto_term.specs.declared.term.Term.{Term}
 use Rattle.esto_views.specs.declared.fragments.FragmentDef.{FragmentDef}
 use Rattle.esto_data.specs.Datasets.{Names, loads}
-use Rattle.esto_opening.specs.Opening.{opens_catalogue}
 use Rattle.esto_status.specs.declared.reply.Reply.{Reply}
 use Rattle.esto_status.specs.declared.reply.Reply.TheVariants.{Done}
 use Rattle.esto_status.specs.declared.status.Status.{Status}
@@ -74,17 +73,6 @@ gives_fragment Is files catalogue number =
 abbrev pub gives_named : (Stored → List (Fact Term) → List ℕ → Type 0) → Option Files → List ℕ → Catalogue → Course Status Reply
 gives_named Is files name catalogue = and_then (finds_fragment catalogue name) (gives_fragment Is files catalogue)
 
--- The catalogue is fetched and read, and the text of the fragment's file is the reply.
-abbrev pub gives_course : (Stored → List (Fact Term) → List ℕ → Type 0) → Option Files → List ℕ → List ℕ → Course Status Reply
-gives_course Is files catalogue_name name = and_then (opens_catalogue files catalogue_name) (gives_named Is files name)
-
--- ---- the command's course
-
--- The catalogue is fetched and read, and a text that is made of the rows of the fragment's view is the reply. That such a text says these rows when it is read
--- is no step of the course, but follows of what is put.
-abbrev pub make_course : Option Files → List ℕ → List ℕ → Course Status Reply
-make_course files catalogue_name name = gives_course IsMade files catalogue_name name
-
 -- ---- what the command does
 
 -- The file is filled; or there is a cause for which it is not.
@@ -98,7 +86,3 @@ fills_fragment files catalogue number = gives_fragment IsFilled files catalogue 
 -- The fragment is found, and its file filled.
 abbrev pub fills_named : Option Files → List ℕ → Catalogue → Course Status Reply
 fills_named files name catalogue = gives_named IsFilled files name catalogue
-
--- The catalogue is fetched and read, and the fragment's file is filled.
-abbrev pub fill_course : Option Files → List ℕ → List ℕ → Course Status Reply
-fill_course files catalogue_name name = gives_course IsFilled files catalogue_name name

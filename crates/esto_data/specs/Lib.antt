@@ -7,4 +7,3 @@ pub mod Audit
 pub mod Exact
 pub mod DataLaws
 pub mod Agreement
-pub mod Laws

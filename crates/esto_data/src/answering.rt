@@ -3,7 +3,7 @@ ghost use Rattle.std.specs.Prelude.{◌≡◌, ◌≤◌};
 ghost use Rattle.esto_ports.specs.Faults.{Rises};
 ghost use Rattle.esto_data.specs.Coding.{IsCoded, IsCodedOf};
 ghost use Rattle.esto_fill.specs.declared.loaded.Loaded.{Loaded};
-ghost use Rattle.esto_data.specs.Answer.{IsUnionAnswerOfFacts, answer_course, answers_facts, answers_read, answers_union, lists_texts};
+ghost use Rattle.esto_data.specs.Answer.{IsUnionAnswerOfFacts, answers_facts, answers_union, lists_texts};
 ghost use Rattle.esto_status.specs.Answers.{Answers};
 ghost use Rattle.esto_status.specs.Asked.{AsksIn};
 ghost use Rattle.esto_query.specs.Unions.{FormUnion};
@@ -13,12 +13,11 @@ use crate::coded_data::CodedData;
 use crate::unions::load_union;
 use esto_fill::{AnswerError, answers_rest_on_wanted_facts};
 use esto_mapping::Catalogue;
-use esto_opening::{open_catalogue, open_union};
 use esto_ports::Shelf;
 use esto_query::Queries;
 use esto_run::union_rows_text;
 use esto_status::{Reply, Status};
-use esto_term::{Text, TextRows};
+use esto_term::TextRows;
 use std::alloc::Global;
 
 // The answers of the queries together over the facts as rows of texts, or the status of a node in one.
@@ -48,8 +47,8 @@ fn answer_data(alloc: Global, queries: &Queries, coded: CodedData) -> Result<Rep
     Ok(Reply::Done(text))
 }
 
-// Loads the datasets that one of the queries names, and gives the text of the answers of their union.
-fn answer_queries<S: Shelf>(
+/// Loads the datasets that one of the queries names, and gives the text of the answers of their union.
+pub fn answer_queries<S: Shelf>(
     alloc: Global,
     shelf: &mut S,
     catalogue: &Catalogue,
@@ -66,41 +65,4 @@ fn answer_queries<S: Shelf>(
     answers_rest_on_wanted_facts();
     let coded = load_union(alloc, shelf, catalogue, queries)?;
     answer_data(alloc, queries, coded)
-}
-
-// Fetches and reads the union of queries, and answers it.
-fn answer_read<S: Shelf>(
-    alloc: Global,
-    shelf: &mut S,
-    catalogue: &Catalogue,
-    query: &Text,
-) -> Result<Reply, Status>
-    ensures answer { Answers (answers_read (S.files shelf.old) query.now catalogue.now)
-        (Rises S.faults shelf.old shelf.new) result }
-    ensures asked { AsksIn (S.asked shelf.old) (S.asked shelf.new)
-        (answers_read (S.files shelf.old) query.now catalogue.now) result }
-    ensures files { S.files shelf.new ≡ S.files shelf.old }
-    ensures later { S.faults shelf.old ≤ S.faults shelf.new }
-{
-    let queries = open_union(alloc, shelf, query, catalogue)?;
-    answer_queries(alloc, shelf, catalogue, &queries)
-}
-
-/// Fetches and reads the catalogue, then the union of queries, loads the datasets that one of them names, and gives the text
-/// of their answers over the facts.
-pub fn answer<S: Shelf>(
-    alloc: Global,
-    shelf: &mut S,
-    catalogue: &Text,
-    query: &Text,
-) -> Result<Reply, Status>
-    ensures answer { Answers (answer_course (S.files shelf.old) catalogue.now query.now)
-        (Rises S.faults shelf.old shelf.new) result }
-    ensures asked { AsksIn (S.asked shelf.old) (S.asked shelf.new)
-        (answer_course (S.files shelf.old) catalogue.now query.now) result }
-    ensures files { S.files shelf.new ≡ S.files shelf.old }
-    ensures later { S.faults shelf.old ≤ S.faults shelf.new }
-{
-    let catalogue = open_catalogue(alloc, shelf, catalogue)?;
-    answer_read(alloc, shelf, &catalogue, query)
 }

@@ -9,7 +9,7 @@ ghost use Rattle.esto_semantics.specs.declared.fact.Fact.{Fact};
 ghost use Rattle.esto_term.specs.declared.term.Term.{Term};
 ghost use Rattle.esto_status.specs.Answers.{Answers};
 ghost use Rattle.esto_status.specs.Asked.{AsksIn};
-ghost use Rattle.esto_data.specs.Audit.{HoldContents, HoldsAudit, audit_course, audit_text, audits_catalogue, audits_facts, audits_rows, judges_views, tells};
+ghost use Rattle.esto_data.specs.Audit.{HoldContents, HoldsAudit, audit_text, audits_catalogue, audits_facts, audits_rows, judges_views, tells};
 ghost use Rattle.esto_data.specs.Datasets.{HoldsFiles};
 
 use crate::coded_audit::CodedRowsList;
@@ -20,10 +20,9 @@ use crate::kept::load_all;
 use crate::opened::open_all_rows;
 use esto_fill::{AnswerError, LoadList, Trial, trial_of};
 use esto_mapping::Catalogue;
-use esto_opening::open_catalogue;
 use esto_ports::Shelf;
 use esto_status::{Reply, Status};
-use esto_term::{Bytes, OutOfMemory, Text};
+use esto_term::{Bytes, OutOfMemory};
 use std::alloc::Global;
 
 // No row of a fragment's view over the facts holds a node, or the status of one that does.
@@ -149,8 +148,8 @@ fn audit_trial<S: Shelf>(
     audit_facts(alloc, shelf, catalogue, trial, &files, coded)
 }
 
-// Loads all datasets, as far as the audit rests on them, and audits their facts.
-fn audit_catalogue<S: Shelf>(
+/// Loads all datasets, as far as the audit rests on them, and audits their facts.
+pub fn audit_catalogue<S: Shelf>(
     alloc: Global,
     shelf: &mut S,
     catalogue: &Catalogue,
@@ -164,18 +163,4 @@ fn audit_catalogue<S: Shelf>(
 {
     let trial = trial_of(alloc, catalogue)?;
     audit_trial(alloc, shelf, catalogue, &trial)
-}
-
-/// Fetches and reads the catalogue, loads all datasets, opens the files of all fragments, and tells that the facts meet the
-/// rules and that each fragment holds exactly the rows of its view, or the first difference.
-pub fn audit<S: Shelf>(alloc: Global, shelf: &mut S, catalogue: &Text) -> Result<Reply, Status>
-    ensures answer { Answers (audit_course (S.files shelf.old) catalogue.now)
-        (Rises S.faults shelf.old shelf.new) result }
-    ensures asked { AsksIn (S.asked shelf.old) (S.asked shelf.new)
-        (audit_course (S.files shelf.old) catalogue.now) result }
-    ensures files { S.files shelf.new ≡ S.files shelf.old }
-    ensures later { S.faults shelf.old ≤ S.faults shelf.new }
-{
-    let catalogue = open_catalogue(alloc, shelf, catalogue)?;
-    audit_catalogue(alloc, shelf, &catalogue)
 }

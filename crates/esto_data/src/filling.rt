@@ -6,17 +6,16 @@ ghost use Rattle.esto_status.specs.Answers.{Answers};
 ghost use Rattle.esto_status.specs.Asked.{AsksIn};
 ghost use Rattle.esto_data.specs.Coding.{IsCoded, IsCodedOf};
 ghost use Rattle.esto_fill.specs.declared.loaded.Loaded.{Loaded};
-ghost use Rattle.esto_data.specs.Fill.{fill_course, fill_status, fills_file, fills_fragment, fills_named, finds_fragment, make_course};
+ghost use Rattle.esto_data.specs.Fill.{fill_status, fills_file, fills_fragment, fills_named, finds_fragment};
 
 use crate::coded_data::CodedData;
 use crate::coded_filled::fill_coded;
 use crate::datasets::load_named;
 use esto_fill::{FillError, answers_rest_on_wanted_facts};
 use esto_mapping::{Catalogue, catalogues_are_sound};
-use esto_opening::open_catalogue;
 use esto_ports::Shelf;
 use esto_status::{Reply, Status};
-use esto_term::{Bytes, Replicate, Text};
+use esto_term::{Bytes, Text};
 use esto_views::FragmentDef;
 use std::alloc::Global;
 
@@ -93,8 +92,8 @@ fn fill_fragment<S: Shelf>(
     Ok(Reply::Done(text))
 }
 
-// Finds the fragment of the name, and fills its file.
-fn fill_named<S: Shelf>(
+/// Finds the fragment of the name, and fills its file.
+pub fn fill_named<S: Shelf>(
     alloc: Global,
     shelf: &mut S,
     catalogue: &Catalogue,
@@ -109,28 +108,4 @@ fn fill_named<S: Shelf>(
 {
     let number = find_fragment(alloc, catalogue, name)?;
     fill_fragment(alloc, shelf, catalogue, number)
-}
-
-/// Fetches and reads the catalogue, finds the fragment of the name, loads the datasets that its view names, and gives the
-/// text of its file with the rows of the view over their facts.
-pub fn fill<S: Shelf>(
-    alloc: Global,
-    shelf: &mut S,
-    catalogue: &Text,
-    name: &Text,
-) -> Result<Reply, Status>
-    ensures answer { Answers (fill_course (S.files shelf.old) catalogue.now name.now)
-        (Rises S.faults shelf.old shelf.new) result }
-    ensures asked { AsksIn (S.asked shelf.old) (S.asked shelf.new)
-        (fill_course (S.files shelf.old) catalogue.now name.now) result }
-    // So it does where it is not asked what the text says when it is read.
-    ensures made { Answers (make_course (S.files shelf.old) catalogue.now name.now)
-        (Rises S.faults shelf.old shelf.new) result }
-    ensures made_asked { AsksIn (S.asked shelf.old) (S.asked shelf.new)
-        (make_course (S.files shelf.old) catalogue.now name.now) result }
-    ensures files { S.files shelf.new ≡ S.files shelf.old }
-    ensures later { S.faults shelf.old ≤ S.faults shelf.new }
-{
-    let catalogue = open_catalogue(alloc, shelf, catalogue)?;
-    fill_named(alloc, shelf, &catalogue, name)
 }

@@ -1,5 +1,6 @@
-//! The commands on data: `fill` writes the file of a fragment, `answer` answers a union of queries, and `audit` compares,
-//! each over the facts of the datasets' files, which are loaded as rows of codes. Start from `fill`, `answer` and `audit`.
+//! What the commands on data do over a catalogue that is read: `fill_named` writes the file of a fragment, `answer_queries`
+//! answers a union of queries, and `audit_catalogue` compares, each over the facts of the datasets' files, which are loaded as
+//! rows of codes.
 #![tactic(auto)]
 
 mod answering;
@@ -21,10 +22,7 @@ mod laws;
 mod opened;
 mod unions;
 
-pub use answering::answer;
-pub use auditing::audit;
-pub use filling::fill;
-pub use laws::{
-    agreeing_answers_are_one, audited_datasets_answer, data_outcomes_are_exact,
-    data_outcomes_are_one,
-};
+pub use answering::answer_queries;
+pub use auditing::audit_catalogue;
+pub use filling::fill_named;
+pub use laws::{agreeing_answers_are_one, data_laws_hold};

@@ -16,7 +16,6 @@ use Rattle.esto_read.specs.declared.read.Form.TheVariants as form
 use Rattle.esto_read.specs.declared.read.NamedQuery.{NamedQuery}
 use Rattle.esto_docmodel.specs.declared.words.Word.{Word}
 use Rattle.esto_text.specs.declared.fault.TextFault.{TextFault}
-use Rattle.esto_query.specs.Making.{query_of}
 use Rattle.esto_query.specs.Same.{IsSameQuery}
 use Rattle.esto_status.specs.Answers.{IsCaused}
 use Rattle.esto_status.specs.Calm.{AgreeCalmly}
@@ -96,9 +95,3 @@ module _ (sound : CataloguesAreSound) (one : HaveOneCatalogue) (apart : HaveNoEr
     queries_open name =
         then_agree _ ◌≡◌ IsSameQuery _ _ _ _ (fetches-agree files name QUERY_LIMIT)
         (λ bytes other_bytes goes same. subst (λ it. AgreeCalmly IsSameQuery (reads_query catalogue bytes) (reads_query other it)) same (query_agree bytes))
-
--- ---- the files of fragments
-
--- queries that say the same have one meaning
-pub same_query : (query other : Query) → IsSameQuery query other → query_of query ≡ query_of other
-same_query query other same = λ i. record { head = same.head i; body = same.body i }

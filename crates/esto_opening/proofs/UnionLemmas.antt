@@ -146,24 +146,6 @@ module _ (one : UnionOfOneIsQuery) (catalogue : Catalogue) where
     (λ (bytes, fetched, reads). (bytes, fetched, (one_read bytes query).1 reads)),
   )
 
--- a catalogue says the same as itself
-pub itself : (catalogue : Catalogue) → AreSame catalogue catalogue
-itself catalogue = record {
-  schema = refl;
-  words = refl;
-  datasets = refl;
-  names = refl;
-  views = refl;
-  patterns = refl;
-  weights = refl;
-  stores = refl;
-  rules = refl;
-  rule_names = refl;
-  given = refl;
-  ranks = refl;
-  core = refl;
-}
-
 -- a course that agrees with itself leads to what is the same as a value with which it goes on
 pub opens_alone : (files : Files) (name : List ℕ) (catalogue : Catalogue) (query : Query)
     → AgreeCalmly AreSameQueries (opens_union (Some files) name catalogue) (opens_union (Some files) name catalogue)

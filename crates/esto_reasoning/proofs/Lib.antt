@@ -2,5 +2,4 @@ pub mod Steps
 pub mod ShownLemmas
 pub mod CourseLemmas
 pub mod AlikeLemmas
-pub mod LeadLemmas
 pub mod ExactLemmas

@@ -1,5 +1,5 @@
--- The command `minimise`.
-use Rattle.std.specs.Prelude.{◌≡◌, ℕ, Bool, List, Option}
+-- What `minimise` says of a query.
+use Rattle.std.specs.Prelude.{◌≡◌, ℕ, Bool, List}
 use Rattle.esto_mapping.specs.declared.catalogue.Catalogue.{Catalogue}
 use Rattle.esto_chase.specs.Chased.{RunClashes}
 use Rattle.esto_chase_laws.specs.Runs.{start_of}
@@ -7,13 +7,9 @@ use Rattle.esto_chase_laws.specs.declared.clash.Clash.{Clash}
 use Rattle.esto_constraint.specs.Constraints.{rules_of}
 use Rattle.esto_contain.specs.Minimised.{instance_of, IsMinimised}
 use Rattle.esto_contain.specs.declared.minimising.Minimal.{Minimal}
-use Rattle.esto_course.specs.Course.{Course, judges, gives, and_then}
-use Rattle.esto_opening.specs.Opening.{opens_catalogue, opens_query}
-use Rattle.esto_status.specs.declared.reply.Reply.{Reply}
-use Rattle.esto_status.specs.declared.reply.Reply.TheVariants.{Done}
+use Rattle.esto_course.specs.Course.{Course, judges, and_then}
 use Rattle.esto_status.specs.declared.status.Status.{Status}
 use Rattle.esto_status.specs.declared.status.Status.TheVariants.{Unsatisfiable}
-use Rattle.esto_ports.specs.Files.{Files}
 use Rattle.esto_query.specs.Making.{query_of}
 use Rattle.esto_query.specs.Schemas.{names_of}
 use Rattle.esto_query.specs.declared.query.Query.{Query}
@@ -47,15 +43,3 @@ prints_minimal catalogue query minimal = judges (IsMinimalText (rules_of catalog
 -- The query is minimised, and the text is made.
 abbrev pub minimises : Catalogue → Query → Course Status (List ℕ)
 minimises catalogue query = and_then (minimises_query catalogue query) (prints_minimal catalogue query)
-
--- The query is fetched and read, and the text of what it is minimised to is the reply.
-abbrev pub minimises_read : Option Files → List ℕ → Catalogue → Course Status Reply
-minimises_read files query_name catalogue =
-    and_then (opens_query files query_name catalogue) (λ query.
-    and_then (minimises catalogue query) (λ text.
-    gives (Done text)))
-
--- The catalogue is fetched and read, then the query, and the text of what it is minimised to is the reply.
-abbrev pub minimise_course : Option Files → List ℕ → List ℕ → Course Status Reply
-minimise_course files catalogue_name query_name =
-    and_then (opens_catalogue files catalogue_name) (minimises_read files query_name)

@@ -1,21 +1,17 @@
 //! The command `contains`.
-ghost use Rattle.std.specs.Prelude.{◌≡◌, ◌≢◌, ◌≤◌, [], IfOk};
+ghost use Rattle.std.specs.Prelude.{◌≢◌, [], IfOk};
 ghost use Rattle.esto_contain.specs.Contained.{IfNo};
 ghost use Rattle.esto_status.specs.Answers.{Answers};
-ghost use Rattle.esto_status.specs.Asked.{AsksIn};
-ghost use Rattle.esto_ports.specs.Faults.{Rises};
 ghost use Rattle.esto_query.specs.Schemas.{names_of};
-ghost use Rattle.esto_reasoning.specs.Contains.{IsNoText, SaysTold, compares, compares_both, compares_right, contains_course, have_one_length, prints_told};
+ghost use Rattle.esto_reasoning.specs.Contains.{IsNoText, SaysTold, compares, have_one_length, prints_told};
 ghost use Rattle.esto_reasoning.specs.Contains.{tells_contained};
 
 use crate::printing::no_text;
 use esto_contain::{Contain, contained};
 use esto_mapping::Catalogue;
-use esto_opening::{open_catalogue, open_query};
-use esto_ports::Shelf;
 use esto_query::{Facts, Query, queries_are_sound};
-use esto_status::{Reply, Status};
-use esto_term::{Bytes, OutOfMemory, Terms, Text};
+use esto_status::Status;
+use esto_term::{Bytes, OutOfMemory, Terms};
 use esto_views::{plan_facts, renamed_plan};
 use std::alloc::Global;
 
@@ -100,9 +96,9 @@ fn text_of(
     Ok(text)
 }
 
-// What the command prints of two queries, or the status of two lengths.
+/// What the command prints of two queries, or the status of two lengths.
 #[tactic(auto, using(crate::proofs::Steps::steps))]
-fn compared(
+pub fn compared(
     alloc: Global,
     left: &Query,
     right: &Query,
@@ -114,67 +110,4 @@ fn compared(
     let told = tell(alloc, left, right, catalogue)?;
     let text = text_of(alloc, &told, left, catalogue)?;
     Ok(text)
-}
-
-// Fetches and reads the right query, and prints whether the left one is contained in it.
-#[tactic(auto, using(crate::proofs::Steps::steps, crate::proofs::Steps::asked_steps))]
-fn compare_right<S: Shelf>(
-    alloc: Global,
-    shelf: &mut S,
-    catalogue: &Catalogue,
-    left: &Query,
-    right: &Text,
-) -> Result<Reply, Status>
-    ensures answer { Answers (compares_right (S.files shelf.old) right.now catalogue.now left.now)
-        (Rises S.faults shelf.old shelf.new) result }
-    ensures asked { AsksIn (S.asked shelf.old) (S.asked shelf.new)
-        (compares_right (S.files shelf.old) right.now catalogue.now left.now) result }
-    ensures files { S.files shelf.new ≡ S.files shelf.old }
-    ensures later { S.faults shelf.old ≤ S.faults shelf.new }
-{
-    let right = open_query(alloc, shelf, right, catalogue)?;
-    let text = compared(alloc, left, &right, catalogue)?;
-    Ok(Reply::Done(text))
-}
-
-// Fetches and reads the left query, then the right one, and prints whether the left one is contained in it.
-#[tactic(auto, using(crate::proofs::Steps::steps, crate::proofs::Steps::asked_steps))]
-fn compare_both<S: Shelf>(
-    alloc: Global,
-    shelf: &mut S,
-    catalogue: &Catalogue,
-    left: &Text,
-    right: &Text,
-) -> Result<Reply, Status>
-    ensures answer { Answers (compares_both (S.files shelf.old) left.now right.now catalogue.now)
-        (Rises S.faults shelf.old shelf.new) result }
-    ensures asked { AsksIn (S.asked shelf.old) (S.asked shelf.new)
-        (compares_both (S.files shelf.old) left.now right.now catalogue.now) result }
-    ensures files { S.files shelf.new ≡ S.files shelf.old }
-    ensures later { S.faults shelf.old ≤ S.faults shelf.new }
-{
-    let left = open_query(alloc, shelf, left, catalogue)?;
-    compare_right(alloc, shelf, catalogue, &left, right)
-}
-
-/// Fetches and reads the catalogue, then the left query, then the right one, and prints whether the left query is contained in
-/// the right one under the catalogue's rules; of a no, with a database that meets the rules and a row that shows it.
-#[tactic(auto, using(crate::proofs::Steps::steps, crate::proofs::Steps::asked_steps))]
-pub fn contains<S: Shelf>(
-    alloc: Global,
-    shelf: &mut S,
-    catalogue: &Text,
-    left: &Text,
-    right: &Text,
-) -> Result<Reply, Status>
-    ensures answer { Answers
-        (contains_course (S.files shelf.old) catalogue.now left.now right.now)
-        (Rises S.faults shelf.old shelf.new) result }
-    ensures asked { AsksIn (S.asked shelf.old) (S.asked shelf.new)
-        (contains_course (S.files shelf.old) catalogue.now left.now right.now) result }
-    ensures files { S.files shelf.new ≡ S.files shelf.old }
-    ensures later { S.faults shelf.old ≤ S.faults shelf.new }
-{
-    let catalogue = open_catalogue(alloc, shelf, catalogue)?;
-    compare_both(alloc, shelf, &catalogue, left, right)
 }

@@ -1,5 +1,6 @@
-//! The commands that reason about queries alone, without data: `contains` tells whether one query is contained in another,
-//! and `minimise` lists the minimal equivalent parts of a query's chase. Start from `contains` and `minimise`.
+//! What the commands say that reason about queries alone, without data: `compared` tells whether one query is contained in
+//! another, and `minimised` lists the minimal equivalent parts of a query's chase. Each is over a catalogue and queries that are
+//! read, and returns a text.
 #![tactic(auto)]
 
 mod containing;
@@ -7,6 +8,6 @@ mod laws;
 mod minimising;
 mod printing;
 
-pub use containing::contains;
-pub use laws::{reasoned_texts_are_one, reasoning_outcomes_are_exact, reasoning_outcomes_are_one};
-pub use minimising::minimise;
+pub use containing::compared;
+pub use laws::reasoned_texts_are_one;
+pub use minimising::minimised;

@@ -1,22 +1,18 @@
 //! The command `minimise`.
-ghost use Rattle.std.specs.Prelude.{◌≡◌, ◌≤◌, IfOk};
+ghost use Rattle.std.specs.Prelude.{IfOk};
 ghost use Rattle.esto_constraint.specs.Constraints.{rules_of};
 ghost use Rattle.esto_status.specs.Answers.{Answers};
-ghost use Rattle.esto_status.specs.Asked.{AsksIn};
-ghost use Rattle.esto_ports.specs.Faults.{Rises};
 ghost use Rattle.esto_query.specs.Making.{query_of};
 ghost use Rattle.esto_query.specs.Schemas.{names_of};
-ghost use Rattle.esto_reasoning.specs.Minimise.{IsMinimalText, IsMinimisedTo, minimise_course, minimises, minimises_query, minimises_read, prints_minimal};
+ghost use Rattle.esto_reasoning.specs.Minimise.{IsMinimalText, IsMinimisedTo, minimises, minimises_query, prints_minimal};
 
 use crate::printing::minimal_text;
 use either::{Left, Right};
 use esto_contain::Minimal;
 use esto_mapping::Catalogue;
-use esto_opening::{open_catalogue, open_query};
-use esto_ports::Shelf;
 use esto_query::Query;
-use esto_status::{Reply, Status};
-use esto_term::{Bytes, OutOfMemory, Text};
+use esto_status::Status;
+use esto_term::{Bytes, OutOfMemory};
 use std::alloc::Global;
 
 // The query's minimal equivalent parts, or the status of the clash at which its run ends.
@@ -67,52 +63,12 @@ fn text_of(
     Ok(text)
 }
 
-// What the command prints of a query, or the status of the clash at which its run ends.
+/// What the command prints of a query, or the status of the clash at which its run ends.
 #[tactic(auto, using(crate::proofs::Steps::steps))]
-fn minimised(alloc: Global, query: &Query, catalogue: &Catalogue) -> Result<Bytes, Status>
+pub fn minimised(alloc: Global, query: &Query, catalogue: &Catalogue) -> Result<Bytes, Status>
     ensures { Answers (minimises catalogue.now query.now) ⊥ result }
 {
     let minimal = minimal_of(alloc, query, catalogue)?;
     let text = text_of(alloc, &minimal, query, catalogue)?;
     Ok(text)
-}
-
-// Fetches and reads the query, and prints what it is minimised to.
-#[tactic(auto, using(crate::proofs::Steps::steps, crate::proofs::Steps::asked_steps))]
-fn minimise_read<S: Shelf>(
-    alloc: Global,
-    shelf: &mut S,
-    catalogue: &Catalogue,
-    query: &Text,
-) -> Result<Reply, Status>
-    ensures answer { Answers (minimises_read (S.files shelf.old) query.now catalogue.now)
-        (Rises S.faults shelf.old shelf.new) result }
-    ensures asked { AsksIn (S.asked shelf.old) (S.asked shelf.new)
-        (minimises_read (S.files shelf.old) query.now catalogue.now) result }
-    ensures files { S.files shelf.new ≡ S.files shelf.old }
-    ensures later { S.faults shelf.old ≤ S.faults shelf.new }
-{
-    let query = open_query(alloc, shelf, query, catalogue)?;
-    let text = minimised(alloc, &query, catalogue)?;
-    Ok(Reply::Done(text))
-}
-
-/// Fetches and reads the catalogue, then the query, and prints the last facts of the query's run, its head, and the minimal
-/// sets of these facts that are equivalent to the query under the catalogue's rules.
-#[tactic(auto, using(crate::proofs::Steps::steps, crate::proofs::Steps::asked_steps))]
-pub fn minimise<S: Shelf>(
-    alloc: Global,
-    shelf: &mut S,
-    catalogue: &Text,
-    query: &Text,
-) -> Result<Reply, Status>
-    ensures answer { Answers (minimise_course (S.files shelf.old) catalogue.now query.now)
-        (Rises S.faults shelf.old shelf.new) result }
-    ensures asked { AsksIn (S.asked shelf.old) (S.asked shelf.new)
-        (minimise_course (S.files shelf.old) catalogue.now query.now) result }
-    ensures files { S.files shelf.new ≡ S.files shelf.old }
-    ensures later { S.faults shelf.old ≤ S.faults shelf.new }
-{
-    let catalogue = open_catalogue(alloc, shelf, catalogue)?;
-    minimise_read(alloc, shelf, &catalogue, query)
 }

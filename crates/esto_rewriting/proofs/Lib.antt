@@ -7,12 +7,7 @@ mod Steps
 mod NamingLemmas
 mod JudgeLemmas
 mod AskedLemmas
-mod VerifyAlikeLemmas
-mod VerdictLemmas
-mod ExplainLemmas
-mod StatusLemmas
-mod VerifiedLemmas
-mod ExplainedLemmas
+pub mod ExplainLemmas
 pub mod CertifiedLemmas
 pub mod TextLemmas
 pub mod ZipLemmas

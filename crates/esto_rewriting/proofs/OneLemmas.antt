@@ -26,7 +26,7 @@ use Rattle.esto_union.specs.Unions.{queries_of}
 use Rattle.esto_views.specs.Fragments.{patterns_of, views_of}
 use Rattle.esto_views.specs.Plans.{plan_query}
 use Rattle.esto_views.specs.declared.plan.Plan.{Plan}
-use Rattle.esto_opening.proofs.AlikeLemmas.{same_query}
+use Rattle.esto_run.proofs.SameLemmas.{same_query}
 use Rattle.esto_rewriting.specs.UnionLaws.{IsSameMember, MembersAreOne, UnionListsAreOne}
 use Rattle.esto_rewriting.specs.List.{IsMemberText, IsUnionText, disjunct_text}
 use Rattle.esto_rewriting.specs.Members.{IsListIn, IsMemberOf, has_plan}

@@ -17,7 +17,7 @@ use Rattle.esto_views.specs.Fragments.{views_of, patterns_of}
 use Rattle.esto_views.specs.Plans.{plan_query}
 use Rattle.esto_views.specs.declared.plan.Plan.{Plan}
 use Rattle.esto_query.specs.Same.{IsSameQuery}
-use Rattle.esto_opening.proofs.AlikeLemmas.{same_query}
+use Rattle.esto_run.proofs.SameLemmas.{same_query}
 use Rattle.esto_rewriting.specs.Listing.{IsClash, IsListing, IsListOf, IsPlanned, HasListedSets}
 use Rattle.esto_rewriting.proofs.OneListLemmas.{text_moved}
 

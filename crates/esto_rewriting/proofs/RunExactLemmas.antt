@@ -41,7 +41,7 @@ use Rattle.esto_term.proofs.ZipLemmas.{zip_left}
 use Rattle.esto_term.specs.declared.term.Term.{Term}
 use Rattle.esto_union.specs.Unions.{queries_of}
 use Rattle.esto_views.specs.Fragments.{views_of}
-use Rattle.esto_opening.proofs.UnionLemmas.{itself}
+use Rattle.esto_run.proofs.SameLemmas.{itself}
 use Rattle.esto_status.proofs.StatusLemmas.{done_not_clash, same_clash, done_not_above, clash_not_above, none_not_above, same_asked, same_least}
 use Rattle.esto_rewriting.specs.Exact.{HasNoRewriting, HaveAnswers}
 use Rattle.esto_rewriting.specs.UnionLaws.{EmptyListsAreTold, IsSameMember, MembersAreOne, MembersTellSatisfiable}

@@ -1,16 +1,13 @@
--- The command `verify`.
+-- What `verify` says of a query.
 use Rattle.std.specs.Prelude.{◌≡◌, ◌↔◌, ℕ, ◌+◌, nat_lt, Bool, List, [], ◌∷◌, length, Option, Some, None, Contains, if◌then◌else◌, codes}
 use Rattle.esto_mapping.specs.declared.catalogue.Catalogue.{Catalogue}
 use Rattle.esto_cert.specs.Judging.{DecidesFor}
-use Rattle.esto_course.specs.Course.{Course, judges, gives, and_then}
+use Rattle.esto_course.specs.Course.{Course, judges, and_then}
 use Rattle.esto_ports.specs.Files.{Files}
 use Rattle.esto_query.specs.declared.query.Query.{Query}
 use Rattle.esto_term.specs.Sets.{Has}
 use Rattle.esto_views.specs.declared.plan.Plan.{Plan}
 use Rattle.esto_status.specs.Fetch.{fetches}
-use Rattle.esto_opening.specs.Opening.{opens_catalogue, opens_query}
-use Rattle.esto_status.specs.declared.reply.Reply.{Reply}
-use Rattle.esto_status.specs.declared.reply.Reply.TheVariants.{Done}
 use Rattle.esto_status.specs.declared.status.Status.{Status}
 use Rattle.esto_status.specs.declared.status.Status.TheVariants.{NoSuchNumber, Rejected}
 use Rattle.esto_rewriting.specs.Planning.{plans_query}
@@ -60,15 +57,3 @@ verifies_query files numbers file catalogue query =
     and_then (plans_query catalogue query) (λ plan.
     and_then (names_set plan numbers) (λ set.
     verifies_set files catalogue query plan file set))
-
--- The query is fetched and read, and the certificate is verified.
-abbrev pub verifies_read : Option Files → List ℕ → List ℕ → List ℕ → Catalogue → Course Status Reply
-verifies_read files query_name numbers file catalogue =
-    and_then (opens_query files query_name catalogue) (λ query.
-    and_then (verifies_query files numbers file catalogue query) (λ text.
-    gives (Done text)))
-
--- The catalogue is fetched and read, then the query, and the certificate is verified.
-abbrev pub verify_course : Option Files → List ℕ → List ℕ → List ℕ → List ℕ → Course Status Reply
-verify_course files catalogue_name query_name numbers file =
-    and_then (opens_catalogue files catalogue_name) (verifies_read files query_name numbers file)

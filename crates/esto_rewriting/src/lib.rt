@@ -1,8 +1,9 @@
-//! The commands over plans, sets and certificates, and over unions, below the top call. A query's printed plan, its list and
-//! the choice of an item: start from `printed_plan`, `plan_of`, `listing_of`, `list_of` and `choose`. Certificates: start from
-//! `explain`, which writes one for a listed set of a plan, and from `verify`, which checks that one shows that the atoms of a
-//! plan that are named by their numbers answer the query. Unions of two or more queries: start from `members_of`, which are
-//! the union's queries with their plans and lists in it, and from `list_union` and `run_union`.
+//! What the commands do over plans, sets and certificates, and over unions, where the catalogue and the queries are read. A
+//! query's printed plan, its list and the choice of an item: start from `printed_plan`, `plan_of`, `listing_of`, `list_of` and
+//! `choose`. Certificates: start from `explain_query`, which writes one for a listed set of a plan, and from `verify_query`,
+//! which fetches one and checks that it shows that the atoms of a plan that are named by their numbers answer the query. Unions
+//! of two or more queries: start from `members_of`, which are the union's queries with their plans and lists in it, and from
+//! `list_union` and `run_union`.
 #![tactic(auto)]
 
 mod certificate_laws;
@@ -18,12 +19,9 @@ mod run;
 mod union_laws;
 mod verifying;
 
-pub use certificate_laws::{
-    explain_has_one_status, explain_says_certificates, sets_have_certificates,
-    verify_checks_certificates, verify_outcomes_are_one, verify_says_verdicts,
-};
+pub use certificate_laws::sets_have_certificates;
 pub use choice::choose;
-pub use explaining::explain;
+pub use explaining::explain_query;
 pub use list::list_union;
 pub use members::{Member, Members, clash_of, copy_clash, members_of};
 pub use planned_laws::{
@@ -42,4 +40,4 @@ pub use union_laws::{
     union_lists_are_moved, union_lists_are_one, union_runs_are_exact, union_runs_are_moved,
     union_runs_are_one,
 };
-pub use verifying::verify;
+pub use verifying::verify_query;

@@ -5,17 +5,16 @@ ghost use Rattle.esto_term.specs.Sets.{Has};
 ghost use Rattle.esto_status.specs.Answers.{Answers};
 ghost use Rattle.esto_status.specs.Asked.{AsksIn};
 ghost use Rattle.esto_rewriting.specs.Listing.{IsPlanned};
-ghost use Rattle.esto_rewriting.specs.Verify.{judges_certificate, names_set, verifies_query, verifies_read, verifies_set, verify_course};
+ghost use Rattle.esto_rewriting.specs.Verify.{judges_certificate, names_set, verifies_query, verifies_set};
 
 use crate::planned_laws::planned_plans_have_their_form;
 use crate::planning::plan_of;
 use esto_bits::RowBits;
 use esto_cert::{CertError, check_certificate};
 use esto_mapping::Catalogue;
-use esto_opening::{open_catalogue, open_query};
 use esto_ports::Shelf;
 use esto_query::Query;
-use esto_status::{DATA_LIMIT, Reply, Status, fetch};
+use esto_status::{DATA_LIMIT, Status, fetch};
 use esto_term::{Bytes, Text};
 use esto_views::Plan;
 use std::alloc::Global;
@@ -99,9 +98,9 @@ fn verify_set<S: Shelf>(
     Ok(text)
 }
 
-// Makes the query's printed plan and the set of its atoms of these numbers, and verifies the certificate for the set.
+/// Makes the query's printed plan and the set of its atoms of these numbers, and verifies the certificate for the set.
 #[tactic(auto, using(crate::proofs::Steps::run_steps, crate::proofs::Steps::asked_steps))]
-fn verify_query<S: Shelf>(
+pub fn verify_query<S: Shelf>(
     alloc: Global,
     shelf: &mut S,
     query: &Query,
@@ -120,50 +119,4 @@ fn verify_query<S: Shelf>(
     let set = named_set(alloc, numbers, &plan)?;
     let text = verify_set(alloc, shelf, &set, &plan, query, catalogue, file)?;
     Ok(text)
-}
-
-// Fetches and reads the query, and verifies the certificate for the set of its plan's atoms of these numbers.
-#[tactic(auto, using(crate::proofs::Steps::steps, crate::proofs::Steps::asked_steps))]
-fn verify_read<S: Shelf>(
-    alloc: Global,
-    shelf: &mut S,
-    catalogue: &Catalogue,
-    query: &Text,
-    numbers: &[u64],
-    file: &Text,
-) -> Result<Reply, Status>
-    ensures answer { Answers
-        (verifies_read (S.files shelf.old) query.now numbers.now file.now catalogue.now)
-        (Rises S.faults shelf.old shelf.new) result }
-    ensures asked { AsksIn (S.asked shelf.old) (S.asked shelf.new)
-        (verifies_read (S.files shelf.old) query.now numbers.now file.now catalogue.now) result }
-    ensures files { S.files shelf.new ≡ S.files shelf.old }
-    ensures later { S.faults shelf.old ≤ S.faults shelf.new }
-{
-    let query = open_query(alloc, shelf, query, catalogue)?;
-    let text = verify_query(alloc, shelf, &query, catalogue, numbers, file)?;
-    Ok(Reply::Done(text))
-}
-
-/// Fetches and reads the catalogue, then the query, makes the query's printed plan and the set of its atoms of these
-/// numbers, counted from 1, and then fetches the certificate and checks it for the set, which need not be listed. It says
-/// that the certificate is accepted, or refuses it with the first line that is not so.
-#[tactic(auto, using(crate::proofs::Steps::steps, crate::proofs::Steps::asked_steps))]
-pub fn verify<S: Shelf>(
-    alloc: Global,
-    shelf: &mut S,
-    catalogue: &Text,
-    query: &Text,
-    numbers: &[u64],
-    file: &Text,
-) -> Result<Reply, Status>
-    ensures answer { Answers (verify_course (S.files shelf.old) catalogue.now query.now
-        numbers.now file.now) (Rises S.faults shelf.old shelf.new) result }
-    ensures asked { AsksIn (S.asked shelf.old) (S.asked shelf.new) (verify_course
-        (S.files shelf.old) catalogue.now query.now numbers.now file.now) result }
-    ensures files { S.files shelf.new ≡ S.files shelf.old }
-    ensures later { S.faults shelf.old ≤ S.faults shelf.new }
-{
-    let catalogue = open_catalogue(alloc, shelf, catalogue)?;
-    verify_read(alloc, shelf, &catalogue, query, numbers, file)
 }

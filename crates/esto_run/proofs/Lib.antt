@@ -11,3 +11,4 @@ pub mod FragmentRefusalLemmas
 pub mod ReadableLemmas
 pub mod StoreAlikeLemmas
 pub mod RowsTextLemmas
+pub mod SameLemmas

@@ -1,5 +1,5 @@
 -- No course stops with Done.
-use Rattle.std.proofs.Common.{◌≢◌, ℕ, suc, List, [], ◌∷◌, Some}
+use Rattle.std.proofs.Common.{◌≡◌, ◌≢◌, ℕ, suc, List, [], ◌∷◌, Some, sym, ◌∙◌}
 use Rattle.esto_course.specs.Course.{Course, and_then, each, gives, judges}
 use Rattle.esto_ports.specs.Files.{Files}
 use Rattle.esto_status.specs.Calm.{Leads}

@@ -1,6 +1,6 @@
 -- Courses that agree say one status and one text. Read faults are left aside.
 use Rattle.std.proofs.Common.{◌≡◌, ℕ, List, sym, ap, ◌∙◌}
-use Rattle.esto_rewriting.specs.CertificateLaws.{AreDone}
+use Rattle.esto_top.specs.CertificateLaws.{AreDone}
 use Rattle.esto_course.specs.Course.{Course}
 use Rattle.esto_status.specs.Calm.{AgreeCalmly}
 use Rattle.esto_status.specs.Line.{line_of}

@@ -2,10 +2,11 @@
 use Rattle.std.proofs.Common.{◌≡◌, ℕ, List, [], ◌∷◌, map, slice_get, Contains, Some, refl, sym, ap, subst, ◌∙◌}
 use Rattle.std.proofs.lemmas.Option.{none-some, same_Some}
 use Rattle.esto_mapping.specs.declared.catalogue.Catalogue.{Catalogue}
-use Rattle.esto_data.specs.Answer.{IsAnswerOfFacts, IsUnionAnswerOfFacts, answer_course}
-use Rattle.esto_data.specs.Audit.{audit_course}
+use Rattle.esto_data.specs.Answer.{IsAnswerOfFacts, IsUnionAnswerOfFacts}
+use Rattle.esto_top.specs.Answer.{answer_course}
+use Rattle.esto_top.specs.Audit.{audit_course}
 use Rattle.esto_data.specs.Exact.{PrintsAnswersOfFacts, PrintsRows}
-use Rattle.esto_data.specs.Laws.{AreAudited, AuditsRefuse, RepliesAreAudited}
+use Rattle.esto_top.specs.DataLaws.{AreAudited, AuditsRefuse, RepliesAreAudited}
 use Rattle.esto_rewriting.specs.RunExact.{PrintsUnionAnswers}
 use Rattle.esto_fill.specs.Databases.{database_of}
 use Rattle.esto_fill.specs.Texts.{AreTextsOf}

@@ -36,7 +36,7 @@ use Rattle.esto_status.specs.declared.reply.Reply.{Reply}
 use Rattle.esto_status.specs.declared.reply.Reply.TheVariants.{Done}
 use Rattle.esto_status.specs.declared.status.Status.{Status}
 use Rattle.esto_status.specs.declared.status.Status.TheVariants.{Differs, NodeInRow}
-use Rattle.esto_opening.proofs.UnionLemmas.{itself}
+use Rattle.esto_run.proofs.SameLemmas.{itself}
 use Rattle.esto_ports.specs.Files.{Files}
 use Rattle.esto_query.specs.Making.{query_of}
 use Rattle.esto_query.specs.declared.query.Name.{Name}

@@ -2,10 +2,11 @@
 use Rattle.std.proofs.Common.{◌≡◌, ◌↔◌, ℕ, Bool, List, length, Option, Some, None, sym, ap, subst, ◌∙◌, inl, inr}
 use Rattle.std.proofs.lemmas.Option.{none-some, same_Some}
 use Rattle.esto_mapping.specs.declared.catalogue.Catalogue.{Catalogue}
-use Rattle.esto_rewriting.specs.CertificateLaws.{Certifies, IsChecked, IsVerified, SaysVerdict, VerifyChecksCertificates, VerifyIsOne, VerifySaysVerdicts}
-use Rattle.esto_rewriting.specs.CertificateLaws.IsChecked.{is_above, not_fetched, accepts, rejects}
-use Rattle.esto_rewriting.specs.CertificateLaws.IsVerified.{clashes, has_plan}
-use Rattle.esto_rewriting.specs.Verify.{first_above, HasVerdict, IsSetOf, verify_course}
+use Rattle.esto_top.specs.CertificateLaws.{Certifies, IsChecked, IsVerified, SaysVerdict, VerifyChecksCertificates, VerifyIsOne, VerifySaysVerdicts}
+use Rattle.esto_top.specs.CertificateLaws.IsChecked.{is_above, not_fetched, accepts, rejects}
+use Rattle.esto_top.specs.CertificateLaws.IsVerified.{clashes, has_plan}
+use Rattle.esto_rewriting.specs.Verify.{first_above, HasVerdict, IsSetOf}
+use Rattle.esto_top.specs.Verify.{verify_course}
 use Rattle.esto_status.specs.declared.limits.TheConstants.{DATA_LIMIT}
 use Rattle.esto_course.proofs.Determined.{judges_agree, then_agree}
 use Rattle.esto_course.specs.Course.{and_then, judges}

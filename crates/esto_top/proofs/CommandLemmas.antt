@@ -1,15 +1,20 @@
 -- The courses of commands below the top call come to an end or ask for a file that is not there.
 use Rattle.std.proofs.Common.{ℕ, List, Some}
-use Rattle.esto_rewriting.specs.Verify.{verifies_query, verifies_read, verify_course}
+use Rattle.esto_rewriting.specs.Verify.{verifies_query}
+use Rattle.esto_top.specs.Verify.{verifies_read, verify_course}
 use Rattle.esto_chase_laws.specs.RunLaws.{RulesAreDecided}
 use Rattle.esto_course.specs.Course.{and_then, gives}
-use Rattle.esto_data.specs.Answer.{answer_course, answers_read, answers_union}
-use Rattle.esto_data.specs.Audit.{audit_course, audits_catalogue}
+use Rattle.esto_data.specs.Answer.{answers_union}
+use Rattle.esto_top.specs.Answer.{answer_course, answers_read}
+use Rattle.esto_data.specs.Audit.{audits_catalogue}
+use Rattle.esto_top.specs.Audit.{audit_course}
 use Rattle.esto_opening.specs.Opening.{opens_catalogue, opens_query, opens_union}
 use Rattle.esto_status.specs.declared.reply.Reply.TheVariants.{Done}
 use Rattle.esto_ports.specs.Files.{Files}
-use Rattle.esto_reasoning.specs.Contains.{compares, compares_both, compares_right, contains_course}
-use Rattle.esto_reasoning.specs.Minimise.{minimise_course, minimises, minimises_read}
+use Rattle.esto_reasoning.specs.Contains.{compares}
+use Rattle.esto_top.specs.Contains.{compares_both, compares_right, contains_course}
+use Rattle.esto_reasoning.specs.Minimise.{minimises}
+use Rattle.esto_top.specs.Minimise.{minimise_course, minimises_read}
 use Rattle.esto_semantics.specs.Standing.{RulesStand}
 use Rattle.esto_top.specs.Ends.{EndsOrLacks}
 use Rattle.esto_top.specs.LawsBelow.{BelowLaws, ReadingLaws, ReasoningLaws}

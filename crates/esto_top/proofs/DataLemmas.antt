@@ -1,12 +1,12 @@
 -- What `fill`, `answer` and `audit` answer where nothing is wrong with the files.
 use Rattle.std.proofs.Common.{ℕ, List, Option, Some, None, Result, sym, ap, subst, ◌∙◌, inl, inr}
 use Rattle.esto_course.specs.Course.{Course, Names}
-use Rattle.esto_data.specs.Answer.{answer_course}
-use Rattle.esto_data.specs.Audit.{audit_course}
+use Rattle.esto_top.specs.Answer.{answer_course}
+use Rattle.esto_top.specs.Audit.{audit_course}
 use Rattle.esto_data.specs.Exact.{IsExactAnswer, IsExactAudit, IsExactFill, IsExactUnionAnswer}
-use Rattle.esto_data.specs.Fill.{fill_course}
+use Rattle.esto_top.specs.Fill.{fill_course}
 use Rattle.esto_status.specs.Calm.{SaysAlways}
-use Rattle.esto_data.specs.Laws.{AnswersAreExact, AuditsAreExact, FillsAreExact, UnionAnswersAreExact}
+use Rattle.esto_top.specs.DataLaws.{AnswersAreExact, AuditsAreExact, FillsAreExact, UnionAnswersAreExact}
 use Rattle.esto_ports.specs.Files.{Files}
 use Rattle.esto_status.specs.declared.reply.Reply.{Reply}
 use Rattle.esto_status.specs.declared.status.Status.{Status}

@@ -10,10 +10,10 @@ use Rattle.esto_query.specs.declared.query.Query.{Query}
 use Rattle.esto_views.specs.declared.plan.Plan.{Plan}
 use Rattle.esto_top.specs.Check.{check_text, check_course, count_lines, rank_lines}
 use Rattle.esto_course.proofs.Determined.{then_agree, gives_agree, refuses_agree, judges_agree}
-use Rattle.esto_data.specs.Laws.{AnswersAreOne, AuditsAreOne, MakesAreOne}
-use Rattle.esto_rewriting.specs.CertificateLaws.{ExplainHasOneStatus, VerifyIsOne}
+use Rattle.esto_top.specs.DataLaws.{AnswersAreOne, AuditsAreOne, MakesAreOne}
+use Rattle.esto_top.specs.CertificateLaws.{ExplainHasOneStatus, VerifyIsOne}
 use Rattle.esto_bench.specs.Summary.{SummariesAreOne}
-use Rattle.esto_reasoning.specs.Laws.{ContainsIsOne, MinimiseIsOne}
+use Rattle.esto_top.specs.ReasoningLaws.{ContainsIsOne, MinimiseIsOne}
 use Rattle.esto_course.specs.Agreement.{IsEnd}
 use Rattle.esto_course.specs.Course.{Course, Names, Point}
 use Rattle.esto_course.specs.Course.Point.{went, stopped, missing}

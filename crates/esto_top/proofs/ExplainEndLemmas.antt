@@ -1,7 +1,8 @@
 -- The course of `explain` comes to an end: the set of the number has a certificate.
 use Rattle.std.proofs.Common.{◌≡◌, ℕ, List, None, Some, slice_get}
 use Rattle.esto_mapping.specs.declared.catalogue.Catalogue.{Catalogue}
-use Rattle.esto_rewriting.specs.Explain.{certifies_item, explain_course, explains_plan, explains_query, explains_read}
+use Rattle.esto_rewriting.specs.Explain.{certifies_item, explains_plan, explains_query}
+use Rattle.esto_top.specs.Explain.{explain_course, explains_read}
 use Rattle.esto_rewriting.specs.CertificateLaws.{ListedSetsHaveOne}
 use Rattle.esto_rewriting.specs.Verify.{HasVerdict}
 use Rattle.esto_course.specs.Course.{Course, and_then, gives, judges}

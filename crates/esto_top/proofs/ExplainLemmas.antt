@@ -3,9 +3,9 @@ use Rattle.std.proofs.Common.{◌≡◌, ◌≢◌, ◌↔◌, ℕ, ◌-◌, ◌
 use Rattle.std.proofs.lemmas.Option.{none-some, same_Some, slice_get_within}
 use Rattle.esto_mapping.specs.declared.catalogue.Catalogue.{Catalogue}
 use Rattle.esto_cert.specs.declared.line.Line.TheVariants.{Match}
-use Rattle.esto_rewriting.specs.Explain.{explain_course}
-use Rattle.esto_rewriting.specs.CertificateLaws.{Certifies, CertifiesOverPlans, ExplainSaysCertificates, IsExplained}
-use Rattle.esto_rewriting.specs.CertificateLaws.IsExplained.{clashes, has_no_set, explains}
+use Rattle.esto_top.specs.Explain.{explain_course}
+use Rattle.esto_top.specs.CertificateLaws.{Certifies, CertifiesOverPlans, ExplainSaysCertificates, IsExplained}
+use Rattle.esto_top.specs.CertificateLaws.IsExplained.{clashes, has_no_set, explains}
 use Rattle.esto_status.specs.declared.limits.TheConstants.{DATA_LIMIT}
 use Rattle.esto_chase_laws.specs.declared.clash.Clash.{Clash}
 use Rattle.esto_course.specs.Course.{judges}
@@ -22,7 +22,7 @@ use Rattle.esto_ports.specs.Files.{Files}
 use Rattle.esto_query.specs.declared.query.Query.{Query}
 use Rattle.esto_semantics.specs.Queries.{ConjunctiveQuery}
 use Rattle.esto_views.specs.declared.plan.Plan.{Plan}
-use Rattle.esto_opening.proofs.UnionLemmas.{itself}
+use Rattle.esto_run.proofs.SameLemmas.{itself}
 use Rattle.esto_status.proofs.StatusLemmas.{clash_not_above, none_not_above, done_not_above}
 use Rattle.esto_top.specs.CertificateOutcomes.{ExplainsWhereTold, IsExactExplain, IsNumbered, OutcomesAreExplained, OutcomesAreVerified}
 use Rattle.esto_top.specs.CertificateOutcomes.{OutcomesOfExplainAreAccepted}

@@ -3,7 +3,7 @@ use Rattle.std.proofs.Common.{◌≡◌, ◌&&◌, ℕ, true, false, Bool, List,
 use Rattle.std.proofs.lemmas.Bool.{and_parts}
 use Rattle.std.specs.Prelude.{codes, if◌then◌else◌}
 use Rattle.std.specs.Cmp.Lexicographic.{same_text}
-use Rattle.esto_rewriting.specs.Explain.{explain_course}
+use Rattle.esto_top.specs.Explain.{explain_course}
 use Rattle.esto_ports.specs.Files.{Files}
 use Rattle.esto_top.specs.CertificateOutcomes.{AsksExplain}
 use Rattle.esto_top.specs.Determined.{AsksCertificate, writes_certificate}

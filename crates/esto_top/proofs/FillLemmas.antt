@@ -12,7 +12,8 @@ use Rattle.esto_docmodel.specs.declared.file.Shape.TheVariants.{Table, Documents
 use Rattle.std.specs.List.{list_any}
 use Rattle.esto_course.specs.Course.{Course, and_then, gives}
 use Rattle.esto_data.specs.Datasets.{Names, loads}
-use Rattle.esto_data.specs.Fill.{IsFirstOf, IsMade, fill_status, gives_file, gives_fragment, gives_named, make_course, names_of}
+use Rattle.esto_data.specs.Fill.{IsFirstOf, IsMade, fill_status, gives_file, gives_fragment, gives_named, names_of}
+use Rattle.esto_top.specs.Fill.{make_course}
 use Rattle.esto_fill.specs.Databases.{database_of}
 use Rattle.esto_fill.specs.Filled.{CanHold, Fills, IsFirstUnfit, text_in, with_mark}
 use Rattle.esto_fill.specs.Texts.{AreTextsOf, HaveTextsOnly, IsFirstNodeColumn}

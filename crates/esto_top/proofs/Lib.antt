@@ -53,3 +53,15 @@ pub mod ExplainLemmas
 pub mod AtomLemmas
 pub mod AgreedLemmas
 pub mod WordLemmas
+pub mod ReasoningLeadLemmas
+pub mod ExplainedLemmas
+pub mod ExplainStatusLemmas
+pub mod VerifyVerdictLemmas
+pub mod VerifiedLemmas
+pub mod VerifyAlikeLemmas
+pub mod VerifyAskedLemmas
+pub mod AuditRefusalLemmas
+pub mod WeakerLemmas
+pub mod DataExactLemmas
+pub mod AuditedLemmas
+pub mod DataOneLemmas

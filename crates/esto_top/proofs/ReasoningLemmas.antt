@@ -2,10 +2,10 @@
 use Rattle.std.proofs.Common.{ℕ, List, Option, Some, None, subst, inl, inr}
 use Rattle.esto_ports.specs.Files.{Files}
 use Rattle.esto_status.specs.declared.status.Status.{Status}
-use Rattle.esto_reasoning.specs.Contains.{contains_course}
+use Rattle.esto_top.specs.Contains.{contains_course}
 use Rattle.esto_reasoning.specs.Exact.{IsExactContains, IsExactMinimise}
-use Rattle.esto_reasoning.specs.Laws.{ContainsIsExact, MinimiseIsExact}
-use Rattle.esto_reasoning.specs.Minimise.{minimise_course}
+use Rattle.esto_top.specs.ReasoningLaws.{ContainsIsExact, MinimiseIsExact}
+use Rattle.esto_top.specs.Minimise.{minimise_course}
 use Rattle.esto_top.specs.Grammar.{course_of}
 use Rattle.esto_top.specs.Outcome.{CompleteWhereTold, Says}
 use Rattle.esto_top.specs.ReasoningOutcomes.{ContainsWhereTold, MinimisesWhereTold, OutcomesAreContainments, OutcomesAreMinimised}

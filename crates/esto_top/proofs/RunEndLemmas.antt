@@ -15,7 +15,7 @@ use Rattle.esto_run.specs.Fragments.{with_content}
 use Rattle.esto_status.specs.declared.limits.TheConstants.{DATA_LIMIT}
 use Rattle.esto_status.specs.declared.status.Status.{Status}
 use Rattle.esto_status.specs.declared.status.Status.TheVariants.{BadFragment, NoRewriting, NoSuchNumber, Unsatisfiable}
-use Rattle.esto_opening.proofs.UnionLemmas.{itself}
+use Rattle.esto_run.proofs.SameLemmas.{itself}
 use Rattle.esto_rewriting.specs.Choice.{HasNoPlace, IsItemOf, IsPlace}
 use Rattle.esto_rewriting.specs.Choice.HasNoPlace.{is_empty, is_above}
 use Rattle.esto_rewriting.specs.Listing.{IsClash, IsListing, IsPlanned}

@@ -5,7 +5,7 @@ use Rattle.std.specs.FinMap.{get}
 use Rattle.either.specs.declared.Either.{Either}
 use Rattle.either.specs.declared.Either.TheVariants.{Left, Right}
 use Rattle.esto_mapping.specs.declared.catalogue.Catalogue.{Catalogue}
-use Rattle.esto_rewriting.specs.Verify.{verify_course}
+use Rattle.esto_top.specs.Verify.{verify_course}
 use Rattle.esto_mapping.specs.declared.dataset.Dataset.{Dataset}
 use Rattle.esto_chase_laws.specs.declared.clash.Clash.{Clash}
 use Rattle.esto_course.specs.Course.{Course, Names, and_then, demands, each, gives, judges, refuses}

@@ -27,7 +27,7 @@ use Rattle.esto_status.specs.declared.reply.Reply.{Reply}
 use Rattle.esto_status.specs.declared.reply.Reply.TheVariants.{Done, Unsatisfiable as UnsatisfiableReply}
 use Rattle.esto_status.specs.declared.status.Status.{Status}
 use Rattle.esto_status.specs.declared.status.Status.TheVariants.{NoRewriting, NoSuchNumber, Unsatisfiable}
-use Rattle.esto_opening.proofs.UnionLemmas.{itself}
+use Rattle.esto_run.proofs.SameLemmas.{itself}
 use Rattle.esto_rewriting.specs.Choice.{IsPlace}
 use Rattle.esto_rewriting.specs.Listing.{IsPlanned}
 use Rattle.esto_ports.specs.Files.{Files}

@@ -1,7 +1,7 @@
 -- What `explain` and `verify` answer where nothing is wrong with the catalogue's and the query's files.
 use Rattle.std.specs.Prelude.{◌≡◌, ◌≢◌, ◌↔◌, ℕ, ◌-◌, ◌≤◌, Bool, IsTrue, List, [], ◌∷◌, length, slice_get, Option, Some, None, codes}
 use Rattle.esto_mapping.specs.declared.catalogue.Catalogue.{Catalogue}
-use Rattle.esto_rewriting.specs.CertificateLaws.{Certifies, SaysVerdict}
+use Rattle.esto_top.specs.CertificateLaws.{Certifies, SaysVerdict}
 use Rattle.esto_rewriting.specs.Verify.{first_above, HasVerdict, IsSetOf}
 use Rattle.esto_status.specs.declared.limits.TheConstants.{DATA_LIMIT}
 use Rattle.esto_list.specs.declared.listing.Listed.{Listed}

@@ -2,7 +2,7 @@
 use Rattle.std.specs.Prelude.{◌≡◌, ℕ, List, [], ◌∷◌, Option, Some, None, Result, codes}
 use Rattle.esto_mapping.specs.declared.catalogue.Catalogue.{Catalogue}
 use Rattle.esto_data.specs.Exact.{IsExactAnswer, IsExactAudit, IsExactFill, IsExactUnionAnswer}
-use Rattle.esto_data.specs.Fill.{fill_course}
+use Rattle.esto_top.specs.Fill.{fill_course}
 use Rattle.esto_course.specs.Course.{Names}
 use Rattle.esto_status.specs.Answers.{Answers}
 use Rattle.esto_status.specs.Asked.{AsksAsTold, AsksIn}

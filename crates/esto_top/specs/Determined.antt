@@ -1,7 +1,7 @@
 -- That a command line has at most one status, and at most one text but where a certificate is written.
 use Rattle.std.specs.Prelude.{◌≡◌, ◌⊎◌, ℕ, Bool, true, false, List, Option, Some, None}
 use Rattle.std.specs.Io.KnownBytes.{Appends, Keeps}
-use Rattle.esto_rewriting.specs.CertificateLaws.{AreDone}
+use Rattle.esto_top.specs.CertificateLaws.{AreDone}
 use Rattle.esto_course.specs.Agreement.{Begins}
 use Rattle.esto_course.specs.Course.{Names, Point}
 use Rattle.esto_ports.specs.Files.{Files}

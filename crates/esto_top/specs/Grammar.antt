@@ -5,13 +5,13 @@ use Rattle.std.specs.Cmp.Lexicographic.{pointwise}
 use Rattle.std.specs.List.{list_all, slice_split}
 use Rattle.esto_ports.specs.Files.{Files}
 use Rattle.esto_bench.specs.declared.case.TheConstants.{MAX_SIZE}
-use Rattle.esto_rewriting.specs.Explain.{explain_course}
-use Rattle.esto_rewriting.specs.Verify.{verify_course}
-use Rattle.esto_data.specs.Answer.{answer_course}
-use Rattle.esto_data.specs.Audit.{audit_course}
-use Rattle.esto_data.specs.Fill.{make_course}
-use Rattle.esto_reasoning.specs.Contains.{contains_course}
-use Rattle.esto_reasoning.specs.Minimise.{minimise_course}
+use Rattle.esto_top.specs.Explain.{explain_course}
+use Rattle.esto_top.specs.Verify.{verify_course}
+use Rattle.esto_top.specs.Answer.{answer_course}
+use Rattle.esto_top.specs.Audit.{audit_course}
+use Rattle.esto_top.specs.Fill.{make_course}
+use Rattle.esto_top.specs.Contains.{contains_course}
+use Rattle.esto_top.specs.Minimise.{minimise_course}
 use Rattle.esto_top.specs.Bench.{bench_course}
 use Rattle.esto_top.specs.Check.{check_course}
 use Rattle.esto_course.specs.Course.{Course, and_then, judges, refuses}

@@ -17,3 +17,13 @@ pub mod DataOutcomes
 pub mod ReasoningOutcomes
 pub mod CertificateOutcomes
 pub mod Unions
+pub mod Contains
+pub mod Minimise
+pub mod ReasoningLaws
+pub mod Explain
+pub mod Verify
+pub mod CertificateLaws
+pub mod Answer
+pub mod Fill
+pub mod Audit
+pub mod DataLaws

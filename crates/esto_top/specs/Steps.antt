@@ -3,11 +3,11 @@ use Rattle.std.specs.Prelude.{◌≡◌, ◌≢◌, ℕ, ◌<◌, Bool, List, []
 use Rattle.esto_bench.specs.Summary.{IsSummaryOfCase}
 use Rattle.esto_bench.specs.declared.summary.Summary.{Summary}
 use Rattle.esto_mapping.specs.declared.catalogue.Catalogue.{Catalogue}
-use Rattle.esto_rewriting.specs.Explain.{explain_course}
-use Rattle.esto_rewriting.specs.Verify.{verify_course}
-use Rattle.esto_data.specs.Answer.{answer_course}
-use Rattle.esto_data.specs.Audit.{audit_course}
-use Rattle.esto_data.specs.Fill.{make_course}
+use Rattle.esto_top.specs.Explain.{explain_course}
+use Rattle.esto_top.specs.Verify.{verify_course}
+use Rattle.esto_top.specs.Answer.{answer_course}
+use Rattle.esto_top.specs.Audit.{audit_course}
+use Rattle.esto_top.specs.Fill.{make_course}
 use Rattle.esto_rewriting.specs.List.{lists_union}
 use Rattle.esto_rewriting.specs.Run.{runs_union}
 use Rattle.esto_list.specs.declared.listing.Listed.{Listed}
@@ -18,8 +18,8 @@ use Rattle.esto_rewriting.specs.Listing.{IsListOf, IsListing, IsPlanned}
 use Rattle.esto_rewriting.specs.Planning.{chooses, ends_query, plans_query}
 use Rattle.esto_ports.specs.Files.{Files}
 use Rattle.esto_query.specs.declared.query.Query.{Query}
-use Rattle.esto_reasoning.specs.Contains.{contains_course}
-use Rattle.esto_reasoning.specs.Minimise.{minimise_course}
+use Rattle.esto_top.specs.Contains.{contains_course}
+use Rattle.esto_top.specs.Minimise.{minimise_course}
 use Rattle.esto_run.specs.Answers.{IsAnswersText}
 use Rattle.esto_run.specs.Laws.{IsAnswerOver}
 use Rattle.esto_docs.specs.Stores.{IsFileRow}

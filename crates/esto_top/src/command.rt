@@ -9,16 +9,20 @@ ghost use Rattle.esto_top.specs.Grammar.{is_word, is_digit, is_leading_digit, is
 ghost use Rattle.esto_top.specs.Grammar.{request_of_three, request_of_four, request_of, asked, IsSized, course_of_request, number_above, numbers_above};
 ghost use Rattle.esto_top.specs.Grammar.{names_atoms, verifies_named};
 
+use crate::answer::answer;
+use crate::audit::audit;
 use crate::bench::bench;
 use crate::check::check;
+use crate::contains::contains;
+use crate::explain::explain;
+use crate::fill::fill;
 use crate::list::list;
+use crate::minimise::minimise;
 use crate::run::run;
+use crate::verify::verify;
 use esto_bench::MAX_SIZE;
 use esto_cert::parts_by_comma;
-use esto_data::{answer, audit, fill};
 use esto_ports::Shelf;
-use esto_reasoning::{contains, minimise};
-use esto_rewriting::{explain, verify};
 use esto_status::{Reply, Status};
 use esto_term::{OutOfMemory, Text, Values};
 use std::alloc::Global;

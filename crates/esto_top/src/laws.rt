@@ -1,36 +1,33 @@
 //! Laws of outcomes.
-ghost use Rattle.esto_data.specs.Laws.{FillsAreExact};
-ghost use Rattle.esto_top.specs.CertificateOutcomes.{OutcomesAreExplained, OutcomesAreVerified};
-ghost use Rattle.esto_top.specs.CertificateOutcomes.{OutcomesOfExplainAreAccepted};
-ghost use Rattle.esto_top.specs.DataOutcomes.{OutcomesAgree, OutcomesAreAnswers};
-ghost use Rattle.esto_top.specs.DataOutcomes.{OutcomesAreAudits};
-ghost use Rattle.esto_top.specs.DataOutcomes.{OutcomesAreUnionAnswers};
-ghost use Rattle.esto_top.specs.Determined.{AskedBeginsFetches, CoursesAreOne};
-ghost use Rattle.esto_top.specs.Determined.{FetchesAreDetermined, OutcomesAreDetermined};
-ghost use Rattle.esto_top.specs.Existing.{FetchesExist, OutcomesAreWhereFilesAre, OutcomesExist};
-ghost use Rattle.esto_top.specs.Existing.{OutcomesHaveFiles, OutcomesLackNone};
+ghost use Rattle.esto_top.specs.DataLaws.{FillsAreExact};
+ghost use Rattle.esto_top.specs.CertificateOutcomes.{OutcomesAreExplained, OutcomesAreVerified, OutcomesOfExplainAreAccepted};
+ghost use Rattle.esto_top.specs.DataOutcomes.{OutcomesAgree, OutcomesAreAnswers, OutcomesAreAudits, OutcomesAreUnionAnswers};
+ghost use Rattle.esto_top.specs.Determined.{AskedBeginsFetches, CoursesAreOne, FetchesAreDetermined, OutcomesAreDetermined};
+ghost use Rattle.esto_top.specs.Existing.{FetchesExist, OutcomesAreWhereFilesAre, OutcomesExist, OutcomesHaveFiles, OutcomesLackNone};
 ghost use Rattle.esto_top.specs.Headline.{OutcomesAreLists, OutcomesAreRefusals};
 ghost use Rattle.esto_top.specs.Laws.{ListingLaws, OpeningLaws, PlanningLaws, StepLaws};
 ghost use Rattle.esto_top.specs.ReasoningOutcomes.{OutcomesAreContainments, OutcomesAreMinimised};
 ghost use Rattle.esto_top.specs.Runs.{OutcomesAreRuns};
-ghost use Rattle.esto_top.specs.Unions.{OutcomesAreUnionLists, OutcomesAreUnionRuns};
-ghost use Rattle.esto_top.specs.Unions.{UnionOutcomesAgree};
+ghost use Rattle.esto_top.specs.Unions.{OutcomesAreUnionLists, OutcomesAreUnionRuns, UnionOutcomesAgree};
 
+use crate::certificate_laws::{
+    explain_has_one_status, explain_says_certificates, verify_checks_certificates,
+    verify_outcomes_are_one, verify_says_verdicts,
+};
+use crate::data_laws::{audited_datasets_answer, data_outcomes_are_exact, data_outcomes_are_one};
 use crate::ends::{
     cases_have_summaries, commands_come_to_an_end, files_are_opened, plans_have_lists,
     queries_have_plans_or_clashes, sets_are_run, unions_are_listed_and_run,
 };
+use crate::reasoning_laws::{reasoning_outcomes_are_exact, reasoning_outcomes_are_one};
 use esto_backchase::listed_sets_cover_rewritings;
 use esto_bench::summaries_are_one;
-use esto_data::{audited_datasets_answer, data_outcomes_are_exact, data_outcomes_are_one};
 use esto_opening::{opened_unions_are_queries, openings_are_one};
-use esto_reasoning::{reasoning_outcomes_are_exact, reasoning_outcomes_are_one};
 use esto_rewriting::{
-    chosen_items_are_listed, explain_has_one_status, explain_says_certificates,
-    planned_plans_are_universal, planned_plans_have_their_form, plans_and_lists_are_moved,
-    plans_and_lists_are_one, union_lists_are_exact, union_lists_are_moved, union_lists_are_one,
-    union_runs_are_exact, union_runs_are_moved, union_runs_are_one, verify_checks_certificates,
-    verify_outcomes_are_one, verify_says_verdicts,
+    chosen_items_are_listed, planned_plans_are_universal, planned_plans_have_their_form,
+    plans_and_lists_are_moved, plans_and_lists_are_one, union_lists_are_exact,
+    union_lists_are_moved, union_lists_are_one, union_runs_are_exact, union_runs_are_moved,
+    union_runs_are_one,
 };
 use esto_run::{
     fragment_files_are_one, readable_fragments_are_opened, rewritings_answer_queries,

@@ -3,8 +3,6 @@ use Rattle.esto_data.proofs.laws.data_laws_hold.Goals as goal
 pub returns : goal.returns
 returns c = record {
   rules = c.rules_are_sound.ensures.rules;
-  catalogues = c.openings_are_one.ensures.catalogues;
-  unions = c.openings_are_one.ensures.unions;
   fragment = c.fragment_files_are_one.ensures.fragment;
   fragments = c.fragment_files_are_one.ensures.fragments;
   file = c.fragment_files_are_one.ensures.file;

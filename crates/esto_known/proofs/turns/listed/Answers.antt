@@ -5,7 +5,7 @@ pub entries-init : goal.entries-init
 entries-init c = turns_none c.new-turns.result.items
 
 pub entries-preserved : goal.entries-preserved
-entries-preserved c = turns_more c.entries.turns.items c.push.new.turns.items (record { size = c.size-size.result; place = c.entries.place })
+entries-preserved c = turns_more c.entries.turns.items c.push.new.items.items (record { size = c.size-size.result; place = c.entries.place })
     c.in_ok-push.ensures c.entries.invariant
 
 pub returns : goal.returns
