@@ -1,5 +1,5 @@
 -- How a set of a plan's atoms is tested: its part of the plan's expansion, chased, receives the query or not.
-use Rattle.std.specs.Prelude.{◌≡◌, Bool, List, [], length}
+use Rattle.std.specs.Prelude.{◌≡◌, Bool, List, length}
 use Rattle.esto_mapping.specs.declared.catalogue.Catalogue.{Catalogue}
 use Rattle.esto_constraint.specs.Constraints.{rules_of}
 use Rattle.esto_query.specs.Making.{query_of}

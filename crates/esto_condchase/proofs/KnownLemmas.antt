@@ -1,6 +1,7 @@
 -- Turns of the loops that gather what is group and what is reached.
 use Rattle.std.proofs.Common.{◌≡◌, ◌⊎◌, ◌↔◌, ◌<◌, ◌+◌, inl, inr, ℕ, Bool, List, [], ◌∷◌, ◌++◌, length, map, set, get_or, slice_get, Some, Contains}
 use Rattle.std.proofs.Common.{sym, ap, ◌∙◌, subst, arith}
+use Rattle.std.proofs.lemmas.List.{nil_from_length}
 use Rattle.std.specs.List.{AllZip}
 use Rattle.std.proofs.lemmas.Bool.{cases_lt}
 use Rattle.std.proofs.lemmas.List.{get_or-set_other, get_or-set_same, get_or_default, length-set}
@@ -20,7 +21,7 @@ use Rattle.esto_chase_laws.specs.Worlds.{AreOfCount}
 use Rattle.esto_known.specs.Groups.{AreGroups}
 use Rattle.esto_known.specs.declared.group.Group.{Group}
 use Rattle.esto_condchase.specs.declared.reached.Reached.{Reached}
-use Rattle.esto_known.proofs.TouchLemmas.{none_covered}
+use Rattle.esto_bits.proofs.JoinLemmas.{covers_none}
 
 -- ---- what is reached
 
@@ -162,7 +163,8 @@ module _ (groups : List Group) (from these : List Term) (atom : Fact Term) (one 
     (λ reach. inl reach),
     (λ which. elim which [
       | inl reach ↦ reach
-      | inr (is, covers, covers_by, row) ↦ absurd (none_covered needs set empty ((covers_needs set).1 (covers_by, row)))
+      | inr (is, covers, covers_by, row) ↦
+          absurd (covers_none set (subst (λ it. Covers it set) (nil_from_length needs empty) ((covers_needs set).1 (covers_by, row))))
     ]),
   )
 

@@ -1,5 +1,5 @@
 -- The answers of a query, and those of a rewriting over files that agree.
-use Rattle.std.proofs.Common.{◌↔◌, ℕ, List, map, Contains, refl, sym, subst}
+use Rattle.std.proofs.Common.{◌≡◌, ◌↔◌, ℕ, List, map, Contains, refl, sym, subst}
 use Rattle.esto_docmodel.specs.declared.file.Store.{Store}
 use Rattle.esto_docs.specs.Stores.{IsFileRow}
 use Rattle.esto_run.specs.Answers.{AreRising}

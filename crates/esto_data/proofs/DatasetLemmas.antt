@@ -424,15 +424,15 @@ load_exit_asks Holds course error (Ok _) handed asks = absurd handed
 load_exit_asks Holds course error (Err handed_on) handed asks = rw handed asks
 
 -- a dataset that is needed has no file
-module _ {A : Type 0} {files : Option Files} {datasets : List Dataset} {Needs : Dataset → Type 0} {numbers : List ℕ}
-    (needed : AreNeeded datasets Needs numbers) {Holds : List (Fact Term) → A → Type 0} {error : Status} {result : Result A Status}
+module _ {A : Type 0} (files : Option Files) (datasets : List Dataset) (Needs : Dataset → Type 0) (numbers : List ℕ)
+    (needed : AreNeeded datasets Needs numbers) (Holds : List (Fact Term) → A → Type 0) (error : Status) (result : Result A Status)
     (handed : IsErrAnd result (λ it. it ≡ error)) (stops : Stops IsWant (IsCaused ⊥) (demands_files datasets numbers) error) where
-  pub demand_exit : {rose : Type 0} → Loads Holds (loads files datasets Needs) rose result
-  demand_exit {rose = rose} = load_exit Holds (loads files datasets Needs) rose error result handed
+  pub demand_exit : (rose : Type 0) → Loads Holds (loads files datasets Needs) rose result
+  demand_exit rose = load_exit Holds (loads files datasets Needs) rose error result handed
       (demand_stops files datasets Needs numbers needed rose error stops)
 
-  pub demand_exit_asks : {told : Option (List (List ℕ))} → LoadsAsking told told Holds (loads files datasets Needs) result
-  demand_exit_asks {told = told} = load_exit_asks Holds (loads files datasets Needs) error result handed
+  pub demand_exit_asks : (told : Option (List (List ℕ))) → LoadsAsking told told Holds (loads files datasets Needs) result
+  demand_exit_asks told = load_exit_asks Holds (loads files datasets Needs) error result handed
       (demand_asks files datasets Needs numbers needed told error stops)
 
 -- want of memory, before anything is asked for

@@ -15,7 +15,7 @@ use esto_fill::{FillError, answers_rest_on_wanted_facts};
 use esto_mapping::{Catalogue, catalogues_are_sound};
 use esto_ports::Shelf;
 use esto_status::{Reply, Status};
-use esto_term::{Bytes, Text};
+use esto_term::{Bytes, Replicate, Text};
 use esto_views::FragmentDef;
 use std::alloc::Global;
 

@@ -8,7 +8,7 @@ use Rattle.esto_steps.specs.Rows.{IsRowOf, held_by}
 use Rattle.esto_semantics.specs.declared.fact.Fact.{Fact}
 use Rattle.esto_stores.specs.Rows.{Row}
 use Rattle.esto_views.specs.declared.fragments.FragmentDef.{FragmentDef}
-use Rattle.esto_docs.specs.Stores.{IsFileRow}
+use Rattle.esto_docs.specs.Stores.{HaveWidth, IsFileRow}
 
 -- What is held of a fragment: how it is asked, and its rows.
 pub record Held : Type 0 where

@@ -32,12 +32,12 @@ replies_audited laws one rest files catalogue_name catalogue reply
     let alike : AreSame catalogue other = (laws.catalogues files catalogue_name).one catalogue other here opens in record {
       facts = facts;
       contents = contents;
-      agree = over_this files catalogue other alike laws.data.fault laws.data.rows laws.data.file facts contents None agree;
+      agree = over_this files catalogue other alike laws.below.fault laws.below.rows laws.below.file facts contents None agree;
       readable = λ number bytes is.
           let goes = readable_goes files catalogue number bytes is in
           let within : number < length other.fragments =
           omega (arith, opened_within (Some files) catalogue number bytes goes, fragments_long catalogue other alike) in
-          (laws.data.fragment files catalogue other number alike).one bytes (contents number) goes
+          (laws.below.fragment files catalogue other number alike).one bytes (contents number) goes
           (each_opened (Some files) other contents opened number within);
       unions = union_answers alike facts loaded;
       answers = λ query_name query reads query_texts.
@@ -58,5 +58,5 @@ replies_audited laws one rest files catalogue_name catalogue reply
         then-leads _ _ (AreSame catalogue) _ _ (agreed_leads AreSame _ _ catalogue _ (laws.catalogues files catalogue_name) here)
         (λ third third_alike. then-leads _ _ (AreSameQueries queries) _ _
         (agreed_leads AreSameQueries _ _ queries _ (laws.unions files query_name catalogue third third_alike) reads)
-        (λ others same. union_leads laws.data rest files other.datasets facts loaded queries others same texts third
+        (λ others same. union_leads laws.below rest files other.datasets facts loaded queries others same texts third
         (sym alike.datasets ∙ third_alike.datasets)))

@@ -46,7 +46,7 @@ module _ (laws : DataCommandLaws) (sound : CataloguesAreSound) (files : Files) (
   pub fills_exact : (name : List ℕ) → SaysAlways (fill_course (Some files) catalogue_name name) (IsExactFill files catalogue name)
   fills_exact name = then-leads _ _ (AreSame catalogue) _ _ (opened-leads _) (λ other alike.
       says-more _ (IsExactFill files other name) (IsExactFill files catalogue name)
-      (fill_moved files catalogue other alike laws.data.fault laws.data.rows name) (fill_says laws.data files other name))
+      (fill_moved files catalogue other alike laws.below.fault laws.below.rows name) (fill_says laws.below files other name))
 
   -- the union that is opened is answered
   union_exact : (query_name : List ℕ) (queries : List Query) → (opens_union (Some files) query_name catalogue).goes queries
@@ -55,7 +55,7 @@ module _ (laws : DataCommandLaws) (sound : CataloguesAreSound) (files : Files) (
       then-leads _ _ (AreSameQueries queries) _ _
       (agreed_leads AreSameQueries _ _ queries _ (laws.unions files query_name catalogue other alike) opens)
       (λ others same. says-more _ (IsExactUnionAnswer files other others) (IsExactUnionAnswer files catalogue queries)
-      (answer_moved files catalogue other alike queries others same) (answer_says laws.data files other others)))
+      (answer_moved files catalogue other alike queries others same) (answer_says laws.below files other others)))
 
   pub unions_exact : SaidUnionsOpen → (query_name : List ℕ) (queries : List Query) → FilesSayUnion files query_name catalogue queries
       → SaysAlways (answer_course (Some files) catalogue_name query_name) (IsExactUnionAnswer files catalogue queries)
@@ -70,4 +70,4 @@ module _ (laws : DataCommandLaws) (sound : CataloguesAreSound) (files : Files) (
   pub audits_exact : SaysAlways (audit_course (Some files) catalogue_name) (IsExactAudit files catalogue)
   audits_exact = then-leads _ _ (AreSame catalogue) _ _ (opened-leads _) (λ other alike.
       says-more _ (IsExactAudit files other) (IsExactAudit files catalogue)
-      (audit_moved files catalogue other alike laws.data.fault laws.data.rows laws.data.file) (audit_says laws.data files other (sound other).stored))
+      (audit_moved files catalogue other alike laws.below.fault laws.below.rows laws.below.file) (audit_says laws.below files other (sound other).stored))

@@ -20,7 +20,7 @@ module _ (laws : DataCommandLaws) (files : Files) where
       → ((stored : Stored) (facts : List (Fact Term)) (text : List ℕ) → Is stored facts text → IsMade stored facts text)
       → (catalogue_name name : List ℕ) → IsOne (gives_course Is (Some files) catalogue_name name)
   gives_one Is made catalogue_name name = then_agree _ AreSame ◌≡◌ _ _ _ _ (laws.catalogues files catalogue_name)
-      (λ catalogue other goes alike. fills_agree laws.data files catalogue other alike Is made name)
+      (λ catalogue other goes alike. fills_agree laws.below files catalogue other alike Is made name)
 
   pub fills_one : (catalogue_name name : List ℕ) → IsOne (fill_course (Some files) catalogue_name name)
   fills_one = gives_one IsFilled (λ stored facts text is. is.filled)
@@ -31,8 +31,8 @@ module _ (laws : DataCommandLaws) (files : Files) where
   pub answers_one : (catalogue_name query_name : List ℕ) → IsOne (answer_course (Some files) catalogue_name query_name)
   answers_one catalogue_name query_name = then_agree _ AreSame ◌≡◌ _ _ _ _ (laws.catalogues files catalogue_name)
       (λ catalogue other goes alike. then_agree _ AreSameQueries ◌≡◌ _ _ _ _ (laws.unions files query_name catalogue other alike)
-      (λ queries others goes1 same. answers_agree laws.data files catalogue other alike queries others same))
+      (λ queries others goes1 same. answers_agree laws.below files catalogue other alike queries others same))
 
   pub audits_one : (name : List ℕ) → IsOne (audit_course (Some files) name)
   audits_one name = then_agree _ AreSame ◌≡◌ _ _ _ _ (laws.catalogues files name)
-      (λ catalogue other goes alike. catalogue_agree laws.data files catalogue other alike)
+      (λ catalogue other goes alike. catalogue_agree laws.below files catalogue other alike)

@@ -110,4 +110,4 @@ AuditsRefuse =
 pub record DataCommandLaws : Type 0 where
   pub catalogues : CataloguesOpenAlike
   pub unions : UnionsOpenAlike
-  pub data : DataLaws
+  pub below : DataLaws

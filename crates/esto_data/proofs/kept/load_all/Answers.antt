@@ -8,7 +8,8 @@ demand_files-requires g c =
 
 pub returns-in_err-demand_files-clause-answer : goal.returns-in_err-demand_files-clause-answer
 returns-in_err-demand_files-clause-answer g c =
-    demand_exit c.in_ok-numbers.ensures c.from_residual-in_err-demand_files.ensures.1 c.in_err-demand_files.ensures
+    demand_exit (g.S.Shelf.files c.args.shelf.now) c.args.catalogue.now.datasets IsAny c.in_ok-numbers.numbers c.in_ok-numbers.ensures _ _
+    c.from_residual-in_err-demand_files.result c.from_residual-in_err-demand_files.ensures.1 c.in_err-demand_files.ensures _
 
 pub keep_files-requires-clause-sources : goal.keep_files-requires-clause-sources
 keep_files-requires-clause-sources g c = sources_there c.args.catalogue.now.datasets 0 c.in_ok-numbers.numbers c.in_ok-demand_files.ensures
@@ -24,7 +25,8 @@ returns-in_err-numbers-clause-asked g c =
 
 pub returns-in_err-demand_files-clause-asked : goal.returns-in_err-demand_files-clause-asked
 returns-in_err-demand_files-clause-asked g c =
-    demand_exit_asks c.in_ok-numbers.ensures c.from_residual-in_err-demand_files.ensures.1 c.in_err-demand_files.ensures
+    demand_exit_asks (g.S.Shelf.files c.args.shelf.now) c.args.catalogue.now.datasets IsAny c.in_ok-numbers.numbers c.in_ok-numbers.ensures _ _
+    c.from_residual-in_err-demand_files.result c.from_residual-in_err-demand_files.ensures.1 c.in_err-demand_files.ensures _
 
 pub returns-clause-asked : goal.returns-clause-asked
 returns-clause-asked g c =

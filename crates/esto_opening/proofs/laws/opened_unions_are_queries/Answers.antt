@@ -16,5 +16,19 @@ returns-clause-alone c = λ files name catalogue query goes.
     opens_alone files name catalogue query
     (unions_open c.catalogues_are_sound.ensures c.union_readings_are_determined.ensures.reading c.union_readings_are_determined.ensures.apart
     c.union_readings_are_determined.ensures.fault files catalogue catalogue
-    (record { schema = refl; words = refl; datasets = refl; names = refl; views = refl; patterns = refl; weights = refl; stores = refl; rules = refl; rule_names = refl; given = refl; ranks = refl; core = refl; }) name)
+    (record {
+      schema = refl;
+      words = refl;
+      datasets = refl;
+      names = refl;
+      views = refl;
+      patterns = refl;
+      weights = refl;
+      stores = refl;
+      rules = refl;
+      rule_names = refl;
+      given = refl;
+      ranks = refl;
+      core = refl;
+    }) name)
     ((one_opens c.unions_of_one_are_queries.ensures catalogue (Some files) name query).1 goes)

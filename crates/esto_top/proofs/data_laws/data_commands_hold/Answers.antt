@@ -4,5 +4,5 @@ pub returns : goal.returns
 returns c = record {
   catalogues = c.openings_are_one.ensures.catalogues;
   unions = c.openings_are_one.ensures.unions;
-  data = c.data_laws_hold.ensures;
+  below = c.data_laws_hold.ensures;
 }
