@@ -8,7 +8,7 @@ use Rattle.esto_ports.specs.Asked.{CountGoes, CountStays, CountsOne}
 use Rattle.esto_ports.specs.Files.{Files}
 use Rattle.esto_ports.specs.declared.ports.SinkError.TheVariants as sink
 use Rattle.esto_status.specs.Answers.{Answers, IsCaused, IsWant}
-use Rattle.esto_status.specs.Asked.{AsksAsTold, AsksAt, AsksIn, EndsAtFault, FetchesBy, FetchesToAnswer}
+use Rattle.esto_status.specs.Asked.{AsksAt, AsksIn, EndsAtFault, FetchesBy, FetchesToAnswer}
 use Rattle.esto_status.specs.Asked.AsksToStop.{wanting, stopping}
 use Rattle.esto_status.specs.Asked.FetchesToStatus.{by_reply, by_refusal}
 use Rattle.esto_status.specs.Asked.FetchesToAnswer.{whole as all_fetched, fault as fetched_to_fault}
@@ -17,11 +17,12 @@ use Rattle.esto_status.specs.declared.reply.Reply.TheVariants as reply
 use Rattle.esto_status.specs.declared.status.Status.{Status}
 use Rattle.esto_status.specs.declared.status.Status.TheVariants.{OutOfMemory, ReadFault, Usage, WriteFault}
 use Rattle.esto_status.proofs.AskedSteps.{quiet_asks}
+use Rattle.esto_top.specs.Call.{AsksAlong, Call}
 use Rattle.esto_top.specs.Grammar.{Request, course_of_asked}
 use Rattle.esto_status.specs.Replies.{reply_status}
 use Rattle.esto_top.specs.Outcome.{Finishes, PutsOnce}
 use Rattle.esto_top.specs.Outcome.Finishes.{whole, cut, memory}
-use Rattle.esto_top.proofs.Mediation.{refused_by}
+use Rattle.esto_top.proofs.Mediation.{FinishesCall, refused_by}
 
 -- ---- the names
 
@@ -70,11 +71,13 @@ module _ (course : Course Status Reply) (rose : Type 0) (names : Names) where
         subst (FetchesBy course rose names) (sym e) (any_refusal refusal isnt caused asks ends)
     finished answer answers asks (memory keeps e) = subst (FetchesBy course rose names) (sym e) (answered answer answers asks)
 
-pub asks_as_told : (course : Course Status Reply) (rose sink_rose : Type 0) (before after : Option Names) (answer : Result Reply Status)
-    (old new : Option (List ℕ)) (result : Status) → Answers course rose answer → AsksIn before after course answer
-    → Finishes answer old new sink_rose result → AsksAsTold before after course rose result
-asks_as_told course rose sink_rose before after answer old new result answers asked finishes =
-    (asked.names, asked.told, finished course rose asked.names old new sink_rose result answer answers asked.asks finishes)
+pub asks_along : (course : Course Status Reply) (call : Call) (answer : Result Reply Status) → Answers course call.shelf_rose answer
+    → AsksIn call.asked_before call.asked_after course answer → FinishesCall answer call → AsksAlong course call
+asks_along course call answer answers asked finishes = (
+  asked.names,
+  asked.told,
+  finished course call.shelf_rose asked.names call.written_before call.written_after call.sink_rose call.status answer answers asked.asks finishes,
+)
 
 -- words outside the grammar ask for nothing
 pub usage_asks : (files : Option Files) (told : Option Names) (request : Option Request) → request ≡ None

@@ -12,6 +12,7 @@ use Rattle.esto_semantics.specs.Rules.{AreRules}
 use Rattle.esto_term.proofs.ListLemmas.{Contains-nil}
 use Rattle.esto_top.specs.Bench.{bench_course}
 use Rattle.esto_top.specs.Benches.{BenchesAlways, IsExactBench}
+use Rattle.esto_top.specs.Call.{Call}
 use Rattle.esto_top.specs.Grammar.{course_of, is_made_size, value_of}
 use Rattle.esto_status.specs.Replies.{reply_status, reply_text}
 use Rattle.esto_top.specs.Outcome.{Mediates, Says}
@@ -63,9 +64,9 @@ says_bench size rose said text (replies reply (summary, is, done) said_is text_i
     (said_is ∙ ap reply_status done, summary, is, text_is ∙ ap reply_text done)
 says_bench size rose said text (refuses caused stops text_is) = elim stops [ inl never ↦ absurd never | inr later ↦ absurd later.2 ]
 
-pub benches_always : (words : List (List ℕ)) (files : Option Files) (rose sink_rose : Type 0) (old new : Option (List ℕ)) (result : Status)
-    → Mediates (course_of words files) rose old new sink_rose result → BenchesAlways words sink_rose old new result
-benches_always words files rose sink_rose old new result (whole text said appends) = λ none word sized is.
-    inl (text, says_bench (value_of word) rose result text (subst (λ it. Says it rose result text) (bench_words words files word sized is) said), appends)
-benches_always words files rose sink_rose old new result (cut said text kept says risen appends is) = λ none word sized words_are. absurd (none risen)
-benches_always words files rose sink_rose old new result (nothing keeps is) = λ none word sized words_are. inr (is, keeps)
+pub benches_always : (call : Call) → Mediates (course_of call.words call.files) call → BenchesAlways call
+benches_always call (whole text said puts) = λ none word sized is.
+    let course = bench_words call.words call.files word sized is in
+    inl (text, says_bench (value_of word) call.shelf_rose call.status text (subst (λ it. Says it call.shelf_rose call.status text) course said), puts)
+benches_always call (cut said text kept says risen puts is) = λ none word sized words_are. absurd (none risen)
+benches_always call (nothing wants) = λ none word sized words_are. inr wants

@@ -1,5 +1,5 @@
 -- What `verify` answers where nothing is wrong with the catalogue's and the query's files.
-use Rattle.std.proofs.Common.{◌≡◌, ◌↔◌, ℕ, Bool, List, length, Option, Some, None, sym, ap, subst, ◌∙◌, inl, inr}
+use Rattle.std.proofs.Common.{◌≡◌, ◌↔◌, ℕ, Bool, List, length, Some, sym, ap, subst, ◌∙◌, inl, inr}
 use Rattle.std.proofs.lemmas.Option.{none-some, same_Some}
 use Rattle.esto_mapping.specs.declared.catalogue.Catalogue.{Catalogue}
 use Rattle.esto_top.specs.CertificateLaws.{Certifies, IsChecked, IsVerified, SaysVerdict, VerifyChecksCertificates, VerifyIsOne, VerifySaysVerdicts}
@@ -20,11 +20,11 @@ use Rattle.esto_status.specs.declared.status.Status.TheVariants as status
 use Rattle.esto_ports.specs.Files.{Files}
 use Rattle.esto_query.specs.declared.query.Query.{Query}
 use Rattle.esto_views.specs.declared.plan.Plan.{Plan}
-use Rattle.esto_top.specs.CertificateOutcomes.{AsksVerify, IsExactVerify, OutcomesAreVerified, VerifiesWhereTold}
+use Rattle.esto_top.specs.CertificateOutcomes.{AsksVerify, IsExactVerify, OutcomesAreVerified}
 use Rattle.esto_top.specs.Grammar.{atom_numbers, course_of, names_atoms, verifies_named}
 use Rattle.esto_top.specs.Headline.{FilesSay, HasAnswers, IsExactRefusal}
 use Rattle.esto_top.specs.Laws.{ListingLaws}
-use Rattle.esto_top.specs.Outcome.{CompleteWhereTold, Outcome, Says}
+use Rattle.esto_top.specs.Outcome.{Outcome, Says}
 use Rattle.esto_top.proofs.DataLemmas.{says_fact}
 use Rattle.esto_top.proofs.SayLemmas.{catalogue_opens, query_opens}
 
@@ -205,17 +205,3 @@ module _ (laws : ListingLaws) (checks : VerifyChecksCertificates) (verdicts : Ve
 pub outcomes_are_verified : ListingLaws → VerifyChecksCertificates → VerifySaysVerdicts → OutcomesAreVerified
 outcomes_are_verified laws checks verdicts words files catalogue_name query_name numbers file catalogue query said text asks say outcome =
     verified laws checks verdicts words files catalogue_name query_name numbers file catalogue query said text asks say outcome
-
--- ---- where the files are told
-
-module _ (words : List (List ℕ)) (rose sink_rose : Type 0) (old new : Option (List ℕ)) (result : Status) where
-  pub verifies_where_told : OutcomesAreVerified → (files : Option Files) → CompleteWhereTold words files rose sink_rose old new result
-      → VerifiesWhereTold words files rose sink_rose old new result
-  verifies_where_told are None complete = tt
-  verifies_where_told are (Some files) complete =
-      λ calm sink_calm catalogue_name query_name numbers file catalogue query asks say.
-      elim (complete calm sink_calm) [
-        | inl whole ↦
-            inl (whole.0, are words files catalogue_name query_name numbers file catalogue query result whole.0 asks say whole.1, whole.2)
-        | inr wanting ↦ inr wanting
-      ]

@@ -1,6 +1,5 @@
 -- The same words over the same files have one status and one text.
-use Rattle.std.proofs.Common.{◌≡◌, ℕ, true, false, Bool, List, [], ◌∷◌, ◌++◌, length, Option, Some, None, refl, sym, ap, subst, ◌∙◌, inl, inr}
-use Rattle.std.specs.Io.KnownBytes.{Appends}
+use Rattle.std.proofs.Common.{◌≡◌, ℕ, true, false, Bool, List, [], ◌∷◌, ◌++◌, length, Option, Some, None, refl, sym, ap, ◌∙◌}
 use Rattle.std.proofs.lemmas.List.{length-map}
 use Rattle.esto_mapping.specs.Catalogues.{AreSame}
 use Rattle.esto_mapping.specs.declared.catalogue.Catalogue.{Catalogue}
@@ -21,13 +20,13 @@ use Rattle.esto_status.specs.Answers.{IsCaused}
 use Rattle.esto_status.specs.Asked.{Fetches}
 use Rattle.esto_status.specs.Asked.Fetches.{to_value, to_refusal, to_lack}
 use Rattle.esto_status.specs.declared.reply.Reply.{Reply}
-use Rattle.esto_top.specs.Determined.{AskedBeginsFetches, CoursesAreOne, ExactWhereTold, FetchesAreDetermined, OutcomesAreDetermined, AsksCertificate, CountsAs}
+use Rattle.esto_top.specs.Determined.{AskedBeginsFetches, CoursesAreOne, FetchesAreDetermined, OutcomesAreDetermined, AsksCertificate, CountsAs}
 use Rattle.esto_top.specs.Determined.{FixesText, writes_certificate}
 use Rattle.esto_top.specs.Grammar.{Request, request_of, course_of_request, course_of_asked}
 use Rattle.esto_top.specs.Grammar.Request.{CheckOf, ListFor, RunFor, FillFor, AnswerFor, AuditOf, ContainsFor, MinimiseFor, ExplainFor, VerifyFor, BenchOf}
 use Rattle.esto_top.specs.List.{list_course, lists_queries, lists_query, prints_list}
 use Rattle.esto_top.specs.Run.{run_course, runs_queries}
-use Rattle.esto_top.specs.Outcome.{CompleteWhereTold, Says}
+use Rattle.esto_top.specs.Outcome.{Says}
 use Rattle.esto_status.specs.declared.reply.Reply.TheVariants.{Done}
 use Rattle.esto_status.specs.declared.status.Status.{Status}
 use Rattle.esto_status.specs.declared.status.Status.TheVariants as status
@@ -180,15 +179,3 @@ module _ (one : CoursesAreOne) where
   asked_begins words files names all point fetched asks =
       let (end, is_end, all_asks) = end_of _ all fetched in
       (one words files).alike.begins names all point end is_end asks all_asks
-
--- ---- what was put
-
-pub exact : OutcomesAreDetermined → (words : List (List ℕ)) (files : Option Files) (rose sink_rose : Type 0) (old new : Option (List ℕ)) (result : Status)
-    → CompleteWhereTold words files rose sink_rose old new result → ExactWhereTold words files rose sink_rose old new result
-exact determined words None rose sink_rose old new result complete = tt
-exact determined words (Some files) rose sink_rose old new result complete = λ calm sink_calm said text outcome.
-    elim (complete calm sink_calm) [
-      | inl whole ↦ (let same = determined words files result said whole.0 text whole.1 outcome in
-          inl (same.0, λ fixes. subst (λ (it : List ℕ). Appends old new it) (same.1 (subst (FixesText words) (sym same.0) fixes)) whole.2))
-      | inr wanting ↦ inr wanting
-    ]

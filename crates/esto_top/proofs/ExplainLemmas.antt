@@ -1,5 +1,5 @@
 -- What `explain` answers where the files say a catalogue and a query over it.
-use Rattle.std.proofs.Common.{◌≡◌, ◌≢◌, ◌↔◌, ℕ, ◌-◌, ◌<◌, List, [], length, slice_get, Option, Some, None, refl, sym, ap, subst, ◌∙◌, inl, inr, arith}
+use Rattle.std.proofs.Common.{◌≡◌, ◌≢◌, ◌↔◌, ℕ, ◌-◌, ◌<◌, List, [], length, slice_get, Some, None, refl, sym, ap, subst, ◌∙◌, arith}
 use Rattle.std.proofs.lemmas.Option.{none-some, same_Some, slice_get_within}
 use Rattle.esto_mapping.specs.declared.catalogue.Catalogue.{Catalogue}
 use Rattle.esto_cert.specs.declared.line.Line.TheVariants.{Match}
@@ -18,17 +18,16 @@ use Rattle.esto_rewriting.specs.Alike.{IsSamePlan}
 use Rattle.esto_rewriting.specs.Choice.{HasNoPlace}
 use Rattle.esto_rewriting.specs.Choice.HasNoPlace.{is_above, is_empty}
 use Rattle.esto_rewriting.specs.Listing.{IsClash, IsListOf, IsPlanned}
-use Rattle.esto_ports.specs.Files.{Files}
 use Rattle.esto_query.specs.declared.query.Query.{Query}
 use Rattle.esto_semantics.specs.Queries.{ConjunctiveQuery}
 use Rattle.esto_views.specs.declared.plan.Plan.{Plan}
 use Rattle.esto_run.proofs.SameLemmas.{itself}
 use Rattle.esto_status.proofs.StatusLemmas.{clash_not_above, none_not_above, done_not_above}
-use Rattle.esto_top.specs.CertificateOutcomes.{ExplainsWhereTold, IsExactExplain, IsNumbered, OutcomesAreExplained, OutcomesAreVerified}
+use Rattle.esto_top.specs.CertificateOutcomes.{IsExactExplain, IsNumbered, OutcomesAreExplained, OutcomesAreVerified}
 use Rattle.esto_top.specs.CertificateOutcomes.{OutcomesOfExplainAreAccepted}
 use Rattle.esto_top.specs.Headline.{HasAnswers, IsExactRefusal, Rewrites}
 use Rattle.esto_top.specs.Laws.{ListingLaws}
-use Rattle.esto_top.specs.Outcome.{CompleteWhereTold, Says}
+use Rattle.esto_top.specs.Outcome.{Says}
 use Rattle.esto_top.specs.Runs.{IsAboveList}
 use Rattle.esto_top.proofs.DataLemmas.{says_fact}
 use Rattle.esto_top.proofs.ExplainWords.{explain_words}
@@ -227,15 +226,3 @@ explained_accepted explained verified words others files later catalogue_name qu
     let within = lines_within written derived.lines (Match derived.facts derived.links) derived.are_lines later file DATA_LIMIT holds short in
     ((verified others later other_catalogue other_query numbers file catalogue query said text asks_verify say_later verdict).verifies plan
     at.planned).verdict item.set written None is_set within certificate.accepted
-
--- ---- where the files are told
-
-module _ (words : List (List ℕ)) (rose sink_rose : Type 0) (old new : Option (List ℕ)) (result : Status) where
-  pub explains_where_told : OutcomesAreExplained → (files : Option Files) → CompleteWhereTold words files rose sink_rose old new result
-      → ExplainsWhereTold words files rose sink_rose old new result
-  explains_where_told are None complete = tt
-  explains_where_told are (Some files) complete = λ calm sink_calm catalogue_name query_name number catalogue query asks say.
-      elim (complete calm sink_calm) [
-        | inl whole ↦ inl (whole.0, are words files catalogue_name query_name number catalogue query result whole.0 asks say whole.1, whole.2)
-        | inr wanting ↦ inr wanting
-      ]

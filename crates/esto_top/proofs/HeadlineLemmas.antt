@@ -1,5 +1,5 @@
 -- What `list` answers where the files say a catalogue and a query over it.
-use Rattle.std.proofs.Common.{◌≡◌, ℕ, Bool, List, [], ◌∷◌, All, Option, Some, None, inl, inr, refl, ap, subst}
+use Rattle.std.proofs.Common.{◌≡◌, ℕ, Bool, List, [], ◌∷◌, All, Some, inl, inr, refl, ap, subst}
 use Rattle.std.specs.List.{AllZip}
 use Rattle.std.proofs.lemmas.List.Elements.{All-head, All-tail}
 use Rattle.esto_mapping.specs.Catalogues.{AreSame}
@@ -19,11 +19,11 @@ use Rattle.esto_views.specs.Fragments.{views_of, patterns_of, weights_of}
 use Rattle.esto_views.specs.Plans.{plan_query}
 use Rattle.esto_views.specs.declared.plan.Plan.{Plan}
 use Rattle.esto_course.specs.Course.{and_then, gives, judges}
-use Rattle.esto_top.specs.Headline.{FilesSay, HasAnswers, PrintsExactly, IsExactList, IsExactRefusal, IsEmptyWithoutRewriting, SaidOfLists, OutcomesAreLists}
-use Rattle.esto_top.specs.Headline.{OutcomesAreRefusals, HoldsOfLists}
+use Rattle.esto_top.specs.Headline.{FilesSay, HasAnswers, PrintsExactly, IsExactList, IsExactRefusal, IsEmptyWithoutRewriting, OutcomesAreLists}
+use Rattle.esto_top.specs.Headline.{OutcomesAreRefusals}
 use Rattle.esto_status.specs.Line.{line_of}
 use Rattle.esto_top.specs.List.{list_course, lists_queries, lists_query}
-use Rattle.esto_top.specs.Outcome.{CompleteWhereTold, Says}
+use Rattle.esto_top.specs.Outcome.{Says}
 use Rattle.esto_top.specs.Grammar.{course_of}
 use Rattle.esto_status.specs.declared.reply.Reply.{Reply}
 use Rattle.esto_status.specs.declared.reply.Reply.TheVariants.{Done}
@@ -195,14 +195,3 @@ module _ (opening : OpeningLaws) (laws : ListingLaws) where
         (subst (λ it. Says (course_of it (Some files)) ⊥ said text) asks outcome),
     λ refusal. laws.unsatisfiable catalogue query refusal.0 refusal.1,
   )
-
--- what is said of each outcome holds of what was put
-pub holds_of_lists : (Fact : Catalogue → Query → Status → List ℕ → Type 0) → SaidOfLists Fact
-    → (words : List (List ℕ)) (files : Option Files) (rose sink_rose : Type 0) (old new : Option (List ℕ)) (result : Status)
-    → CompleteWhereTold words files rose sink_rose old new result → HoldsOfLists Fact words files rose sink_rose old new result
-holds_of_lists Fact is_said words None rose sink_rose old new result complete = tt
-holds_of_lists Fact is_said words (Some files) rose sink_rose old new result complete = λ calm sink_calm catalogue_name query_name catalogue query asks say.
-    elim (complete calm sink_calm) [
-      | inl whole ↦ inl (whole.0, is_said words files catalogue_name query_name catalogue query result whole.0 asks say whole.1, whole.2)
-      | inr wanting ↦ inr wanting
-    ]

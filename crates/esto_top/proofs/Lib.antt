@@ -65,3 +65,4 @@ pub mod WeakerLemmas
 pub mod DataExactLemmas
 pub mod AuditedLemmas
 pub mod DataOneLemmas
+pub mod CallLemmas

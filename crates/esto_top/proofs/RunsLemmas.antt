@@ -39,10 +39,10 @@ use Rattle.esto_status.proofs.StatusLemmas.{same_clash, same_asked, same_least}
 use Rattle.esto_top.specs.Grammar.{course_of, is_list_number}
 use Rattle.esto_top.specs.Headline.{FilesSay, HasAnswers, Rewrites}
 use Rattle.esto_status.specs.Replies.{reply_status, reply_text}
-use Rattle.esto_top.specs.Outcome.{Says, CompleteWhereTold}
+use Rattle.esto_top.specs.Outcome.{Says}
 use Rattle.esto_top.specs.Run.{IsRunText, run_course, runs_queries, runs_query}
 use Rattle.esto_rewriting.specs.Choice.HasNoPlace.{is_empty, is_above}
-use Rattle.esto_top.specs.Runs.{AsksRun, CanRun, IsAboveList, PrintsAnswers, PrintsRun, TellsClash, IsExactRun, OutcomesAreRuns, RunsWhereTold}
+use Rattle.esto_top.specs.Runs.{AsksRun, CanRun, IsAboveList, PrintsAnswers, PrintsRun, TellsClash, IsExactRun, OutcomesAreRuns}
 use Rattle.esto_status.specs.declared.reply.Reply.{Reply}
 use Rattle.esto_status.specs.declared.reply.Reply.TheVariants.{Done, Unsatisfiable}
 use Rattle.esto_status.specs.declared.status.Status.{Status}
@@ -556,13 +556,3 @@ module _ (opening : OpeningLaws) (laws : ListingLaws) (run_laws : RunLaws) where
   outcomes_are_runs words files catalogue_name query_name number catalogue query said text asks say outcome =
       exact_run opening files catalogue_name query_name catalogue query say number laws run_laws said text
       (subst (λ it. Says it ⊥ said text) (run_words words catalogue_name query_name number (Some files) asks) outcome)
-
--- what is said of each outcome holds of what was put
-pub runs_where_told : OutcomesAreRuns → (words : List (List ℕ)) (files : Option Files) (rose sink_rose : Type 0) (old new : Option (List ℕ)) (result : Status)
-    → CompleteWhereTold words files rose sink_rose old new result → RunsWhereTold words files rose sink_rose old new result
-runs_where_told are words None rose sink_rose old new result complete = tt
-runs_where_told are words (Some files) rose sink_rose old new result complete =
-    λ calm sink_calm catalogue_name query_name number catalogue query asks say. elim (complete calm sink_calm) [
-      | inl whole ↦ inl (whole.0, are words files catalogue_name query_name number catalogue query result whole.0 asks say whole.1, whole.2)
-      | inr wanting ↦ inr wanting
-    ]

@@ -27,11 +27,11 @@ use Rattle.esto_views.specs.declared.plan.Plan.{Plan}
 use Rattle.esto_query.specs.declared.query.Query.{Query}
 use Rattle.esto_term.proofs.ListLemmas.{Contains-cases, Contains-head, Contains-nil}
 use Rattle.esto_top.specs.Determined.{FetchesAreDetermined}
-use Rattle.esto_top.specs.Existing.{AnsweredWhereTold, AreAmong, FetchesExist, OutcomesAreWhereFilesAre, OutcomesExist, OutcomesHaveFiles, OutcomesLackNone}
+use Rattle.esto_top.specs.Existing.{AreAmong, FetchesExist, OutcomesAreWhereFilesAre, OutcomesExist, OutcomesHaveFiles, OutcomesLackNone}
 use Rattle.esto_top.specs.Grammar.{Request, course_of, course_of_asked, request_of}
 use Rattle.esto_top.specs.Grammar.Request.{AnswerFor, AuditOf, BenchOf, CheckOf, ContainsFor, ExplainFor, FillFor, ListFor, MinimiseFor, RunFor, VerifyFor}
 use Rattle.esto_top.specs.List.{lists_queries}
-use Rattle.esto_top.specs.Outcome.{CompleteWhereTold, Says}
+use Rattle.esto_top.specs.Outcome.{Says}
 use Rattle.esto_top.specs.Outcome.Says.{refuses as by_refusal, replies as by_reply}
 use Rattle.esto_top.specs.Run.{runs_end, runs_queries}
 
@@ -290,12 +290,3 @@ outcomes_where_files_are exist one words files = (
         absurd (cc)
   ]),
 )
-
--- where there is an outcome, the answer is it
-pub answered : OutcomesAreWhereFilesAre → (words : List (List ℕ)) (files : Option Files) (rose sink_rose : Type 0) (old new : Option (List ℕ)) (result : Status)
-    → CompleteWhereTold words files rose sink_rose old new result → AnsweredWhereTold words files rose sink_rose old new result
-answered where_files words None rose sink_rose old new result complete = tt
-answered where_files words (Some files) rose sink_rose old new result complete = λ calm sink_calm have. elim (complete calm sink_calm) [
-  | inl whole ↦ (result, whole.0, whole.1, inl (refl, whole.2))
-  | inr wanting ↦ let (said, text, is) = (where_files words files).1 have in (said, text, is, inr wanting)
-]

@@ -1,5 +1,5 @@
 -- What `list` answers to a union of two or more queries where nothing is wrong with the files.
-use Rattle.std.proofs.Common.{◌<◌, ℕ, List, [], ◌∷◌, length, Option, Some, None, subst, inl, inr, arith}
+use Rattle.std.proofs.Common.{◌<◌, ℕ, List, [], ◌∷◌, length, Some, subst, arith}
 use Rattle.esto_mapping.specs.Catalogues.{AreSame}
 use Rattle.esto_mapping.specs.declared.catalogue.Catalogue.{Catalogue}
 use Rattle.esto_rewriting.specs.Exact.{ListsUnionExactly}
@@ -7,14 +7,12 @@ use Rattle.esto_rewriting.specs.UnionLaws.{UnionListsAreExact, UnionListsAreMove
 use Rattle.esto_query.specs.Same.{AreSameQueries}
 use Rattle.esto_status.specs.Calm.{Leads}
 use Rattle.esto_status.specs.Line.{line_of}
-use Rattle.esto_status.specs.declared.status.Status.{Status}
 use Rattle.esto_status.specs.declared.status.Status.TheVariants.{Done}
-use Rattle.esto_ports.specs.Files.{Files}
 use Rattle.esto_query.specs.declared.query.Query.{Query}
 use Rattle.esto_top.specs.Grammar.{course_of}
 use Rattle.esto_top.specs.List.{list_course, lists_queries}
-use Rattle.esto_top.specs.Outcome.{CompleteWhereTold, Says}
-use Rattle.esto_top.specs.Unions.{OutcomesAreUnionLists, UnionListsWhereTold}
+use Rattle.esto_top.specs.Outcome.{Says}
+use Rattle.esto_top.specs.Unions.{OutcomesAreUnionLists}
 use Rattle.esto_top.proofs.DataLemmas.{says_fact}
 use Rattle.esto_top.proofs.HeadlineLemmas.{list_says}
 use Rattle.esto_top.specs.Laws.{OpeningLaws}
@@ -42,13 +40,3 @@ outcomes_are_union_lists opening exact moved words files catalogue_name query_na
     (union_told exact moved catalogue queries say.more)
     (catalogue_opens files catalogue_name catalogue say.says_catalogue) (union_opens files query_name catalogue queries say.says_union))
     (subst (λ (it : List (List ℕ)). Says (course_of it (Some files)) ⊥ said text) asks outcome)
-
--- what is said of each outcome holds of what was put
-pub union_lists_where_told : OutcomesAreUnionLists → (words : List (List ℕ)) (files : Option Files) (rose sink_rose : Type 0) (old new : Option (List ℕ))
-    (result : Status) → CompleteWhereTold words files rose sink_rose old new result → UnionListsWhereTold words files rose sink_rose old new result
-union_lists_where_told are words None rose sink_rose old new result complete = tt
-union_lists_where_told are words (Some files) rose sink_rose old new result complete =
-    λ calm sink_calm catalogue_name query_name catalogue queries asks say. elim (complete calm sink_calm) [
-      | inl whole ↦ inl (whole.0, are words files catalogue_name query_name catalogue queries result whole.0 asks say whole.1, whole.2)
-      | inr wanting ↦ inr wanting
-    ]

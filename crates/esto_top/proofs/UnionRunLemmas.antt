@@ -1,5 +1,5 @@
 -- What `run` answers to a union of two or more queries where nothing is wrong with the files.
-use Rattle.std.proofs.Common.{◌<◌, ℕ, List, [], ◌∷◌, length, Option, Some, None, sym, subst, inl, inr, arith}
+use Rattle.std.proofs.Common.{◌<◌, ℕ, List, [], ◌∷◌, length, Option, Some, sym, subst, inl, inr, arith}
 use Rattle.esto_mapping.specs.Catalogues.{AreSame}
 use Rattle.esto_mapping.specs.declared.catalogue.Catalogue.{Catalogue}
 use Rattle.esto_rewriting.specs.RunExact.{RunsUnionExactly, UnionRunsAreExact}
@@ -13,9 +13,9 @@ use Rattle.esto_status.specs.declared.status.Status.{Status}
 use Rattle.esto_status.proofs.LeadLemmas.{then-leads}
 use Rattle.esto_ports.specs.Files.{Files}
 use Rattle.esto_query.specs.declared.query.Query.{Query}
-use Rattle.esto_top.specs.Outcome.{CompleteWhereTold, Says}
+use Rattle.esto_top.specs.Outcome.{Says}
 use Rattle.esto_top.specs.Run.{run_course, runs_queries}
-use Rattle.esto_top.specs.Unions.{FilesSayQueries, OutcomesAreUnionRuns, UnionRunsWhereTold}
+use Rattle.esto_top.specs.Unions.{FilesSayQueries, OutcomesAreUnionRuns}
 use Rattle.esto_top.specs.Laws.{OpeningLaws}
 use Rattle.esto_top.proofs.LeadLemmas.{says-leads}
 use Rattle.esto_top.proofs.RunsLemmas.{run_words}
@@ -70,13 +70,3 @@ pub outcomes_are_union_runs : OpeningLaws → UnionRunsAreExact → UnionRunsAre
 outcomes_are_union_runs opening exact moved words files catalogue_name query_name number catalogue queries said text asks say outcome =
     exact_run opening exact moved files catalogue number catalogue_name query_name queries say said text
     (subst (λ it. Says it ⊥ said text) (run_words words catalogue_name query_name number (Some files) asks) outcome)
-
--- what is said of each outcome holds of what was put
-pub union_runs_where_told : OutcomesAreUnionRuns → (words : List (List ℕ)) (files : Option Files) (rose sink_rose : Type 0) (old new : Option (List ℕ))
-    (result : Status) → CompleteWhereTold words files rose sink_rose old new result → UnionRunsWhereTold words files rose sink_rose old new result
-union_runs_where_told are words None rose sink_rose old new result complete = tt
-union_runs_where_told are words (Some files) rose sink_rose old new result complete =
-    λ calm sink_calm catalogue_name query_name number catalogue queries asks say. elim (complete calm sink_calm) [
-      | inl whole ↦ inl (whole.0, are words files catalogue_name query_name number catalogue queries result whole.0 asks say whole.1, whole.2)
-      | inr wanting ↦ inr wanting
-    ]

@@ -1,9 +1,9 @@
 -- What is said of an outcome of `bench`.
-use Rattle.std.specs.Prelude.{◌≡◌, ℕ, true, List, [], ◌∷◌, Option, codes}
+use Rattle.std.specs.Prelude.{◌≡◌, ℕ, true, List, [], ◌∷◌, codes}
 use Rattle.esto_bench.specs.Summary.{IsSummaryOfCase, summary_text}
 use Rattle.esto_bench.specs.declared.summary.Summary.{Summary}
+use Rattle.esto_top.specs.Call.{Call, HoldsOfPut}
 use Rattle.esto_top.specs.Grammar.{is_made_size, value_of}
-use Rattle.esto_top.specs.Headline.{HoldsOfPut}
 use Rattle.esto_status.specs.declared.status.Status.{Status}
 use Rattle.esto_status.specs.declared.status.Status.TheVariants as status
 
@@ -13,6 +13,6 @@ IsExactBench size said text = (said ≡ status.Done) × (summary : Summary) × I
 
 -- What `bench N` puts is the summary of the made case of that size, or memory was refused and nothing put, over every shelf, where the sink's count did not
 -- rise.
-abbrev pub BenchesAlways : List (List ℕ) → Type 0 → Option (List ℕ) → Option (List ℕ) → Status → Type 0
-BenchesAlways words sink_rose old new result =
-    ¬ sink_rose → (word : List ℕ) → is_made_size word ≡ true → words ≡ codes "bench" ∷ word ∷ [] → HoldsOfPut (IsExactBench (value_of word)) old new result
+abbrev pub BenchesAlways : Call → Type 0
+BenchesAlways call =
+    ¬ call.sink_rose → (word : List ℕ) → is_made_size word ≡ true → call.words ≡ codes "bench" ∷ word ∷ [] → HoldsOfPut (IsExactBench (value_of word)) call

@@ -1,5 +1,5 @@
 -- What `explain` and `verify` answer where nothing is wrong with the catalogue's and the query's files.
-use Rattle.std.specs.Prelude.{◌≡◌, ◌≢◌, ◌↔◌, ℕ, ◌-◌, ◌≤◌, Bool, IsTrue, List, [], ◌∷◌, length, slice_get, Option, Some, None, codes}
+use Rattle.std.specs.Prelude.{◌≡◌, ◌≢◌, ◌↔◌, ℕ, ◌-◌, ◌≤◌, Bool, IsTrue, List, [], ◌∷◌, length, slice_get, Option, Some, codes}
 use Rattle.esto_mapping.specs.declared.catalogue.Catalogue.{Catalogue}
 use Rattle.esto_top.specs.CertificateLaws.{Certifies, SaysVerdict}
 use Rattle.esto_rewriting.specs.Verify.{first_above, HasVerdict, IsSetOf}
@@ -14,8 +14,9 @@ use Rattle.esto_ports.specs.Files.{Files, Holds}
 use Rattle.esto_query.specs.declared.query.Query.{Query}
 use Rattle.esto_semantics.specs.Queries.{ConjunctiveQuery}
 use Rattle.esto_views.specs.declared.plan.Plan.{Plan}
+use Rattle.esto_top.specs.Call.{Call, HoldsOfPut, WhereTold}
 use Rattle.esto_top.specs.Grammar.{atom_numbers, is_list_number, value_of}
-use Rattle.esto_top.specs.Headline.{FilesSay, HasAnswers, HoldsOfPut, IsExactRefusal, Rewrites}
+use Rattle.esto_top.specs.Headline.{FilesSay, HasAnswers, IsExactRefusal, Rewrites}
 use Rattle.esto_top.specs.Outcome.{Outcome}
 use Rattle.esto_top.specs.Runs.{IsAboveList}
 
@@ -106,18 +107,16 @@ OutcomesOfExplainAreAccepted =
 
 -- What `explain C Q N` puts is exact, or memory was refused and nothing put, where the files are told and say a catalogue and a query over it, and neither
 -- count rose.
-abbrev pub ExplainsWhereTold : List (List ℕ) → Option Files → Type 0 → Type 0 → Option (List ℕ) → Option (List ℕ) → Status → Type 0
-ExplainsWhereTold words None rose sink_rose old new result = Unit {0}
-ExplainsWhereTold words (Some files) rose sink_rose old new result =
-    ¬ rose → ¬ sink_rose → (catalogue_name query_name : List ℕ) (number : ℕ) (catalogue : Catalogue) (query : Query)
-    → AsksExplain words catalogue_name query_name number → FilesSay files catalogue_name query_name catalogue query
-    → HoldsOfPut (IsExactExplain catalogue query number) old new result
+abbrev pub ExplainsWhereTold : Call → Type 0
+ExplainsWhereTold call = WhereTold call (λ files.
+    (catalogue_name query_name : List ℕ) (number : ℕ) (catalogue : Catalogue) (query : Query)
+    → AsksExplain call.words catalogue_name query_name number → FilesSay files catalogue_name query_name catalogue query
+    → HoldsOfPut (IsExactExplain catalogue query number) call)
 
 -- What `verify C Q A FILE` puts is exact, or memory was refused and nothing put, where the files are told and say a catalogue and a query over it, and neither
 -- count rose.
-abbrev pub VerifiesWhereTold : List (List ℕ) → Option Files → Type 0 → Type 0 → Option (List ℕ) → Option (List ℕ) → Status → Type 0
-VerifiesWhereTold words None rose sink_rose old new result = Unit {0}
-VerifiesWhereTold words (Some files) rose sink_rose old new result =
-    ¬ rose → ¬ sink_rose → (catalogue_name query_name numbers file : List ℕ) (catalogue : Catalogue) (query : Query)
-    → AsksVerify words catalogue_name query_name numbers file → FilesSay files catalogue_name query_name catalogue query
-    → HoldsOfPut (IsExactVerify files catalogue query numbers file) old new result
+abbrev pub VerifiesWhereTold : Call → Type 0
+VerifiesWhereTold call = WhereTold call (λ files.
+    (catalogue_name query_name numbers file : List ℕ) (catalogue : Catalogue) (query : Query)
+    → AsksVerify call.words catalogue_name query_name numbers file → FilesSay files catalogue_name query_name catalogue query
+    → HoldsOfPut (IsExactVerify files catalogue query numbers file) call)

@@ -1,20 +1,21 @@
 -- What `fill`, `answer` and `audit` answer where nothing is wrong with the files.
-use Rattle.std.specs.Prelude.{◌≡◌, ℕ, List, [], ◌∷◌, Option, Some, None, Result, codes}
+use Rattle.std.specs.Prelude.{◌≡◌, ℕ, List, [], ◌∷◌, Option, Some, Result, codes}
 use Rattle.esto_mapping.specs.declared.catalogue.Catalogue.{Catalogue}
 use Rattle.esto_data.specs.Exact.{IsExactAnswer, IsExactAudit, IsExactFill, IsExactUnionAnswer}
 use Rattle.esto_top.specs.Fill.{fill_course}
 use Rattle.esto_course.specs.Course.{Names}
 use Rattle.esto_status.specs.Answers.{Answers}
-use Rattle.esto_status.specs.Asked.{AsksAsTold, AsksIn}
+use Rattle.esto_status.specs.Asked.{AsksIn}
 use Rattle.esto_opening.specs.Opening.{FilesSayCatalogue, FilesSayUnion}
 use Rattle.esto_ports.specs.Files.{Files}
 use Rattle.esto_query.specs.declared.query.Query.{Query}
 use Rattle.esto_status.specs.declared.reply.Reply.{Reply}
 use Rattle.esto_status.specs.declared.status.Status.{Status}
 use Rattle.esto_status.specs.declared.status.Status.TheVariants as status
+use Rattle.esto_top.specs.Call.{AsksAlong, Call, HoldsOfPut, WhereTold}
 use Rattle.esto_top.specs.Grammar.{Request}
 use Rattle.esto_top.specs.Grammar.Request.{FillFor}
-use Rattle.esto_top.specs.Headline.{FilesSay, HoldsOfPut}
+use Rattle.esto_top.specs.Headline.{FilesSay}
 use Rattle.esto_top.specs.Outcome.{Mediates, Outcome}
 use Rattle.esto_top.specs.Runs.{AsksRun}
 
@@ -45,21 +46,19 @@ OutcomesAreAudits =
 
 -- What `answer C Q` puts is exact, or memory was refused and nothing put, where the files are told and say a catalogue and a query over it, and neither count
 -- rose.
-abbrev pub AnswersWhereTold : List (List ℕ) → Option Files → Type 0 → Type 0 → Option (List ℕ) → Option (List ℕ) → Status → Type 0
-AnswersWhereTold words None rose sink_rose old new result = Unit {0}
-AnswersWhereTold words (Some files) rose sink_rose old new result =
-    ¬ rose → ¬ sink_rose → (catalogue_name query_name : List ℕ) (catalogue : Catalogue) (query : Query)
-    → words ≡ codes "answer" ∷ catalogue_name ∷ query_name ∷ [] → FilesSay files catalogue_name query_name catalogue query
-    → HoldsOfPut (IsExactAnswer files catalogue query) old new result
+abbrev pub AnswersWhereTold : Call → Type 0
+AnswersWhereTold call = WhereTold call (λ files.
+    (catalogue_name query_name : List ℕ) (catalogue : Catalogue) (query : Query)
+    → call.words ≡ codes "answer" ∷ catalogue_name ∷ query_name ∷ [] → FilesSay files catalogue_name query_name catalogue query
+    → HoldsOfPut (IsExactAnswer files catalogue query) call)
 
 -- What `answer C Q` puts is exact, or memory was refused and nothing put, where the files are told and say a catalogue and a union of queries over it, of any
 -- length, and neither count rose.
-abbrev pub UnionAnswersWhereTold : List (List ℕ) → Option Files → Type 0 → Type 0 → Option (List ℕ) → Option (List ℕ) → Status → Type 0
-UnionAnswersWhereTold words None rose sink_rose old new result = Unit {0}
-UnionAnswersWhereTold words (Some files) rose sink_rose old new result =
-    ¬ rose → ¬ sink_rose → (catalogue_name query_name : List ℕ) (catalogue : Catalogue) (queries : List Query)
-    → words ≡ codes "answer" ∷ catalogue_name ∷ query_name ∷ [] → FilesSayCatalogue files catalogue_name catalogue
-    → FilesSayUnion files query_name catalogue queries → HoldsOfPut (IsExactUnionAnswer files catalogue queries) old new result
+abbrev pub UnionAnswersWhereTold : Call → Type 0
+UnionAnswersWhereTold call = WhereTold call (λ files.
+    (catalogue_name query_name : List ℕ) (catalogue : Catalogue) (queries : List Query)
+    → call.words ≡ codes "answer" ∷ catalogue_name ∷ query_name ∷ [] → FilesSayCatalogue files catalogue_name catalogue
+    → FilesSayUnion files query_name catalogue queries → HoldsOfPut (IsExactUnionAnswer files catalogue queries) call)
 
 -- What is answered where a filled file is asked for is what the command does, so that its text says the rows of the fragment's view when it is read; and the
 -- names that were asked for are those of the command.
@@ -70,31 +69,28 @@ AnswersFill _ files before after rose result = Unit {0}
 
 -- What `fill C F` puts and answers is what the command does, over whatever shelf: a text that says the rows of the fragment's view when it is read, or a prefix
 -- of it at a fault of the sink.
-abbrev pub MediatesFill : Option Request → Option Files → Type 0 → Option (List ℕ) → Option (List ℕ) → Type 0 → Status → Type 0
-MediatesFill (Some (FillFor catalogue_name name)) files rose old new sink_rose result =
-    Mediates (fill_course files catalogue_name name) rose old new sink_rose result
-MediatesFill _ files rose old new sink_rose result = Unit {0}
+abbrev pub MediatesFill : Option Request → Call → Type 0
+MediatesFill (Some (FillFor catalogue_name name)) call = Mediates (fill_course call.files catalogue_name name) call
+MediatesFill _ call = Unit {0}
 
 -- The names that `fill C F` asked for, where they are told, are those for which the command with such a text asks.
-abbrev pub AsksFillAsTold : Option Request → Option Files → Option Names → Option Names → Type 0 → Status → Type 0
-AsksFillAsTold (Some (FillFor catalogue_name name)) files before after rose result = AsksAsTold before after (fill_course files catalogue_name name) rose result
-AsksFillAsTold _ files before after rose result = Unit {0}
+abbrev pub AsksAlongFill : Option Request → Call → Type 0
+AsksAlongFill (Some (FillFor catalogue_name name)) call = AsksAlong (fill_course call.files catalogue_name name) call
+AsksAlongFill _ call = Unit {0}
 
 -- What `fill C F` puts is exact, or memory was refused and nothing put, where the files are told and say a catalogue, and neither count rose.
-abbrev pub FillsWhereTold : List (List ℕ) → Option Files → Type 0 → Type 0 → Option (List ℕ) → Option (List ℕ) → Status → Type 0
-FillsWhereTold words None rose sink_rose old new result = Unit {0}
-FillsWhereTold words (Some files) rose sink_rose old new result =
-    ¬ rose → ¬ sink_rose → (catalogue_name name : List ℕ) (catalogue : Catalogue)
-    → words ≡ codes "fill" ∷ catalogue_name ∷ name ∷ [] → FilesSayCatalogue files catalogue_name catalogue
-    → HoldsOfPut (IsExactFill files catalogue name) old new result
+abbrev pub FillsWhereTold : Call → Type 0
+FillsWhereTold call = WhereTold call (λ files.
+    (catalogue_name name : List ℕ) (catalogue : Catalogue)
+    → call.words ≡ codes "fill" ∷ catalogue_name ∷ name ∷ [] → FilesSayCatalogue files catalogue_name catalogue
+    → HoldsOfPut (IsExactFill files catalogue name) call)
 
 -- What `audit C` puts is exact, or memory was refused and nothing put, where the files are told and say a catalogue, and neither count rose.
-abbrev pub AuditsWhereTold : List (List ℕ) → Option Files → Type 0 → Type 0 → Option (List ℕ) → Option (List ℕ) → Status → Type 0
-AuditsWhereTold words None rose sink_rose old new result = Unit {0}
-AuditsWhereTold words (Some files) rose sink_rose old new result =
-    ¬ rose → ¬ sink_rose → (name : List ℕ) (catalogue : Catalogue)
-    → words ≡ codes "audit" ∷ name ∷ [] → FilesSayCatalogue files name catalogue
-    → HoldsOfPut (IsExactAudit files catalogue) old new result
+abbrev pub AuditsWhereTold : Call → Type 0
+AuditsWhereTold call = WhereTold call (λ files.
+    (name : List ℕ) (catalogue : Catalogue)
+    → call.words ≡ codes "audit" ∷ name ∷ [] → FilesSayCatalogue files name catalogue
+    → HoldsOfPut (IsExactAudit files catalogue) call)
 
 -- ---- agreement
 

@@ -1,6 +1,6 @@
 -- That a command line has at most one status, and at most one text but where a certificate is written.
-use Rattle.std.specs.Prelude.{◌≡◌, ◌⊎◌, ℕ, Bool, true, false, List, Option, Some, None}
-use Rattle.std.specs.Io.KnownBytes.{Appends, Keeps}
+use Rattle.std.specs.Prelude.{◌≡◌, ◌⊎◌, ℕ, Bool, true, false, List, Option, Some}
+use Rattle.esto_top.specs.Call.{Call, HasPut, WantsMemory, WhereTold}
 use Rattle.esto_top.specs.CertificateLaws.{AreDone}
 use Rattle.esto_course.specs.Agreement.{Begins}
 use Rattle.esto_course.specs.Course.{Names, Point}
@@ -59,8 +59,7 @@ AskedBeginsFetches =
 
 -- Where the shelf tells its files, and neither count rose, any outcome of the words and the files has the status that was answered, and its text was put where
 -- the words and the status fix it; or memory was refused, and nothing was put.
-abbrev pub ExactWhereTold : List (List ℕ) → Option Files → Type 0 → Type 0 → Option (List ℕ) → Option (List ℕ) → Status → Type 0
-ExactWhereTold words None rose sink_rose old new result = Unit {0}
-ExactWhereTold words (Some files) rose sink_rose old new result =
-    ¬ rose → ¬ sink_rose → (said : Status) (text : List ℕ) → Outcome words files said text
-    → ((result ≡ said) × (FixesText words said → Appends old new text)) ⊎ ((result ≡ status.OutOfMemory) × Keeps old new)
+abbrev pub ExactWhereTold : Call → Type 0
+ExactWhereTold call = WhereTold call (λ files.
+    (said : Status) (text : List ℕ) → Outcome call.words files said text
+    → ((call.status ≡ said) × (FixesText call.words said → HasPut call text)) ⊎ WantsMemory call)

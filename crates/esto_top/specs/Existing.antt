@@ -1,13 +1,12 @@
 -- Which command lines have an outcome.
-use Rattle.std.specs.Prelude.{◌≡◌, ◌↔◌, ◌⊎◌, ℕ, List, Option, Some, None, Contains}
+use Rattle.std.specs.Prelude.{◌≡◌, ◌↔◌, ◌⊎◌, ℕ, List, Some, Contains}
 use Rattle.std.specs.FinMap.{get}
-use Rattle.std.specs.Io.KnownBytes.{Appends, Keeps}
 use Rattle.esto_course.specs.Course.{Names}
 use Rattle.esto_course.specs.Course.Point.{missing}
 use Rattle.esto_ports.specs.Files.{Files}
 use Rattle.esto_status.specs.Asked.{Fetches}
 use Rattle.esto_status.specs.declared.status.Status.{Status}
-use Rattle.esto_status.specs.declared.status.Status.TheVariants as status
+use Rattle.esto_top.specs.Call.{Call, HasPut, WantsMemory, WhereTold}
 use Rattle.esto_top.specs.Grammar.{course_of}
 use Rattle.esto_top.specs.Outcome.{Outcome}
 
@@ -54,14 +53,11 @@ OutcomesAreWhereFilesAre = (words : List (List ℕ)) (files : Files) → HasOutc
 -- ---- what the top call says
 
 -- There is an outcome of the words and the files, and the answer has its status, and its text was put; or memory was refused, and nothing was put.
-abbrev pub IsTheOutcome : List (List ℕ) → Files → Option (List ℕ) → Option (List ℕ) → Status → Type 0
-IsTheOutcome words files old new result =
-    (said : Status) × (text : List ℕ) × Outcome words files said text
-    × (((result ≡ said) × Appends old new text) ⊎ ((result ≡ status.OutOfMemory) × Keeps old new))
+abbrev pub IsTheOutcome : Files → Call → Type 0
+IsTheOutcome files call =
+    (said : Status) × (text : List ℕ) × Outcome call.words files said text × (((call.status ≡ said) × HasPut call text) ⊎ WantsMemory call)
 
 -- Where the shelf tells its files, each that the words fetch is there, and neither count rose, there is an outcome, and it is what was answered, or memory was
 -- refused.
-abbrev pub AnsweredWhereTold : List (List ℕ) → Option Files → Type 0 → Type 0 → Option (List ℕ) → Option (List ℕ) → Status → Type 0
-AnsweredWhereTold words None rose sink_rose old new result = Unit {0}
-AnsweredWhereTold words (Some files) rose sink_rose old new result =
-    ¬ rose → ¬ sink_rose → HaveFetched words files → IsTheOutcome words files old new result
+abbrev pub AnsweredWhereTold : Call → Type 0
+AnsweredWhereTold call = WhereTold call (λ files. HaveFetched call.words files → IsTheOutcome files call)

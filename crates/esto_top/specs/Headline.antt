@@ -1,6 +1,5 @@
 -- What `list` answers where nothing is wrong with the files.
-use Rattle.std.specs.Prelude.{◌≡◌, ◌⊎◌, ◌↔◌, ℕ, ◌≤◌, Bool, IsTrue, List, [], ◌∷◌, slice_index_or, Option, Some, None, codes}
-use Rattle.std.specs.Io.KnownBytes.{Appends, Keeps}
+use Rattle.std.specs.Prelude.{◌≡◌, ◌↔◌, ℕ, ◌≤◌, Bool, IsTrue, List, [], ◌∷◌, slice_index_or, codes}
 use Rattle.esto_mapping.specs.declared.catalogue.Catalogue.{Catalogue}
 use Rattle.esto_chase_laws.specs.declared.clash.Clash.{Clash}
 use Rattle.esto_constraint.specs.Constraints.{rules_of}
@@ -23,6 +22,7 @@ use Rattle.esto_views.specs.Plans.{plan_query}
 use Rattle.esto_views.specs.declared.plan.Plan.{Plan}
 use Rattle.esto_status.specs.Line.{line_of}
 use Rattle.esto_opening.specs.Opening.{FilesSayCatalogue, FilesSayQuery}
+use Rattle.esto_top.specs.Call.{Call, HoldsOfPut, WhereTold}
 use Rattle.esto_top.specs.Outcome.{Outcome}
 use Rattle.esto_status.specs.declared.status.Status.{Status}
 use Rattle.esto_status.specs.declared.status.Status.TheVariants as status
@@ -106,27 +106,18 @@ OutcomesAreLists = SaidOfLists (λ catalogue query said text. HasAnswers catalog
 abbrev pub OutcomesAreRefusals : Type 0
 OutcomesAreRefusals = SaidOfLists (λ catalogue query said text. ¬ (HasAnswers catalogue query) ↔ IsExactRefusal catalogue query said text)
 
--- The fact holds of the status and of a text that was put; or memory was refused, and nothing was put.
-abbrev pub HoldsOfPut : (Status → List ℕ → Type 0) → Option (List ℕ) → Option (List ℕ) → Status → Type 0
-HoldsOfPut Fact old new result = ((text : List ℕ) × Fact result text × Appends old new text) ⊎ ((result ≡ status.OutOfMemory) × Keeps old new)
-
 -- The fact holds of what `list C Q` puts, or memory was refused and nothing put, where the files are told and say a catalogue and a query over it, and neither
 -- count rose.
-abbrev pub HoldsOfLists : (Catalogue → Query → Status → List ℕ → Type 0) → List (List ℕ) → Option Files → Type 0 → Type 0 → Option (List ℕ) → Option (List ℕ)
-    → Status → Type 0
-HoldsOfLists Fact words None rose sink_rose old new result = Unit {0}
-HoldsOfLists Fact words (Some files) rose sink_rose old new result =
-    ¬ rose → ¬ sink_rose → (catalogue_name query_name : List ℕ) (catalogue : Catalogue) (query : Query)
-    → words ≡ codes "list" ∷ catalogue_name ∷ query_name ∷ [] → FilesSay files catalogue_name query_name catalogue query
-    → HoldsOfPut (Fact catalogue query) old new result
+abbrev pub HoldsOfLists : (Catalogue → Query → Status → List ℕ → Type 0) → Call → Type 0
+HoldsOfLists Fact call = WhereTold call (λ files.
+    (catalogue_name query_name : List ℕ) (catalogue : Catalogue) (query : Query)
+    → call.words ≡ codes "list" ∷ catalogue_name ∷ query_name ∷ [] → FilesSay files catalogue_name query_name catalogue query
+    → HoldsOfPut (Fact catalogue query) call)
 
 -- The headline: so `list C Q` prints exactly the list of the query over the catalogue, where the query is satisfiable.
-abbrev pub ListsWhereTold : List (List ℕ) → Option Files → Type 0 → Type 0 → Option (List ℕ) → Option (List ℕ) → Status → Type 0
-ListsWhereTold words files rose sink_rose old new result =
-    HoldsOfLists (λ catalogue query said text. HasAnswers catalogue query → IsExactList catalogue query said text) words files rose sink_rose old new result
+abbrev pub ListsWhereTold : Call → Type 0
+ListsWhereTold = HoldsOfLists (λ catalogue query said text. HasAnswers catalogue query → IsExactList catalogue query said text)
 
 -- And so `list C Q` refuses the query, with the clash of its run, exactly where the query is unsatisfiable.
-abbrev pub RefusesWhereTold : List (List ℕ) → Option Files → Type 0 → Type 0 → Option (List ℕ) → Option (List ℕ) → Status → Type 0
-RefusesWhereTold words files rose sink_rose old new result =
-    HoldsOfLists (λ catalogue query said text. ¬ (HasAnswers catalogue query) ↔ IsExactRefusal catalogue query said text) words files rose sink_rose old new
-    result
+abbrev pub RefusesWhereTold : Call → Type 0
+RefusesWhereTold = HoldsOfLists (λ catalogue query said text. ¬ (HasAnswers catalogue query) ↔ IsExactRefusal catalogue query said text)

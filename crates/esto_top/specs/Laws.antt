@@ -1,9 +1,18 @@
--- The laws of what is opened, of plans and lists, and of steps, on which outcomes rest.
+-- The laws of what is opened, of plans and lists, and of steps, on which outcomes rest; and those of outcomes.
 use Rattle.esto_backchase.specs.Listing.{ListedCoverRewritings}
 use Rattle.esto_semantics.specs.ListedLaws.{NoRewritingExists, PickWeighsLeastOfAll}
 use Rattle.esto_opening.specs.Alike.{CataloguesOpenAlike, UnionsOpenAlike}
 use Rattle.esto_run.specs.FragmentsAlike.{FragmentOpensAlike, FragmentsOpenAlike, StoresHaveOneContent}
 use Rattle.esto_opening.specs.Unions.{OpenedFormUnions, UnionsOfOneAreQueries}
+use Rattle.esto_top.specs.CertificateOutcomes.{OutcomesAreExplained, OutcomesAreVerified}
+use Rattle.esto_top.specs.DataLaws.{FillsAreExact}
+use Rattle.esto_top.specs.DataOutcomes.{OutcomesAreAnswers, OutcomesAreAudits, OutcomesAreUnionAnswers}
+use Rattle.esto_top.specs.Determined.{OutcomesAreDetermined}
+use Rattle.esto_top.specs.Existing.{OutcomesAreWhereFilesAre}
+use Rattle.esto_top.specs.Headline.{OutcomesAreLists, OutcomesAreRefusals}
+use Rattle.esto_top.specs.ReasoningOutcomes.{OutcomesAreContainments, OutcomesAreMinimised}
+use Rattle.esto_top.specs.Runs.{OutcomesAreRuns}
+use Rattle.esto_top.specs.Unions.{OutcomesAreUnionLists, OutcomesAreUnionRuns}
 use Rattle.esto_top.specs.Steps.{AnswersEnd, AuditsEnd, CasesHaveSummaries, CataloguesOpen, ContainmentsEnd, ItemsAreChosen, MinimisationsEnd}
 use Rattle.esto_top.specs.Steps.{PlansHaveLists, PlansHaveTexts, QueriesArePlanned, QueriesHaveEnds, SetsHaveRows, SetsOpen, SetsUseFragments}
 use Rattle.esto_top.specs.Steps.{ExplanationsEnd, FillsEnd, UnionsAreListed, UnionsAreRun, UnionsOpen, VerificationsEnd}
@@ -71,3 +80,21 @@ pub record StepLaws : Type 0 where
   pub verify : VerificationsEnd
   pub explain : ExplanationsEnd
   pub summary : CasesHaveSummaries
+
+-- Words and files have at most one outcome, and one where each file is there; and where the files say what a command needs, what it then says is exact.
+pub record OutcomeLaws : Type 0 where
+  pub determined : OutcomesAreDetermined
+  pub exactly : OutcomesAreWhereFilesAre
+  pub lists : OutcomesAreLists
+  pub refusals : OutcomesAreRefusals
+  pub union_lists : OutcomesAreUnionLists
+  pub runs : OutcomesAreRuns
+  pub union_runs : OutcomesAreUnionRuns
+  pub answers : OutcomesAreAnswers
+  pub union_answers : OutcomesAreUnionAnswers
+  pub fills : FillsAreExact
+  pub audits : OutcomesAreAudits
+  pub contains : OutcomesAreContainments
+  pub minimise : OutcomesAreMinimised
+  pub explain : OutcomesAreExplained
+  pub verify : OutcomesAreVerified

@@ -6,6 +6,7 @@ pub mod List
 pub mod Run
 pub mod Bench
 pub mod Grammar
+pub mod Call
 pub mod Outcome
 pub mod Headline
 pub mod Runs
@@ -17,6 +18,7 @@ pub mod DataOutcomes
 pub mod ReasoningOutcomes
 pub mod CertificateOutcomes
 pub mod Unions
+pub mod Mediation
 pub mod Contains
 pub mod Minimise
 pub mod ReasoningLaws

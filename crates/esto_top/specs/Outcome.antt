@@ -1,5 +1,5 @@
 -- What the program answers to a command line.
-use Rattle.std.specs.Prelude.{◌≡◌, ◌≢◌, ◌⊎◌, ℕ, List, take, Option, Some, None, Result, Ok, Err}
+use Rattle.std.specs.Prelude.{◌≡◌, ◌≢◌, ◌⊎◌, ℕ, List, take, Option, Some, Result, Ok, Err}
 use Rattle.std.specs.Io.KnownBytes.{Appends, Keeps}
 use Rattle.esto_ports.specs.Asked.{CountGoes, CountStays}
 use Rattle.esto_ports.specs.Files.{Files}
@@ -9,6 +9,7 @@ use Rattle.esto_status.specs.Line.{line_of}
 use Rattle.esto_course.specs.Course.{Course}
 use Rattle.esto_status.specs.Answers.{IsCaused}
 use Rattle.esto_status.specs.Replies.{reply_status, reply_text}
+use Rattle.esto_top.specs.Call.{Call, HasPut, HoldsOfPut, WantsMemory, WhereTold}
 use Rattle.esto_top.specs.Grammar.{course_of}
 use Rattle.esto_status.specs.declared.reply.Reply.{Reply}
 use Rattle.esto_status.specs.declared.status.Status.{Status}
@@ -24,11 +25,11 @@ abbrev pub Outcome : List (List ℕ) → Files → Status → List ℕ → Type 
 Outcome words files status text = Says (course_of words (Some files)) ⊥ status text
 
 -- The whole text was put; or a prefix of it was, at a fault of the sink; or memory was refused, and nothing was put.
-pub data Mediates (course : Course Status Reply) (rose : Type 0) (old new : Option (List ℕ)) (sink_rose : Type 0) (result : Status) : Type 0 where
-  whole : (text : List ℕ) → Says course rose result text → Appends old new text → Mediates course rose old new sink_rose result
-  cut : (said : Status) (text : List ℕ) (kept : ℕ) → Says course rose said text → sink_rose → Appends old new (take kept text) → result ≡ status.WriteFault
-      → Mediates course rose old new sink_rose result
-  memory : Keeps old new → result ≡ status.OutOfMemory → Mediates course rose old new sink_rose result
+pub data Mediates (course : Course Status Reply) (call : Call) : Type 0 where
+  whole : (text : List ℕ) → Says course call.shelf_rose call.status text → HasPut call text → Mediates course call
+  cut : (said : Status) (text : List ℕ) (kept : ℕ) → Says course call.shelf_rose said text → call.sink_rose → HasPut call (take kept text)
+      → call.status ≡ status.WriteFault → Mediates course call
+  memory : WantsMemory call → Mediates course call
 
 -- An answer of a command says a status and a text.
 abbrev pub IsSaid : Result Reply Status → Status → List ℕ → Type 0
@@ -51,23 +52,19 @@ status_of_error sink.OutOfMemory = status.OutOfMemory
 abbrev pub PutsOnce : Option ℕ → Option ℕ → Status → Type 0
 PutsOnce old new result = CountGoes old new ⊎ ((result ≡ status.OutOfMemory) × CountStays old new)
 
--- The answer is an outcome of the words and the files with its whole text, or want of memory and nothing.
-abbrev pub IsComplete : List (List ℕ) → Files → Option (List ℕ) → Option (List ℕ) → Status → Type 0
-IsComplete words files old new result =
-    ((text : List ℕ) × Outcome words files result text × Appends old new text) ⊎ ((result ≡ status.OutOfMemory) × Keeps old new)
-
 -- Where the shelf tells its files, and neither count rose, the answer is an outcome of the words and the files with its whole text, or want of memory and
 -- nothing.
-abbrev pub CompleteWhereTold : List (List ℕ) → Option Files → Type 0 → Type 0 → Option (List ℕ) → Option (List ℕ) → Status → Type 0
-CompleteWhereTold words None rose sink_rose old new result = Unit {0}
-CompleteWhereTold words (Some files) rose sink_rose old new result = ¬ rose → ¬ sink_rose → IsComplete words files old new result
+abbrev pub CompleteWhereTold : Call → Type 0
+CompleteWhereTold call = WhereTold call (λ files. HoldsOfPut (Outcome call.words files) call)
 
 -- A read fault: the count rose, the command fetches that file with no earlier refusal, and its line was put.
-abbrev pub CausedReadFault : Course Status Reply → Type 0 → Option (List ℕ) → Option (List ℕ) → Status → Type 0
-CausedReadFault course rose old new result =
-    (name : List ℕ) → result ≡ status.ReadFault name → rose × course.stops (status.ReadFault name) × Appends old new (line_of (status.ReadFault name))
+abbrev pub CausedReadFault : Course Status Reply → Call → Type 0
+CausedReadFault course call =
+    (name : List ℕ) → call.status ≡ status.ReadFault name
+    → call.shelf_rose × course.stops (status.ReadFault name) × HasPut call (line_of (status.ReadFault name))
 
 -- A write fault: the count rose, and a prefix of what was to be put was put.
-abbrev pub CausedWriteFault : Course Status Reply → Type 0 → Type 0 → Option (List ℕ) → Option (List ℕ) → Status → Type 0
-CausedWriteFault course rose sink_rose old new result =
-    result ≡ status.WriteFault → sink_rose × ((said : Status) × (text : List ℕ) × (kept : ℕ) × Says course rose said text × Appends old new (take kept text))
+abbrev pub CausedWriteFault : Course Status Reply → Call → Type 0
+CausedWriteFault course call =
+    call.status ≡ status.WriteFault
+    → call.sink_rose × ((said : Status) × (text : List ℕ) × (kept : ℕ) × Says course call.shelf_rose said text × HasPut call (take kept text))

@@ -1,12 +1,13 @@
 -- What `contains` and `minimise` answer where nothing is wrong with the files.
-use Rattle.std.specs.Prelude.{◌≡◌, ℕ, List, [], ◌∷◌, Option, Some, None, codes}
+use Rattle.std.specs.Prelude.{◌≡◌, ℕ, List, [], ◌∷◌, codes}
 use Rattle.esto_mapping.specs.declared.catalogue.Catalogue.{Catalogue}
 use Rattle.esto_opening.specs.Opening.{FilesSayQuery}
 use Rattle.esto_ports.specs.Files.{Files}
 use Rattle.esto_query.specs.declared.query.Query.{Query}
 use Rattle.esto_status.specs.declared.status.Status.{Status}
 use Rattle.esto_reasoning.specs.Exact.{IsExactContains, IsExactMinimise}
-use Rattle.esto_top.specs.Headline.{FilesSay, HoldsOfPut}
+use Rattle.esto_top.specs.Call.{Call, HoldsOfPut, WhereTold}
+use Rattle.esto_top.specs.Headline.{FilesSay}
 use Rattle.esto_top.specs.Outcome.{Outcome}
 
 -- ---- outcomes
@@ -30,19 +31,17 @@ OutcomesAreMinimised =
 
 -- What `contains C L R` puts is exact, or memory was refused and nothing put, where the files are told and say a catalogue and two queries over it, and neither
 -- count rose.
-abbrev pub ContainsWhereTold : List (List ℕ) → Option Files → Type 0 → Type 0 → Option (List ℕ) → Option (List ℕ) → Status → Type 0
-ContainsWhereTold words None rose sink_rose old new result = Unit {0}
-ContainsWhereTold words (Some files) rose sink_rose old new result =
-    ¬ rose → ¬ sink_rose → (catalogue_name left_name right_name : List ℕ) (catalogue : Catalogue) (left right : Query)
-    → words ≡ codes "contains" ∷ catalogue_name ∷ left_name ∷ right_name ∷ [] → FilesSay files catalogue_name left_name catalogue left
+abbrev pub ContainsWhereTold : Call → Type 0
+ContainsWhereTold call = WhereTold call (λ files.
+    (catalogue_name left_name right_name : List ℕ) (catalogue : Catalogue) (left right : Query)
+    → call.words ≡ codes "contains" ∷ catalogue_name ∷ left_name ∷ right_name ∷ [] → FilesSay files catalogue_name left_name catalogue left
     → FilesSayQuery files right_name catalogue right
-    → HoldsOfPut (IsExactContains catalogue left right) old new result
+    → HoldsOfPut (IsExactContains catalogue left right) call)
 
 -- What `minimise C Q` puts is exact, or memory was refused and nothing put, where the files are told and say a catalogue and a query over it, and neither count
 -- rose.
-abbrev pub MinimisesWhereTold : List (List ℕ) → Option Files → Type 0 → Type 0 → Option (List ℕ) → Option (List ℕ) → Status → Type 0
-MinimisesWhereTold words None rose sink_rose old new result = Unit {0}
-MinimisesWhereTold words (Some files) rose sink_rose old new result =
-    ¬ rose → ¬ sink_rose → (catalogue_name query_name : List ℕ) (catalogue : Catalogue) (query : Query)
-    → words ≡ codes "minimise" ∷ catalogue_name ∷ query_name ∷ [] → FilesSay files catalogue_name query_name catalogue query
-    → HoldsOfPut (IsExactMinimise catalogue query) old new result
+abbrev pub MinimisesWhereTold : Call → Type 0
+MinimisesWhereTold call = WhereTold call (λ files.
+    (catalogue_name query_name : List ℕ) (catalogue : Catalogue) (query : Query)
+    → call.words ≡ codes "minimise" ∷ catalogue_name ∷ query_name ∷ [] → FilesSay files catalogue_name query_name catalogue query
+    → HoldsOfPut (IsExactMinimise catalogue query) call)

@@ -23,8 +23,9 @@ use Rattle.esto_views.specs.Plans.{plan_query}
 use Rattle.esto_views.specs.declared.plan.Plan.{Plan}
 use Rattle.esto_status.specs.Line.{line_of}
 use Rattle.esto_run.specs.Fragments.{IsReadableFragment}
+use Rattle.esto_top.specs.Call.{Call, HoldsOfPut, WhereTold}
 use Rattle.esto_top.specs.Grammar.{is_list_number, value_of}
-use Rattle.esto_top.specs.Headline.{FilesSay, HasAnswers, HoldsOfPut, Rewrites}
+use Rattle.esto_top.specs.Headline.{FilesSay, HasAnswers, Rewrites}
 use Rattle.esto_top.specs.Outcome.{Outcome}
 use Rattle.esto_top.specs.Run.{IsRunText}
 use Rattle.esto_status.specs.declared.status.Status.{Status}
@@ -130,9 +131,8 @@ OutcomesAreRuns = SaidOfRuns IsExactRun
 
 -- The headline of `run`: what it puts is exact, or memory was refused and nothing put, where the words ask for a run, the files are told and say a catalogue
 -- and a query over it, and neither count rose.
-abbrev pub RunsWhereTold : List (List ℕ) → Option Files → Type 0 → Type 0 → Option (List ℕ) → Option (List ℕ) → Status → Type 0
-RunsWhereTold words None rose sink_rose old new result = Unit {0}
-RunsWhereTold words (Some files) rose sink_rose old new result =
-    ¬ rose → ¬ sink_rose → (catalogue_name query_name : List ℕ) (number : Option ℕ) (catalogue : Catalogue) (query : Query)
-    → AsksRun words catalogue_name query_name number → FilesSay files catalogue_name query_name catalogue query
-    → HoldsOfPut (IsExactRun files number catalogue query) old new result
+abbrev pub RunsWhereTold : Call → Type 0
+RunsWhereTold call = WhereTold call (λ files.
+    (catalogue_name query_name : List ℕ) (number : Option ℕ) (catalogue : Catalogue) (query : Query)
+    → AsksRun call.words catalogue_name query_name number → FilesSay files catalogue_name query_name catalogue query
+    → HoldsOfPut (IsExactRun files number catalogue query) call)

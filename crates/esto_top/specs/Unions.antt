@@ -1,5 +1,5 @@
 -- What `list` and `run` answer to a union of two or more queries where nothing is wrong with the files.
-use Rattle.std.specs.Prelude.{◌≡◌, ℕ, ◌<◌, List, [], ◌∷◌, length, Option, Some, None, codes}
+use Rattle.std.specs.Prelude.{◌≡◌, ℕ, ◌<◌, List, [], ◌∷◌, length, Option, codes}
 use Rattle.esto_mapping.specs.declared.catalogue.Catalogue.{Catalogue}
 use Rattle.esto_rewriting.specs.Exact.{ListsUnionExactly}
 use Rattle.esto_rewriting.specs.RunExact.{RunsUnionExactly}
@@ -8,7 +8,7 @@ use Rattle.esto_status.specs.declared.status.Status.{Status}
 use Rattle.esto_status.specs.declared.status.Status.TheVariants as status
 use Rattle.esto_ports.specs.Files.{Files}
 use Rattle.esto_query.specs.declared.query.Query.{Query}
-use Rattle.esto_top.specs.Headline.{HoldsOfPut}
+use Rattle.esto_top.specs.Call.{Call, HoldsOfPut, WhereTold}
 use Rattle.esto_top.specs.Outcome.{Outcome}
 use Rattle.esto_top.specs.Runs.{AsksRun}
 
@@ -38,21 +38,19 @@ OutcomesAreUnionRuns =
 
 -- What `list C Q` puts is exact, or memory was refused and nothing put, where the files are told and say a catalogue and a union of two or more queries over
 -- it, and neither count rose.
-abbrev pub UnionListsWhereTold : List (List ℕ) → Option Files → Type 0 → Type 0 → Option (List ℕ) → Option (List ℕ) → Status → Type 0
-UnionListsWhereTold words None rose sink_rose old new result = Unit {0}
-UnionListsWhereTold words (Some files) rose sink_rose old new result =
-    ¬ rose → ¬ sink_rose → (catalogue_name query_name : List ℕ) (catalogue : Catalogue) (queries : List Query)
-    → words ≡ codes "list" ∷ catalogue_name ∷ query_name ∷ [] → FilesSayQueries files catalogue_name query_name catalogue queries
-    → HoldsOfPut (ListsUnionExactly catalogue queries) old new result
+abbrev pub UnionListsWhereTold : Call → Type 0
+UnionListsWhereTold call = WhereTold call (λ files.
+    (catalogue_name query_name : List ℕ) (catalogue : Catalogue) (queries : List Query)
+    → call.words ≡ codes "list" ∷ catalogue_name ∷ query_name ∷ [] → FilesSayQueries files catalogue_name query_name catalogue queries
+    → HoldsOfPut (ListsUnionExactly catalogue queries) call)
 
 -- What `run C Q` or `run C Q N` puts is exact, or memory was refused and nothing put, where the files are told and say a catalogue and a union of two or more
 -- queries over it, and neither count rose.
-abbrev pub UnionRunsWhereTold : List (List ℕ) → Option Files → Type 0 → Type 0 → Option (List ℕ) → Option (List ℕ) → Status → Type 0
-UnionRunsWhereTold words None rose sink_rose old new result = Unit {0}
-UnionRunsWhereTold words (Some files) rose sink_rose old new result =
-    ¬ rose → ¬ sink_rose → (catalogue_name query_name : List ℕ) (number : Option ℕ) (catalogue : Catalogue) (queries : List Query)
-    → AsksRun words catalogue_name query_name number → FilesSayQueries files catalogue_name query_name catalogue queries
-    → HoldsOfPut (RunsUnionExactly files catalogue queries number) old new result
+abbrev pub UnionRunsWhereTold : Call → Type 0
+UnionRunsWhereTold call = WhereTold call (λ files.
+    (catalogue_name query_name : List ℕ) (number : Option ℕ) (catalogue : Catalogue) (queries : List Query)
+    → AsksRun call.words catalogue_name query_name number → FilesSayQueries files catalogue_name query_name catalogue queries
+    → HoldsOfPut (RunsUnionExactly files catalogue queries number) call)
 
 -- ---- agreement
 

@@ -5,7 +5,7 @@ ghost use Rattle.esto_top.specs.DataOutcomes.{OutcomesAgree, OutcomesAreAnswers,
 ghost use Rattle.esto_top.specs.Determined.{AskedBeginsFetches, CoursesAreOne, FetchesAreDetermined, OutcomesAreDetermined};
 ghost use Rattle.esto_top.specs.Existing.{FetchesExist, OutcomesAreWhereFilesAre, OutcomesExist, OutcomesHaveFiles, OutcomesLackNone};
 ghost use Rattle.esto_top.specs.Headline.{OutcomesAreLists, OutcomesAreRefusals};
-ghost use Rattle.esto_top.specs.Laws.{ListingLaws, OpeningLaws, PlanningLaws, StepLaws};
+ghost use Rattle.esto_top.specs.Laws.{ListingLaws, OpeningLaws, OutcomeLaws, PlanningLaws, StepLaws};
 ghost use Rattle.esto_top.specs.ReasoningOutcomes.{OutcomesAreContainments, OutcomesAreMinimised};
 ghost use Rattle.esto_top.specs.Runs.{OutcomesAreRuns};
 ghost use Rattle.esto_top.specs.Unions.{OutcomesAreUnionLists, OutcomesAreUnionRuns, UnionOutcomesAgree};
@@ -65,10 +65,10 @@ fn listings_hold()
     picks_exist();
 }
 
-/// A law: where the files say a catalogue and a query over it, each outcome of `list` prints a universal plan of the query
-/// and exactly its listed sets, which every executable rewriting maps onto a superset of, or refuses the query. It prints
-/// where the query is satisfiable, and refuses exactly where it is not.
-pub(crate) fn lists_are_exact()
+// A law: where the files say a catalogue and a query over it, each outcome of `list` prints a universal plan of the query
+// and exactly its listed sets, which every executable rewriting maps onto a superset of, or refuses the query. It prints
+// where the query is satisfiable, and refuses exactly where it is not.
+fn lists_are_exact()
     ensures lists { OutcomesAreLists }
     ensures refusals { OutcomesAreRefusals }
 {
@@ -76,11 +76,11 @@ pub(crate) fn lists_are_exact()
     listings_hold();
 }
 
-/// A law: where the files say a catalogue and a query over it, each outcome of `run` prints exactly the answers of the
-/// chosen listed set over the rows of the files, which are the query's over each database that they are the view rows of,
-/// exactly where such a set can be run; or it tells that the query is unsatisfiable, that it has no executable rewriting, or
-/// that the number is above its list, exactly where it is so.
-pub(crate) fn runs_are_exact()
+// A law: where the files say a catalogue and a query over it, each outcome of `run` prints exactly the answers of the
+// chosen listed set over the rows of the files, which are the query's over each database that they are the view rows of,
+// exactly where such a set can be run; or it tells that the query is unsatisfiable, that it has no executable rewriting, or
+// that the number is above its list, exactly where it is so.
+fn runs_are_exact()
     ensures { OutcomesAreRuns }
 {
     openings_hold();
@@ -90,10 +90,10 @@ pub(crate) fn runs_are_exact()
     chosen_atoms_are_named();
 }
 
-/// A law: where the files say a catalogue and a union of two or more queries over it, each outcome of `list` prints the
-/// union's members, each a query's printed plan with exactly the sets listed in the union, or the clash of its run; or it
-/// refuses the union, exactly where none of its queries is satisfiable.
-pub(crate) fn union_lists_hold()
+// A law: where the files say a catalogue and a union of two or more queries over it, each outcome of `list` prints the
+// union's members, each a query's printed plan with exactly the sets listed in the union, or the clash of its run; or it
+// refuses the union, exactly where none of its queries is satisfiable.
+fn union_lists_hold()
     ensures { OutcomesAreUnionLists }
 {
     openings_hold();
@@ -101,11 +101,11 @@ pub(crate) fn union_lists_hold()
     union_lists_are_exact();
 }
 
-/// A law: there each outcome of `run` prints exactly the rows of the sets that are chosen over the files, which are the
-/// union's over each database that they are the view rows of, exactly where the union can be run; or it tells the clash of
-/// its first query's run, that it has no executable rewriting, or that the number is above the least length of its lists,
-/// exactly where it is so.
-pub(crate) fn union_runs_hold()
+// A law: there each outcome of `run` prints exactly the rows of the sets that are chosen over the files, which are the
+// union's over each database that they are the view rows of, exactly where the union can be run; or it tells the clash of
+// its first query's run, that it has no executable rewriting, or that the number is above the least length of its lists,
+// exactly where it is so.
+fn union_runs_hold()
     ensures { OutcomesAreUnionRuns }
 {
     openings_hold();
@@ -177,10 +177,10 @@ pub fn outcomes_are_where_files_are()
     outcomes_are_determined();
 }
 
-/// A law: where the files say what a command on data needs, what `fill` does is the file of the fragment's view rows, each
-/// outcome of `answer` is the answers of the query, or of the union, over the datasets' files, and of `audit` that all agrees,
-/// or the first cause that there is.
-pub(crate) fn data_outcomes_hold()
+// A law: where the files say what a command on data needs, what `fill` does is the file of the fragment's view rows, each
+// outcome of `answer` is the answers of the query, or of the union, over the datasets' files, and of `audit` that all agrees,
+// or the first cause that there is.
+fn data_outcomes_hold()
     ensures fills { FillsAreExact }
     ensures answers { OutcomesAreAnswers }
     ensures unions { OutcomesAreUnionAnswers }
@@ -189,22 +189,22 @@ pub(crate) fn data_outcomes_hold()
     data_outcomes_are_exact();
 }
 
-/// A law: where the files say a catalogue and the queries over it, each outcome of `contains` tells whether the left query is
-/// contained in the right one, or that their heads differ in length; and each of `minimise` prints the query's minimal
-/// equivalent parts, or tells that it is unsatisfiable.
-pub(crate) fn reasoning_outcomes_hold()
+// A law: where the files say a catalogue and the queries over it, each outcome of `contains` tells whether the left query is
+// contained in the right one, or that their heads differ in length; and each of `minimise` prints the query's minimal
+// equivalent parts, or tells that it is unsatisfiable.
+fn reasoning_outcomes_hold()
     ensures contains { OutcomesAreContainments }
     ensures minimise { OutcomesAreMinimised }
 {
     reasoning_outcomes_are_exact();
 }
 
-/// A law: where the files say a catalogue and a query over it, each outcome of `explain` is a certificate that is accepted for
-/// the listed set of the number, which is safe and whose candidate is contained in the query; or it refuses the query, or the
-/// number, exactly where it has to. Each outcome of `verify` refuses the query exactly where it has to; else it refuses the
-/// first number above how many atoms the plan has, or tells the verdict on the certificate for the set that the numbers
-/// name, which is accepted only where it derives a match of the query from the set's atoms alone.
-pub(crate) fn certificate_outcomes_hold()
+// A law: where the files say a catalogue and a query over it, each outcome of `explain` is a certificate that is accepted for
+// the listed set of the number, which is safe and whose candidate is contained in the query; or it refuses the query, or the
+// number, exactly where it has to. Each outcome of `verify` refuses the query exactly where it has to; else it refuses the
+// first number above how many atoms the plan has, or tells the verdict on the certificate for the set that the numbers
+// name, which is accepted only where it derives a match of the query from the set's atoms alone.
+fn certificate_outcomes_hold()
     ensures explain { OutcomesAreExplained }
     ensures verify { OutcomesAreVerified }
 {
@@ -212,6 +212,21 @@ pub(crate) fn certificate_outcomes_hold()
     explain_says_certificates();
     verify_checks_certificates();
     verify_says_verdicts();
+}
+
+/// The laws of outcomes, together.
+pub(crate) fn outcomes_hold()
+    ensures { OutcomeLaws }
+{
+    lists_are_exact();
+    runs_are_exact();
+    union_lists_hold();
+    union_runs_hold();
+    outcomes_are_determined();
+    outcomes_are_where_files_are();
+    data_outcomes_hold();
+    reasoning_outcomes_hold();
+    certificate_outcomes_hold();
 }
 
 /// A law: what `explain` puts for a set of the list is accepted by `verify` for the numbers of the set's atoms, wherever it is
