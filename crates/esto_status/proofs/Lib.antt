@@ -6,5 +6,4 @@ pub mod LineLemmas
 pub mod LoopSteps
 pub mod StatusLemmas
 pub mod Steps
-pub mod TextSteps
 pub mod RefusalLemmas

@@ -43,9 +43,9 @@ use Rattle.esto_top.specs.Grammar.{Request, atom_numbers, course_of, course_of_a
 use Rattle.esto_top.specs.Grammar.{request_of_one, request_of_three, request_of_two, verifies_named}
 use Rattle.esto_top.specs.Grammar.Request.{AnswerFor, AuditOf, BenchOf, CheckOf, ContainsFor, ExplainFor, FillFor, ListFor, MinimiseFor, RunFor, VerifyFor}
 use Rattle.esto_top.specs.Laws.{StepLaws}
-use Rattle.esto_top.specs.List.{list_course, lists_queries, lists_query, lists_read, prints_list}
+use Rattle.esto_top.specs.List.{list_course, lists_queries, lists_query, prints_list}
 use Rattle.esto_top.specs.Outcome.Says.{replies, refuses as by_refusal}
-use Rattle.esto_top.specs.Run.{IsRunText, run_course, runs_end, runs_item, runs_plan, runs_queries, runs_query, runs_read}
+use Rattle.esto_top.specs.Run.{IsRunText, run_course, runs_end, runs_item, runs_plan, runs_queries, runs_query}
 use Rattle.esto_top.proofs.SizeLemmas.{sized as made_sized}
 
 -- ---- ends and outcomes
@@ -186,18 +186,13 @@ module _ (laws : StepLaws) where
 
     lists_end : (catalogue_name query_name : List ℕ) → EndsOrLacks (list_course (Some files) catalogue_name query_name)
     lists_end catalogue_name query_name =
-        ends_then (opens_catalogue (Some files) catalogue_name) (lists_read (Some files) query_name) (laws.catalogue files catalogue_name) (λ catalogue _.
-        ends_then (opens_union (Some files) query_name catalogue) (λ queries. and_then (lists_queries catalogue queries) (λ text. gives (Done text)))
-        (laws.union files query_name catalogue) (λ queries opened.
+        ends_then _ _ (laws.catalogue files catalogue_name) (λ catalogue _. ends_then _ _ (laws.union files query_name catalogue) (λ queries opened.
         ends_then (lists_queries catalogue queries) (λ text. gives (Done text))
         (queries_list catalogue queries (some_query laws.formed (Some files) query_name catalogue queries opened)) (λ text _. gives_ends (Done text))))
 
     all_runs_end : (catalogue_name query_name : List ℕ) (number : Option ℕ) → EndsOrLacks (run_course (Some files) catalogue_name query_name number)
     all_runs_end catalogue_name query_name number =
-        ends_then (opens_catalogue (Some files) catalogue_name) (runs_read (Some files) query_name number) (laws.catalogue files catalogue_name)
-        (λ catalogue _.
-        ends_then (opens_union (Some files) query_name catalogue) (λ queries. runs_queries (Some files) catalogue queries number)
-        (laws.union files query_name catalogue) (λ queries opened.
+        ends_then _ _ (laws.catalogue files catalogue_name) (λ catalogue _. ends_then _ _ (laws.union files query_name catalogue) (λ queries opened.
         queries_run files catalogue number queries (some_query laws.formed (Some files) query_name catalogue queries opened)))
 
     benches_end : (size : ℕ) → 0 < size → EndsOrLacks (bench_course size)

@@ -2,13 +2,11 @@
 use Rattle.std.proofs.Common.{◌≡◌, ℕ, List, None, Some, slice_get}
 use Rattle.esto_mapping.specs.declared.catalogue.Catalogue.{Catalogue}
 use Rattle.esto_rewriting.specs.Explain.{certifies_item, explains_plan, explains_query}
-use Rattle.esto_top.specs.Explain.{explain_course, explains_read}
+use Rattle.esto_top.specs.Explain.{explain_course}
 use Rattle.esto_rewriting.specs.CertificateLaws.{ListedSetsHaveOne}
 use Rattle.esto_rewriting.specs.Verify.{HasVerdict}
-use Rattle.esto_course.specs.Course.{Course, and_then, gives, judges}
+use Rattle.esto_course.specs.Course.{Course, and_then, judges}
 use Rattle.esto_list.specs.declared.listing.Listed.{Listed}
-use Rattle.esto_opening.specs.Opening.{opens_catalogue, opens_query}
-use Rattle.esto_status.specs.declared.reply.Reply.TheVariants.{Done}
 use Rattle.esto_status.specs.declared.status.Status.{Status}
 use Rattle.esto_rewriting.specs.Choice.{HasNoPlace, IsPlace}
 use Rattle.esto_rewriting.specs.PlannedLaws.{PlaceIsWithin}
@@ -20,8 +18,8 @@ use Rattle.esto_term.proofs.ListLemmas.{thing_at}
 use Rattle.esto_views.specs.declared.plan.Plan.{Plan}
 use Rattle.esto_top.specs.Ends.{Ends, EndsOrLacks}
 use Rattle.esto_top.specs.LawsBelow.{BelowLaws, ReadingLaws}
-use Rattle.esto_top.proofs.CourseLemmas.{ends_judged, ends_then, gives_ends, judges_accepted, judges_accepts}
-use Rattle.esto_top.proofs.OpeningLemmas.{catalogue_opens, query_opens}
+use Rattle.esto_top.proofs.CourseLemmas.{ends_judged, ends_then, judges_accepted, judges_accepts}
+use Rattle.esto_top.proofs.OpeningLemmas.{catalogue_opens, query_replies}
 use Rattle.esto_top.proofs.RunEndLemmas.{chooses_ends, plan_of, plans_ends}
 use Rattle.esto_top.proofs.PlannedLemmas.{list_exists}
 
@@ -51,9 +49,5 @@ module _ (laws : BelowLaws) (place_is : PlaceIsWithin) (have : ListedSetsHaveOne
 pub explain_ends : ReadingLaws → BelowLaws → PlaceIsWithin → ListedSetsHaveOne → (files : Files) (catalogue_name query_name : List ℕ) (number : ℕ)
     → EndsOrLacks (explain_course (Some files) catalogue_name query_name number)
 explain_ends readings laws place_is have files catalogue_name query_name number =
-    ends_then (opens_catalogue (Some files) catalogue_name) (explains_read (Some files) query_name number) (catalogue_opens readings files catalogue_name)
-    (λ catalogue says.
-    ends_then (opens_query (Some files) query_name catalogue) (λ query. and_then (explains_query number catalogue query) (λ text. gives (Done text)))
-    (query_opens readings files query_name catalogue) (λ query says_query.
-    ends_then (explains_query number catalogue query) (λ text. gives (Done text))
-    (query_ends laws place_is have catalogue query number) (λ text _. gives_ends (Done text))))
+    ends_then _ _ (catalogue_opens readings files catalogue_name) (λ catalogue says.
+    query_replies readings files query_name catalogue (explains_query number catalogue) (λ query. query_ends laws place_is have catalogue query number))

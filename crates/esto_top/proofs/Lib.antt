@@ -53,13 +53,13 @@ pub mod ExplainLemmas
 pub mod AtomLemmas
 pub mod AgreedLemmas
 pub mod WordLemmas
+pub mod TaskLemmas
 pub mod ReasoningLeadLemmas
 pub mod ExplainedLemmas
 pub mod ExplainStatusLemmas
 pub mod VerifyVerdictLemmas
 pub mod VerifiedLemmas
 pub mod VerifyAlikeLemmas
-pub mod VerifyAskedLemmas
 pub mod AuditRefusalLemmas
 pub mod WeakerLemmas
 pub mod DataExactLemmas

@@ -4,9 +4,11 @@ use Rattle.esto_catalog.specs.Reading.{IsCatalogueOf, IsCatalogueError}
 use Rattle.esto_mapping.specs.declared.catalogue.Catalogue.{Catalogue}
 use Rattle.esto_catalog.specs.declared.fault.CatalogueError.{CatalogueError}
 use Rattle.esto_catalog.specs.declared.fault.CatalogueError.TheVariants.{Fault, NotAcyclic}
+use Rattle.esto_course.specs.Course.{Course, and_then, gives}
 use Rattle.esto_status.specs.Fetch.{fetches}
 use Rattle.esto_opening.specs.Opening.{opens_catalogue, opens_query, opens_union, reads_catalogue, reads_query, reads_union, status_of, unnamed}
 use Rattle.esto_status.specs.declared.limits.TheConstants.{CATALOGUE_LIMIT, QUERY_LIMIT}
+use Rattle.esto_status.specs.declared.reply.Reply.TheVariants.{Done}
 use Rattle.esto_status.specs.declared.status.Status.{Status}
 use Rattle.esto_status.specs.declared.status.Status.TheVariants as status
 use Rattle.esto_ports.specs.Files.{Files}
@@ -19,7 +21,8 @@ use Rattle.esto_read.specs.declared.read.NamedQuery.{NamedQuery}
 use Rattle.esto_text.specs.declared.fault.TextFault.{TextFault}
 use Rattle.esto_top.specs.Ends.{Ends, EndsOrLacks}
 use Rattle.esto_top.specs.LawsBelow.{ReadingLaws}
-use Rattle.esto_top.proofs.CourseLemmas.{ends_then, fetches_ends, judges_accepts, judges_refuses}
+use Rattle.esto_top.specs.Over.{over_query}
+use Rattle.esto_top.proofs.CourseLemmas.{ends_then, fetches_ends, gives_ends, judges_accepts, judges_refuses}
 
 module _ (laws : ReadingLaws) where
   -- ---- what bytes say
@@ -75,3 +78,10 @@ module _ (laws : ReadingLaws) where
     pub union_opens : (catalogue : Catalogue) → EndsOrLacks (opens_union (Some files) name catalogue)
     union_opens catalogue =
         ends_then (fetches (Some files) name QUERY_LIMIT) (reads_union catalogue) (fetches_ends files name QUERY_LIMIT) (λ bytes _. union_read catalogue bytes)
+
+    -- where the text of what is told of the query comes to an end, so does its reply
+    pub query_replies : (catalogue : Catalogue) (texts : Query → Course Status (List ℕ)) → ((query : Query) → EndsOrLacks (texts query))
+        → EndsOrLacks (over_query (Some files) name catalogue texts)
+    query_replies catalogue texts ends =
+        ends_then (opens_query (Some files) name catalogue) (λ query. and_then (texts query) (λ text. gives (Done text))) (query_opens catalogue)
+        (λ query _. ends_then (texts query) (λ text. gives (Done text)) (ends query) (λ text _. gives_ends (Done text)))

@@ -93,22 +93,6 @@ module _ (files : Option Files) (catalogue : Catalogue) (query : Query) (number 
 
 -- ---- the queries
 
--- the answer over the files and the queries that were handed on
-pub queries_answer : (files other : Option Files) → other ≡ files → (catalogue : Catalogue) (queries items : List Query) → items ≡ queries → (number : Option ℕ)
-    (rose : Type 0) (result : Result Reply Status) → Answers (runs_queries other catalogue items number) rose result
-    → Answers (runs_queries files catalogue queries number) rose result
-queries_answer files other same catalogue queries items are number rose result answer =
-    subst (λ (it : Option Files). Answers (runs_queries it catalogue queries number) rose result) same
-    (subst (λ (it : List Query). Answers (runs_queries other catalogue it number) rose result) are answer)
-
--- and what was asked
-pub queries_asks : (files other : Option Files) → other ≡ files → (catalogue : Catalogue) (queries items : List Query) → items ≡ queries → (number : Option ℕ)
-    {old new : Option Names} (result : Result Reply Status) → AsksIn old new (runs_queries other catalogue items number) result
-    → AsksIn old new (runs_queries files catalogue queries number) result
-queries_asks files other same catalogue queries items are number {old = old} {new = new} result asked =
-    subst (λ (it : Option Files). AsksIn old new (runs_queries it catalogue queries number) result) same
-    (subst (λ (it : List Query). AsksIn old new (runs_queries other catalogue it number) result) are asked)
-
 module _ (files : Option Files) (catalogue : Catalogue) (number : Option ℕ) (result : Result Reply Status) where
   -- one query is run
   pub one_answers : (rose : Type 0) (queries : List Query) (query : Query) → length queries ≡ 1 → query ≡ get_or queries 0 query

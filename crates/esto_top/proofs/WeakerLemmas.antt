@@ -7,7 +7,6 @@ use Rattle.esto_status.specs.Answers.{Answers}
 use Rattle.esto_status.specs.Asked.{AsksAt, AsksIn}
 use Rattle.esto_status.specs.Asked.AsksToStop.{wanting, stopping}
 use Rattle.esto_status.specs.declared.status.Status.{Status}
-use Rattle.esto_status.specs.declared.reply.Reply.{Reply}
 use Rattle.esto_ports.specs.Files.{Files}
 use Rattle.esto_data.specs.Fill.{IsFilled, IsMade}
 use Rattle.esto_top.specs.Fill.{fill_course, make_course}
@@ -17,6 +16,9 @@ pub record IsWeaker {A : Type 0} (course weaker : Course Status A) : Type 0 wher
   pub goes : (value : A) → course.goes value → weaker.goes value
   pub stops : (refusal : Status) → course.stops refusal → weaker.stops refusal
   pub asks : (names : Names) (point : Point Status A) → course.asks names point → weaker.asks names point
+
+pub weaker_itself : {A : Type 0} (course : Course Status A) → IsWeaker course course
+weaker_itself course = record { goes = λ value goes. goes; stops = λ refusal stops. stops; asks = λ names point asks. asks }
 
 judges_weaker : {A : Type 0} (Accepts Others : A → Type 0) (Refuses : Status → Type 0) → ((value : A) → Accepts value → Others value)
     → IsWeaker (judges Accepts Refuses) (judges Others Refuses)
@@ -96,7 +98,7 @@ first_weaker {A} {B} first other next weaker = record {
 -- ---- answers
 
 module _ {A : Type 0} (course other : Course Status A) (weaker : IsWeaker course other) where
-  answers_weaker : (rose : Type 0) (result : Result A Status) → Answers course rose result → Answers other rose result
+  pub answers_weaker : (rose : Type 0) (result : Result A Status) → Answers course rose result → Answers other rose result
   answers_weaker rose (Ok value) goes = weaker.goes value goes
   answers_weaker rose (Err refusal) (is_free is) = is_free is
   answers_weaker rose (Err refusal) (refused caused stops) = refused caused (weaker.stops refusal stops)
@@ -106,24 +108,16 @@ module _ {A : Type 0} (course other : Course Status A) (weaker : IsWeaker course
   asks_at_weaker names (Err refusal) (wanting is asks) = wanting is (weaker.asks names underway asks)
   asks_at_weaker names (Err refusal) (stopping caused asks ends) = stopping caused (weaker.asks names (stopped refusal) asks) ends
 
-  asks_weaker : (before after : Option Names) (result : Result A Status) → AsksIn before after course result → AsksIn before after other result
+  pub asks_weaker : (before after : Option Names) (result : Result A Status) → AsksIn before after course result → AsksIn before after other result
   asks_weaker before after result asks = record { names = asks.names; told = asks.told; asks = asks_at_weaker asks.names result asks.asks }
 
 -- ---- `fill`
 
 -- a file that is filled has a text that is made of its rows
-fill_weaker : (files : Option Files) (catalogue_name name : List ℕ) → IsWeaker (fill_course files catalogue_name name) (make_course files catalogue_name name)
+pub fill_weaker : (files : Option Files) (catalogue_name name : List ℕ) → IsWeaker (fill_course files catalogue_name name) (make_course files catalogue_name name)
 fill_weaker files catalogue_name name =
     then_weaker _ _ _ (λ catalogue.
     then_weaker _ _ _ (λ number.
     then_weaker _ _ _ (λ stored.
     then_weaker _ _ _ (λ facts.
     first_weaker _ _ _ (judges_weaker (IsFilled stored facts) (IsMade stored facts) _ (λ text is. is.filled))))))
-
-pub filled_answers : (files : Option Files) (catalogue_name name : List ℕ) (rose : Type 0) (result : Result Reply Status)
-    → Answers (fill_course files catalogue_name name) rose result → Answers (make_course files catalogue_name name) rose result
-filled_answers files catalogue_name name = answers_weaker _ _ (fill_weaker files catalogue_name name)
-
-pub filled_asks : (files : Option Files) (catalogue_name name : List ℕ) (before after : Option Names) (result : Result Reply Status)
-    → AsksIn before after (fill_course files catalogue_name name) result → AsksIn before after (make_course files catalogue_name name) result
-filled_asks files catalogue_name name = asks_weaker _ _ (fill_weaker files catalogue_name name)

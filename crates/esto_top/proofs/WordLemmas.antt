@@ -1,5 +1,5 @@
 -- What the words of a command line ask for, by how many there are.
-use Rattle.std.proofs.Common.{◌≡◌, ◌+◌, ◌<◌, ◌≤◌, ℕ, List, [], ◌∷◌, drop, length, get_or, Option, Some, None, refl, ap, ◌∙◌, arith}
+use Rattle.std.proofs.Common.{◌≡◌, ◌+◌, ◌<◌, ◌≤◌, ℕ, List, [], ◌∷◌, drop, length, get_or, Option, None, refl, ap, ◌∙◌, arith}
 use Rattle.std.specs.Prelude.{MatchOption}
 use Rattle.std.proofs.lemmas.List.{drop_all}
 use Rattle.esto_term.proofs.PlaceLemmas.{drop-item}
@@ -8,7 +8,7 @@ use Rattle.esto_top.specs.declared.command.Command.{Command}
 
 -- the command is what the words ask for, or they ask for nothing
 abbrev pub IsCommandOf : Option Command → List (List ℕ) → Type 0
-IsCommandOf found words = MatchOption found (request_of words ≡ None) (λ command. request_of words ≡ Some (asked command))
+IsCommandOf found words = MatchOption found (request_of words ≡ None) (λ command. request_of words ≡ asked command)
 
 -- these are read one after another from a place on
 abbrev pub AreRead : List (List ℕ) → ℕ → List (List ℕ) → Type 0

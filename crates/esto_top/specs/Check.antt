@@ -4,11 +4,11 @@ use Rattle.std.specs.Fmt.{decimal}
 use Rattle.esto_mapping.specs.declared.catalogue.Catalogue.{Catalogue}
 use Rattle.esto_ports.specs.Files.{Files}
 use Rattle.esto_query.specs.Schemas.{names_of}
-use Rattle.esto_course.specs.Course.{Course, gives, and_then}
-use Rattle.esto_opening.specs.Opening.{opens_catalogue}
+use Rattle.esto_course.specs.Course.{Course, gives}
 use Rattle.esto_status.specs.declared.reply.Reply.{Reply}
 use Rattle.esto_status.specs.declared.reply.Reply.TheVariants.{Done}
 use Rattle.esto_status.specs.declared.status.Status.{Status}
+use Rattle.esto_top.specs.Over.{over_catalogue}
 
 -- The line of a relation and its rank.
 abbrev pub rank_line : List ℕ → ℕ → List ℕ
@@ -36,4 +36,4 @@ prints_check catalogue = gives (Done (check_text catalogue))
 
 -- The catalogue is fetched and read, and its text is the reply.
 abbrev pub check_course : Option Files → List ℕ → Course Status Reply
-check_course files name = and_then (opens_catalogue files name) prints_check
+check_course files name = over_catalogue files name prints_check

@@ -1,6 +1,6 @@
 -- The command line: its grammar, and the course of each command.
 use Rattle.std.specs.Prelude.{◌≡◌, ℕ, ◌+◌, ◌-◌, ◌*◌, ◌==◌, ◌<◌, ◌≤◌, nat_le, nat_lt, List, [], ◌∷◌, length, Bool, false, ◌&&◌, Option, Some, None}
-use Rattle.std.specs.Prelude.{if◌then◌else◌, codes, nat_eq}
+use Rattle.std.specs.Prelude.{if◌then◌else◌, codes, nat_eq, MatchOption}
 use Rattle.std.specs.Cmp.Lexicographic.{pointwise}
 use Rattle.std.specs.List.{list_all, slice_split}
 use Rattle.esto_ports.specs.Files.{Files}
@@ -19,6 +19,10 @@ use Rattle.esto_top.specs.List.{list_course}
 use Rattle.esto_top.specs.Run.{run_course}
 use Rattle.esto_top.specs.declared.command.Command.{Command}
 use Rattle.esto_top.specs.declared.command.Command.TheVariants as command
+use Rattle.esto_top.specs.declared.queries.QueryTask.TheVariants as query_task
+use Rattle.esto_top.specs.declared.task.Task.{Task}
+use Rattle.esto_top.specs.declared.task.Task.TheVariants as task
+use Rattle.esto_top.specs.declared.unions.UnionTask.TheVariants as union_task
 use Rattle.esto_status.specs.declared.reply.Reply.{Reply}
 use Rattle.esto_status.specs.declared.status.Status.TheVariants.{Usage}
 use Rattle.esto_top.specs.declared.command.TheConstants.{MAX_DIGITS}
@@ -144,33 +148,34 @@ request_of (verb ∷ first ∷ second ∷ third ∷ []) = request_of_three verb 
 request_of (verb ∷ first ∷ second ∷ third ∷ fourth ∷ []) = request_of_four verb first second third fourth
 request_of _ = None
 
--- A command of the program as what its words ask for.
-abbrev pub asked : Command → Request
-asked (command.Check catalogue) = Request.CheckOf catalogue.now
-asked (command.List catalogue query) = Request.ListFor catalogue.now query.now
-asked (command.Run catalogue query number) = Request.RunFor catalogue.now query.now number
-asked (command.Bench size) = Request.BenchOf size
-asked (command.Fill catalogue fragment) = Request.FillFor catalogue.now fragment.now
-asked (command.Answer catalogue query) = Request.AnswerFor catalogue.now query.now
-asked (command.Audit catalogue) = Request.AuditOf catalogue.now
-asked (command.Contains catalogue left right) = Request.ContainsFor catalogue.now left.now right.now
-asked (command.Minimise catalogue query) = Request.MinimiseFor catalogue.now query.now
-asked (command.Explain catalogue query number) = Request.ExplainFor catalogue.now query.now number
-asked (command.Verify catalogue query atoms file) = Request.VerifyFor catalogue.now query.now atoms.now file.now
+-- What asks for this task over a catalogue's file; nothing where no words name the task, as it has a query or numbers of atoms that are read before.
+abbrev pub asked_over : List ℕ → Task → Option Request
+asked_over catalogue task.Check = Some (Request.CheckOf catalogue)
+asked_over catalogue task.Audit = Some (Request.AuditOf catalogue)
+asked_over catalogue (task.Fill fragment) = Some (Request.FillFor catalogue fragment.now)
+asked_over catalogue (task.Contains left right) = Some (Request.ContainsFor catalogue left.now right.now)
+asked_over catalogue (task.Query query query_task.Minimise) = Some (Request.MinimiseFor catalogue query.now)
+asked_over catalogue (task.Query query (query_task.Explain number)) = Some (Request.ExplainFor catalogue query.now number)
+asked_over catalogue (task.Query query _) = None
+asked_over catalogue (task.Union query union_task.List) = Some (Request.ListFor catalogue query.now)
+asked_over catalogue (task.Union query (union_task.Run number)) = Some (Request.RunFor catalogue query.now number)
+asked_over catalogue (task.Union query union_task.Answer) = Some (Request.AnswerFor catalogue query.now)
 
--- The size of `bench` is one of the made case.
+-- A command of the program as what its words ask for.
+abbrev pub asked : Command → Option Request
+asked (command.Bench size) = Some (Request.BenchOf size)
+asked (command.Verify catalogue query atoms file) = Some (Request.VerifyFor catalogue.now query.now atoms.now file.now)
+asked (command.Over catalogue task) = asked_over catalogue.now task
+
+-- Words name the task.
+abbrev pub IsNamed : Option Request → Type 0
+IsNamed request = MatchOption request ⊥ (λ _. Unit {0})
+
+-- The size of `bench` is one of the made case, and words name the task over a catalogue.
 abbrev pub IsSized : Command → Type 0
-IsSized (command.Check catalogue) = Unit {0}
-IsSized (command.List catalogue query) = Unit {0}
-IsSized (command.Run catalogue query number) = Unit {0}
 IsSized (command.Bench size) = (0 < size) × (size ≤ MAX_SIZE)
-IsSized (command.Fill catalogue fragment) = Unit {0}
-IsSized (command.Answer catalogue query) = Unit {0}
-IsSized (command.Audit catalogue) = Unit {0}
-IsSized (command.Contains catalogue left right) = Unit {0}
-IsSized (command.Minimise catalogue query) = Unit {0}
-IsSized (command.Explain catalogue query number) = Unit {0}
 IsSized (command.Verify catalogue query atoms file) = Unit {0}
+IsSized (command.Over catalogue task) = IsNamed (asked_over catalogue.now task)
 
 -- The course of what is asked for.
 abbrev pub course_of_request : Option Files → Request → Course Status Reply

@@ -3,6 +3,8 @@ pub mod LawsBelow
 pub mod Steps
 pub mod Check
 pub mod List
+pub mod Over
+pub mod Tasks
 pub mod Run
 pub mod Bench
 pub mod Grammar

@@ -6,12 +6,12 @@ use Rattle.esto_ports.specs.Files.{Files}
 use Rattle.esto_query.specs.declared.query.Query.{Query}
 use Rattle.esto_views.specs.declared.plan.Plan.{Plan}
 use Rattle.esto_course.specs.Course.{Course, judges, gives, and_then}
-use Rattle.esto_opening.specs.Opening.{opens_catalogue, opens_union}
 use Rattle.esto_rewriting.specs.Planning.{plans_query}
 use Rattle.esto_status.specs.declared.reply.Reply.{Reply}
 use Rattle.esto_status.specs.declared.reply.Reply.TheVariants.{Done}
 use Rattle.esto_status.specs.declared.status.Status.{Status}
 use Rattle.esto_rewriting.specs.Listing.{IsListing}
+use Rattle.esto_top.specs.Over.{over_catalogue, over_union}
 
 -- The text of the plan's list is made.
 abbrev pub prints_list : Catalogue → Query → Plan → Course Status (List ℕ)
@@ -26,13 +26,11 @@ abbrev pub lists_queries : Catalogue → List Query → Course Status (List ℕ)
 lists_queries catalogue (query ∷ []) = lists_query catalogue query
 lists_queries catalogue queries = lists_union catalogue queries
 
--- The queries are fetched and read, and the text of their list is the reply.
-abbrev pub lists_read : Option Files → List ℕ → Catalogue → Course Status Reply
-lists_read files query_name catalogue =
-    and_then (opens_union files query_name catalogue) (λ queries.
-    and_then (lists_queries catalogue queries) (λ text.
-    gives (Done text)))
+-- The text of the queries' list is the reply.
+abbrev pub prints_queries : Catalogue → List Query → Course Status Reply
+prints_queries catalogue queries = and_then (lists_queries catalogue queries) (λ text. gives (Done text))
 
 -- The catalogue is fetched and read, then the queries, and the text of their list is the reply.
 abbrev pub list_course : Option Files → List ℕ → List ℕ → Course Status Reply
-list_course files catalogue_name query_name = and_then (opens_catalogue files catalogue_name) (lists_read files query_name)
+list_course files catalogue_name query_name =
+    over_catalogue files catalogue_name (λ catalogue. over_union files query_name catalogue (prints_queries catalogue))

@@ -17,11 +17,11 @@ use Rattle.esto_semantics.specs.Listed.{candidate}
 use Rattle.esto_views.specs.Plans.{plan_query}
 use Rattle.esto_views.specs.declared.plan.Plan.{Plan}
 use Rattle.esto_run.specs.Fragments.{opens_fragments}
-use Rattle.esto_opening.specs.Opening.{opens_catalogue, opens_union}
 use Rattle.esto_rewriting.specs.Planning.{chooses, ends_query, lists_plan}
 use Rattle.esto_status.specs.declared.reply.Reply.{Reply}
 use Rattle.esto_status.specs.declared.reply.Reply.TheVariants.{Done, Unsatisfiable}
 use Rattle.esto_status.specs.declared.status.Status.{Status}
+use Rattle.esto_top.specs.Over.{over_catalogue, over_union}
 
 -- ---- the text
 
@@ -67,13 +67,7 @@ abbrev pub runs_queries : Option Files → Catalogue → List Query → Option �
 runs_queries files catalogue (query ∷ []) number = runs_query files catalogue query number
 runs_queries files catalogue queries number = runs_union files catalogue queries number
 
--- The queries are fetched and read, and they are run.
-abbrev pub runs_read : Option Files → List ℕ → Option ℕ → Catalogue → Course Status Reply
-runs_read files query_name number catalogue =
-    and_then (opens_union files query_name catalogue) (λ queries.
-    runs_queries files catalogue queries number)
-
 -- The catalogue is fetched and read, then the queries, and they are run.
 abbrev pub run_course : Option Files → List ℕ → List ℕ → Option ℕ → Course Status Reply
 run_course files catalogue_name query_name number =
-    and_then (opens_catalogue files catalogue_name) (runs_read files query_name number)
+    over_catalogue files catalogue_name (λ catalogue. over_union files query_name catalogue (λ queries. runs_queries files catalogue queries number))

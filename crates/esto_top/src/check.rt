@@ -1,15 +1,11 @@
 //! The command `check`.
-ghost use Rattle.std.specs.Prelude.{◌≡◌, ◌≤◌, ◌++◌, length, IfOk, OnOk};
-ghost use Rattle.esto_ports.specs.Faults.{Rises};
+ghost use Rattle.std.specs.Prelude.{◌≡◌, ◌++◌, length, IfOk, OnOk};
 ghost use Rattle.esto_query.specs.Schemas.{names_of};
-ghost use Rattle.esto_top.specs.Check.{count_lines, rank_line, rank_lines, check_text, prints_check, check_course};
+ghost use Rattle.esto_top.specs.Check.{count_lines, rank_line, rank_lines, check_text, prints_check};
 ghost use Rattle.esto_status.specs.Answers.{Answers};
-ghost use Rattle.esto_status.specs.Asked.{AsksIn};
 
 use esto_constraint::Ranks;
 use esto_mapping::{Catalogue, catalogues_are_sound};
-use esto_opening::open_catalogue;
-use esto_ports::Shelf;
 use esto_query::Schema;
 use esto_status::{Reply, Status};
 use esto_term::{Bytes, OutOfMemory, Text};
@@ -67,27 +63,11 @@ fn check_text(alloc: Global, catalogue: &Catalogue) -> Result<Bytes, OutOfMemory
     Ok(text)
 }
 
-// The reply with what the command prints.
+/// Prints the counts of the catalogue and the ranks of its relations.
 #[tactic(auto, using(crate::proofs::Steps::steps))]
-fn checked(alloc: Global, catalogue: &Catalogue) -> Result<Reply, Status>
+pub fn check(alloc: Global, catalogue: &Catalogue) -> Result<Reply, Status>
     ensures { Answers (prints_check catalogue.now) ⊥ result }
 {
     let text = check_text(alloc, catalogue)?;
     Ok(Reply::Done(text))
-}
-
-/// Fetches and reads the catalogue, and prints its counts and the ranks of its relations.
-#[tactic(auto, using(crate::proofs::Steps::steps, crate::proofs::Steps::asked_steps))]
-pub fn check<S: Shelf>(alloc: Global, shelf: &mut S, catalogue: &Text) -> Result<Reply, Status>
-    ensures answer { Answers (check_course (S.files shelf.old) catalogue.now)
-        (Rises S.faults shelf.old shelf.new) result }
-    ensures asked { AsksIn (S.asked shelf.old) (S.asked shelf.new)
-        (check_course (S.files shelf.old) catalogue.now) result }
-    ensures files { S.files shelf.new ≡ S.files shelf.old }
-    ensures later { S.faults shelf.old ≤ S.faults shelf.new }
-{
-    let catalogue = open_catalogue(alloc, shelf, catalogue)?;
-    let reply = checked(alloc, &catalogue);
-    drop(catalogue);
-    reply
 }

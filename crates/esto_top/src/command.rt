@@ -6,20 +6,13 @@ ghost use Rattle.esto_status.specs.Answers.{Answers};
 ghost use Rattle.esto_status.specs.Asked.{AsksIn};
 ghost use Rattle.esto_top.specs.DataOutcomes.{AnswersFill};
 ghost use Rattle.esto_top.specs.Grammar.{is_word, is_digit, is_leading_digit, is_list_number, is_made_size, value_of, request_of_one, request_of_two};
-ghost use Rattle.esto_top.specs.Grammar.{request_of_three, request_of_four, request_of, asked, IsSized, course_of_request, number_above, numbers_above};
+ghost use Rattle.esto_top.specs.Grammar.{request_of_three, request_of_four, request_of, asked, IsSized, course_of_asked, number_above, numbers_above};
 ghost use Rattle.esto_top.specs.Grammar.{names_atoms, verifies_named};
 
-use crate::answer::answer;
-use crate::audit::audit;
 use crate::bench::bench;
-use crate::check::check;
-use crate::contains::contains;
-use crate::explain::explain;
-use crate::fill::fill;
-use crate::list::list;
-use crate::minimise::minimise;
-use crate::run::run;
-use crate::verify::verify;
+use crate::queries::QueryTask;
+use crate::task::{Task, over_catalogue};
+use crate::unions::UnionTask;
 use esto_bench::MAX_SIZE;
 use esto_cert::parts_by_comma;
 use esto_ports::Shelf;
@@ -33,32 +26,13 @@ const MAX_DIGITS: usize = 9;
 /// A command with its words.
 #[derive(Clone, Copy)]
 pub enum Command<'a> {
-    /// `check C`: the counts and the ranks of a catalogue's file.
-    Check(&'a Text),
-    /// `list C Q`: the plan and the list for a catalogue's file and a query's file.
-    List(&'a Text, &'a Text),
-    /// `run C Q` or `run C Q N`: the rows by the pick, or by the set of that number of the list, counted from 1, for a
-    /// catalogue's file and a query's file.
-    Run(&'a Text, &'a Text, Option<u64>),
     /// `bench N`: the summary of the made case of this size, 1 to `MAX_SIZE`.
     Bench(usize),
-    /// `fill C F`: the text of the file of the fragment of a name, for a catalogue's file.
-    Fill(&'a Text, &'a Text),
-    /// `answer C Q`: the rows over the datasets' files, for a catalogue's file and a query's file.
-    Answer(&'a Text, &'a Text),
-    /// `audit C`: whether the datasets' files meet the constraints and the fragments' files are right, for a catalogue's
-    /// file.
-    Audit(&'a Text),
-    /// `contains C L R`: whether one query is contained in another, for a catalogue's file and two queries' files.
-    Contains(&'a Text, &'a Text, &'a Text),
-    /// `minimise C Q`: the minimal equivalent parts of a query's chase, for a catalogue's file and a query's file.
-    Minimise(&'a Text, &'a Text),
-    /// `explain C Q N`: a certificate that the candidate of the set of that number of the list, counted from 1, is contained
-    /// in the query, for a catalogue's file and a query's file.
-    Explain(&'a Text, &'a Text, u64),
     /// `verify C Q A FILE`: whether a certificate's file is accepted for the atoms of the plan that a word names, for a
     /// catalogue's file and a query's file.
     Verify(&'a Text, &'a Text, &'a Text, &'a Text),
+    /// Each other command: a catalogue's file, and what is done over it.
+    Over(&'a Text, Task<'a>),
 }
 
 fn is_word(word: &Text, name: &[u8]) -> bool
@@ -149,14 +123,13 @@ fn named_atoms(alloc: Global, word: &Text) -> Result<Values<u64>, Status>
 }
 
 // Verifies the certificate of a file for the atoms that a word names.
-#[tactic(auto, using(crate::proofs::Steps::run_steps, crate::proofs::Steps::asked_steps))]
-fn verify_named<S: Shelf>(
+fn verify_named<'a, S: Shelf>(
     alloc: Global,
     shelf: &mut S,
     catalogue: &Text,
-    query: &Text,
+    query: &'a Text,
     atoms: &Text,
-    file: &Text,
+    file: &'a Text,
 ) -> Result<Reply, Status>
     ensures answer { Answers (verifies_named (S.files shelf.old) catalogue.now query.now atoms.now
         file.now) (Rises S.faults shelf.old shelf.new) result }
@@ -166,7 +139,8 @@ fn verify_named<S: Shelf>(
     ensures later { S.faults shelf.old ≤ S.faults shelf.new }
 {
     let numbers = named_atoms(alloc, atoms)?;
-    verify(alloc, shelf, catalogue, query, numbers.items(), file)
+    let task = QueryTask::Verify(numbers.items(), file);
+    over_catalogue(alloc, shelf, catalogue, Task::Query(query, task))
 }
 
 // Whether the word is 1 to 14 in decimal.
@@ -192,13 +166,13 @@ fn made_size(word: &[u8]) -> usize
 // The command of one word after the verb.
 fn command_of_one<'a>(verb: &Text, word: &'a Text) -> Option<Command<'a>>
     ensures command { MatchOption result (request_of_one verb.now word.now ≡ None)
-        (λ command. request_of_one verb.now word.now ≡ Some (asked command)) }
+        (λ command. request_of_one verb.now word.now ≡ asked command) }
     ensures sized { IfSome result IsSized }
 {
     if is_word(verb, b"check") {
-        Some(Command::Check(word))
+        Some(Command::Over(word, Task::Check))
     } else if is_word(verb, b"audit") {
-        Some(Command::Audit(word))
+        Some(Command::Over(word, Task::Audit))
     } else if is_word(verb, b"bench") && is_made_size(word.bytes()) {
         Some(Command::Bench(made_size(word.bytes())))
     } else {
@@ -209,19 +183,19 @@ fn command_of_one<'a>(verb: &Text, word: &'a Text) -> Option<Command<'a>>
 // The command of two words after the verb.
 fn command_of_two<'a>(verb: &Text, first: &'a Text, second: &'a Text) -> Option<Command<'a>>
     ensures command { MatchOption result (request_of_two verb.now first.now second.now ≡ None)
-        (λ command. request_of_two verb.now first.now second.now ≡ Some (asked command)) }
+        (λ command. request_of_two verb.now first.now second.now ≡ asked command) }
     ensures sized { IfSome result IsSized }
 {
     if is_word(verb, b"list") {
-        Some(Command::List(first, second))
+        Some(Command::Over(first, Task::Union(second, UnionTask::List)))
     } else if is_word(verb, b"run") {
-        Some(Command::Run(first, second, None))
+        Some(Command::Over(first, Task::Union(second, UnionTask::Run(None))))
     } else if is_word(verb, b"fill") {
-        Some(Command::Fill(first, second))
+        Some(Command::Over(first, Task::Fill(second)))
     } else if is_word(verb, b"answer") {
-        Some(Command::Answer(first, second))
+        Some(Command::Over(first, Task::Union(second, UnionTask::Answer)))
     } else if is_word(verb, b"minimise") {
-        Some(Command::Minimise(first, second))
+        Some(Command::Over(first, Task::Query(second, QueryTask::Minimise)))
     } else {
         None
     }
@@ -237,17 +211,17 @@ fn command_of_three<'a>(
     ensures command { MatchOption result
         (request_of_three verb.now first.now second.now third.now ≡ None)
         (λ command. request_of_three verb.now first.now second.now third.now
-        ≡ Some (asked command)) }
+        ≡ asked command) }
     ensures sized { IfSome result IsSized }
 {
     if is_word(verb, b"contains") {
-        Some(Command::Contains(first, second, third))
+        Some(Command::Over(first, Task::Contains(second, third)))
     } else if is_word(verb, b"run") && is_list_number(third.bytes()) {
         let number = value_of(third.bytes());
-        Some(Command::Run(first, second, Some(number)))
+        Some(Command::Over(first, Task::Union(second, UnionTask::Run(Some(number)))))
     } else if is_word(verb, b"explain") && is_list_number(third.bytes()) {
         let number = value_of(third.bytes());
-        Some(Command::Explain(first, second, number))
+        Some(Command::Over(first, Task::Query(second, QueryTask::Explain(number))))
     } else {
         None
     }
@@ -264,7 +238,7 @@ fn command_of_four<'a>(
     ensures command { MatchOption result
         (request_of_four verb.now first.now second.now third.now fourth.now ≡ None)
         (λ command. request_of_four verb.now first.now second.now third.now fourth.now
-        ≡ Some (asked command)) }
+        ≡ asked command) }
     ensures sized { IfSome result IsSized }
 {
     if is_word(verb, b"verify") {
@@ -277,7 +251,7 @@ fn command_of_four<'a>(
 /// The command that the words ask for, or nothing where they are outside the grammar.
 pub fn command_of<'a>(words: &'a [Text]) -> Option<Command<'a>>
     ensures command { MatchOption result (request_of words.now ≡ None)
-        (λ command. request_of words.now ≡ Some (asked command)) }
+        (λ command. request_of words.now ≡ asked command) }
     ensures sized { IfSome result IsSized }
 {
     match words {
@@ -294,30 +268,20 @@ pub fn command_of<'a>(words: &'a [Text]) -> Option<Command<'a>>
 /// Does what a command asks for.
 pub fn obey<S: Shelf>(alloc: Global, shelf: &mut S, command: Command<'_>) -> Result<Reply, Status>
     requires { IsSized command }
-    ensures answer { Answers (course_of_request (S.files shelf.old) (asked command.entry))
+    ensures answer { Answers (course_of_asked (S.files shelf.old) (asked command.entry))
         (Rises S.faults shelf.old shelf.new) result }
     ensures asked { AsksIn (S.asked shelf.old) (S.asked shelf.new)
-        (course_of_request (S.files shelf.old) (asked command.entry)) result }
-    ensures filled { AnswersFill (Some (asked command.entry)) (S.files shelf.old)
+        (course_of_asked (S.files shelf.old) (asked command.entry)) result }
+    ensures filled { AnswersFill (asked command.entry) (S.files shelf.old)
         (S.asked shelf.old) (S.asked shelf.new) (Rises S.faults shelf.old shelf.new) result }
     ensures files { S.files shelf.new ≡ S.files shelf.old }
     ensures later { S.faults shelf.old ≤ S.faults shelf.new }
 {
     match command {
-        Command::Check(catalogue) => check(alloc, shelf, catalogue),
-        Command::List(catalogue, query) => list(alloc, shelf, catalogue, query),
-        Command::Run(catalogue, query, number) => run(alloc, shelf, catalogue, query, number),
         Command::Bench(size) => bench(alloc, size),
-        Command::Fill(catalogue, fragment) => fill(alloc, shelf, catalogue, fragment),
-        Command::Answer(catalogue, query) => answer(alloc, shelf, catalogue, query),
-        Command::Audit(catalogue) => audit(alloc, shelf, catalogue),
-        Command::Contains(catalogue, left, right) => contains(alloc, shelf, catalogue, left, right),
-        Command::Minimise(catalogue, query) => minimise(alloc, shelf, catalogue, query),
-        Command::Explain(catalogue, query, number) => {
-            explain(alloc, shelf, catalogue, query, number)
-        }
         Command::Verify(catalogue, query, atoms, file) => {
             verify_named(alloc, shelf, catalogue, query, atoms, file)
         }
+        Command::Over(catalogue, task) => over_catalogue(alloc, shelf, catalogue, task),
     }
 }

@@ -2,26 +2,22 @@
 //! text. Start from `mediate`, `outcomes_are_determined` and `outcomes_exist`.
 #![tactic(auto)]
 
-mod answer;
-mod audit;
 mod below;
 mod bench;
 pub mod certificate_laws;
 mod check;
 mod command;
-mod contains;
 pub mod data_laws;
 mod ending;
 pub mod ends;
-mod explain;
-mod fill;
 mod laws;
 mod list;
-mod minimise;
+mod queries;
 pub mod reasoning_laws;
 mod run;
+mod task;
 mod top;
-mod verify;
+mod unions;
 
 pub use esto_status::{Status, status_line};
 pub use laws::{

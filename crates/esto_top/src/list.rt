@@ -1,19 +1,15 @@
 //! The command `list`.
-ghost use Rattle.std.specs.Prelude.{◌≡◌, ◌≤◌, IfOk};
-ghost use Rattle.esto_ports.specs.Faults.{Rises};
+ghost use Rattle.std.specs.Prelude.{IfOk};
 ghost use Rattle.esto_status.specs.Answers.{Answers};
-ghost use Rattle.esto_status.specs.Asked.{AsksIn};
 ghost use Rattle.esto_query.specs.Unions.{FormUnion};
-ghost use Rattle.esto_top.specs.List.{prints_list, lists_query, lists_queries, lists_read, list_course};
+ghost use Rattle.esto_top.specs.List.{prints_list, lists_query, lists_queries, prints_queries};
 ghost use Rattle.esto_rewriting.specs.Listing.{IsListing, IsPlanned};
 
 use esto_mapping::Catalogue;
-use esto_opening::{open_catalogue, open_union};
-use esto_ports::Shelf;
 use esto_query::Query;
 use esto_rewriting::{list_union, listing_of, plan_of};
 use esto_status::{Reply, Status};
-use esto_term::{Bytes, OutOfMemory, Text};
+use esto_term::{Bytes, OutOfMemory};
 use esto_views::Plan;
 use std::alloc::Global;
 
@@ -65,44 +61,12 @@ fn listed_queries(alloc: Global, queries: &[Query], catalogue: &Catalogue) -> Re
     }
 }
 
-// Fetches and reads the queries, and prints the plan and the list of one, or the plans and lists of a union.
-#[tactic(auto, using(crate::proofs::Steps::steps, crate::proofs::Steps::asked_steps))]
-fn list_read<S: Shelf>(
-    alloc: Global,
-    shelf: &mut S,
-    catalogue: &Catalogue,
-    query: &Text,
-) -> Result<Reply, Status>
-    ensures answer { Answers (lists_read (S.files shelf.old) query.now catalogue.now)
-        (Rises S.faults shelf.old shelf.new) result }
-    ensures asked { AsksIn (S.asked shelf.old) (S.asked shelf.new)
-        (lists_read (S.files shelf.old) query.now catalogue.now) result }
-    ensures files { S.files shelf.new ≡ S.files shelf.old }
-    ensures later { S.faults shelf.old ≤ S.faults shelf.new }
+/// Prints the plan and the list of one query, or the plans and lists of a union of more.
+#[tactic(auto, using(crate::proofs::Steps::steps))]
+pub fn list(alloc: Global, queries: &[Query], catalogue: &Catalogue) -> Result<Reply, Status>
+    requires { FormUnion queries.now }
+    ensures { Answers (prints_queries catalogue.now queries.now) ⊥ result }
 {
-    let queries = open_union(alloc, shelf, query, catalogue)?;
-    let text = listed_queries(alloc, queries.items(), catalogue)?;
+    let text = listed_queries(alloc, queries, catalogue)?;
     Ok(Reply::Done(text))
-}
-
-/// Fetches and reads the catalogue, then the queries. For one query it makes the query's printed plan, and prints the plan
-/// and the list; for more it prints the plans and lists of their union.
-#[tactic(auto, using(crate::proofs::Steps::steps, crate::proofs::Steps::asked_steps))]
-pub fn list<S: Shelf>(
-    alloc: Global,
-    shelf: &mut S,
-    catalogue: &Text,
-    query: &Text,
-) -> Result<Reply, Status>
-    ensures answer { Answers (list_course (S.files shelf.old) catalogue.now query.now)
-        (Rises S.faults shelf.old shelf.new) result }
-    ensures asked { AsksIn (S.asked shelf.old) (S.asked shelf.new)
-        (list_course (S.files shelf.old) catalogue.now query.now) result }
-    ensures files { S.files shelf.new ≡ S.files shelf.old }
-    ensures later { S.faults shelf.old ≤ S.faults shelf.new }
-{
-    let catalogue = open_catalogue(alloc, shelf, catalogue)?;
-    let reply = list_read(alloc, shelf, &catalogue, query);
-    drop(catalogue);
-    reply
 }

@@ -4,7 +4,7 @@ ghost use Rattle.esto_ports.specs.Faults.{Rises};
 ghost use Rattle.esto_status.specs.Answers.{Answers};
 ghost use Rattle.esto_status.specs.Asked.{AsksIn};
 ghost use Rattle.esto_query.specs.Unions.{FormUnion};
-ghost use Rattle.esto_top.specs.Run.{has_no_answers, runs_item, runs_plan, runs_query, runs_queries, runs_read, run_course};
+ghost use Rattle.esto_top.specs.Run.{has_no_answers, runs_item, runs_plan, runs_query, runs_queries};
 ghost use Rattle.esto_rewriting.specs.Choice.{IsItemOf};
 ghost use Rattle.esto_rewriting.specs.Listing.{IsPlanned};
 
@@ -12,7 +12,6 @@ use either::{Left, Right};
 use esto_chase_laws::Clash;
 use esto_list::Listed;
 use esto_mapping::Catalogue;
-use esto_opening::{open_catalogue, open_union};
 use esto_ports::Shelf;
 use esto_query::Query;
 use esto_rewriting::{
@@ -22,7 +21,7 @@ use esto_rewriting::{
 use esto_run::{answers_are_over_files, answers_text, fragments_of_set, open_fragments, run_text};
 use esto_semantics::chosen_atoms_are_named;
 use esto_status::{Reply, Status};
-use esto_term::{List, Text};
+use esto_term::List;
 use esto_views::Plan;
 use std::alloc::Global;
 
@@ -109,8 +108,10 @@ fn run_query<S: Shelf>(
     }
 }
 
-// Runs one query, or the union of more.
-fn run_queries<S: Shelf>(
+/// Runs one query, or the union of more. Of one query it makes the plan and its list, opens the files of the fragments that
+/// the chosen set uses, and gives the text of the rows. The set is the pick, or that of the number, counted from 1. For a
+/// query that no database gives an answer the text has the names of its head alone.
+pub fn run<S: Shelf>(
     alloc: Global,
     shelf: &mut S,
     queries: &[Query],
@@ -130,49 +131,4 @@ fn run_queries<S: Shelf>(
         [query] => run_query(alloc, shelf, query, catalogue, number),
         _ => run_union(alloc, shelf, queries, catalogue, number),
     }
-}
-
-// Fetches and reads the queries, and runs one, or the union of more.
-#[tactic(auto, using(crate::proofs::Steps::run_steps, crate::proofs::Steps::asked_steps))]
-fn run_read<S: Shelf>(
-    alloc: Global,
-    shelf: &mut S,
-    catalogue: &Catalogue,
-    query: &Text,
-    number: Option<u64>,
-) -> Result<Reply, Status>
-    ensures answer { Answers (runs_read (S.files shelf.old) query.now number catalogue.now)
-        (Rises S.faults shelf.old shelf.new) result }
-    ensures asked { AsksIn (S.asked shelf.old) (S.asked shelf.new)
-        (runs_read (S.files shelf.old) query.now number catalogue.now) result }
-    ensures files { S.files shelf.new ≡ S.files shelf.old }
-    ensures later { S.faults shelf.old ≤ S.faults shelf.new }
-{
-    let queries = open_union(alloc, shelf, query, catalogue)?;
-    run_queries(alloc, shelf, queries.items(), catalogue, number)
-}
-
-/// Fetches and reads the catalogue, then the queries. For one query it makes the query's plan and its list, opens the files
-/// of the fragments that the chosen set uses, and gives the text of the rows; for more it runs their union. The set is the
-/// pick, or that of the number, counted from 1. For a query that no database gives an answer the text has the names of its
-/// head alone.
-#[tactic(auto, using(crate::proofs::Steps::run_steps, crate::proofs::Steps::asked_steps))]
-pub fn run<S: Shelf>(
-    alloc: Global,
-    shelf: &mut S,
-    catalogue: &Text,
-    query: &Text,
-    number: Option<u64>,
-) -> Result<Reply, Status>
-    ensures answer { Answers (run_course (S.files shelf.old) catalogue.now query.now number)
-        (Rises S.faults shelf.old shelf.new) result }
-    ensures asked { AsksIn (S.asked shelf.old) (S.asked shelf.new)
-        (run_course (S.files shelf.old) catalogue.now query.now number) result }
-    ensures files { S.files shelf.new ≡ S.files shelf.old }
-    ensures later { S.faults shelf.old ≤ S.faults shelf.new }
-{
-    let catalogue = open_catalogue(alloc, shelf, catalogue)?;
-    let reply = run_read(alloc, shelf, &catalogue, query, number);
-    drop(catalogue);
-    reply
 }

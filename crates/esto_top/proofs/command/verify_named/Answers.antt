@@ -15,9 +15,9 @@ returns-in_err-numbers-clause-asked g c =
 pub returns-clause-answer : goal.returns-clause-answer
 returns-clause-answer g c =
     named_answers (g.S.Shelf.files c.args.shelf.now) c.args.catalogue.now c.args.query.now c.args.atoms.now c.args.file.now c.in_ok-numbers.numbers
-    c.items.result.now c.in_ok-numbers.ensures c.items.ensures _ _ c.verify.ensures.later c.verify.result c.verify.ensures.answer
+    c.items.result.now c.in_ok-numbers.ensures c.items.ensures _ _ c.over_catalogue.ensures.later c.over_catalogue.result c.over_catalogue.ensures.answer
 
 pub returns-clause-asked : goal.returns-clause-asked
 returns-clause-asked g c =
     named_asks (g.S.Shelf.files c.args.shelf.now) c.args.catalogue.now c.args.query.now c.args.atoms.now c.args.file.now c.in_ok-numbers.numbers
-    c.items.result.now c.in_ok-numbers.ensures c.items.ensures c.verify.result c.verify.ensures.asked
+    c.items.result.now c.in_ok-numbers.ensures c.items.ensures c.over_catalogue.result c.over_catalogue.ensures.asked

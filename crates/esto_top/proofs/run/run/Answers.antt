@@ -1,25 +1,30 @@
-use Rattle.std.proofs.Common.{◌∙◌}
-use Rattle.esto_course.proofs.Steps.{at_exit, first_stops}
-use Rattle.esto_status.proofs.AskedSteps.{exit_asks, handed_asks, later_asks}
-use Rattle.esto_status.proofs.Steps.{then_answers}
+use Rattle.std.proofs.Common.{arith}
+use Rattle.std.proofs.lemmas.Bool.Decides.{nat_tests}
+use Rattle.esto_top.proofs.RunAskedLemmas.{more_answers, more_asks, one_answers, one_asks}
 use Rattle.esto_top.proofs.run.run.Goals as goal
+use Rattle.esto_top.proofs.run.run.Goals.{in_default-via-then-queries-lt1, in_default-via-else-queries-lt1+else-queries-lt2}
 
-pub returns-in_err-catalogue-clause-answer : goal.returns-in_err-catalogue-clause-answer
-returns-in_err-catalogue-clause-answer g c = at_exit _ _ c.from_residual.result c.from_residual.ensures.1 (first_stops _ _ c.in_err-catalogue.ensures.answer)
+pub returns-in_default-clause-answer : goal.returns-in_default-clause-answer
+returns-in_default-clause-answer g c =
+    more_answers (g.S.Shelf.files c.args.shelf.now) c.args.catalogue.now c.args.number c.run_union.result _ c.args.queries.now
+    (λ one. elim c.in_default.branch [
+      | in_default-via-then-queries-lt1 w ↦ grind (arith, nat_tests, one)
+      | in_default-via-else-queries-lt1+else-queries-lt2 w ↦ grind (arith, nat_tests, one)
+    ]) c.run_union.ensures.answer
 
-pub returns-in_err-catalogue-clause-asked : goal.returns-in_err-catalogue-clause-asked
-returns-in_err-catalogue-clause-asked g c = handed_asks _ _ _ c.from_residual.ensures.1 (exit_asks _ _ c.in_err-catalogue.ensures.asked)
+pub returns-in_default-clause-asked : goal.returns-in_default-clause-asked
+returns-in_default-clause-asked g c =
+    more_asks (g.S.Shelf.files c.args.shelf.now) c.args.catalogue.now c.args.number c.run_union.result _ _ c.args.queries.now (λ one. elim c.in_default.branch [
+      | in_default-via-then-queries-lt1 w ↦ grind (arith, nat_tests, one)
+      | in_default-via-else-queries-lt1+else-queries-lt2 w ↦ grind (arith, nat_tests, one)
+    ]) c.run_union.ensures.asked
 
-pub returns-clause-answer : goal.returns-clause-answer
-returns-clause-answer g c =
-    let answer = rw c.in_ok-catalogue.ensures.files at c.run_read-reply.ensures.answer in
-    then_answers _ _ _ _ _ c.in_ok-catalogue.catalogue c.run_read-reply.result c.in_ok-catalogue.ensures.answer c.in_ok-catalogue.ensures.later
-    c.run_read-reply.ensures.later answer
+pub returns-in-len1-clause-answer : goal.returns-in-len1-clause-answer
+returns-in-len1-clause-answer g c =
+    one_answers (g.S.Shelf.files c.args.shelf.now) c.args.catalogue.now c.args.number c.run_query.result _ c.args.queries.now c.query-item.result
+    (omega (arith, c.in-len1.len_at_least, c.in-len1.len_below)) c.query-item.is c.run_query.ensures.answer
 
-pub returns-clause-asked : goal.returns-clause-asked
-returns-clause-asked g c =
-    let asked = rw c.in_ok-catalogue.ensures.files at c.run_read-reply.ensures.asked in
-    later_asks _ _ c.in_ok-catalogue.ensures.asked asked
-
-pub returns-clause-files : goal.returns-clause-files
-returns-clause-files g c = c.run_read-reply.ensures.files ∙ c.in_ok-catalogue.ensures.files
+pub returns-in-len1-clause-asked : goal.returns-in-len1-clause-asked
+returns-in-len1-clause-asked g c =
+    one_asks (g.S.Shelf.files c.args.shelf.now) c.args.catalogue.now c.args.number c.run_query.result _ _ c.args.queries.now c.query-item.result
+    (omega (arith, c.in-len1.len_at_least, c.in-len1.len_below)) c.query-item.is c.run_query.ensures.asked
