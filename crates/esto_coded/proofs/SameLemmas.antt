@@ -46,6 +46,20 @@ pub found_some : (rows : List (List ℕ)) (row : List ℕ) (found : Option ℕ) 
 found_some rows row None tells is = absurd (false≢true is)
 found_some rows row (Some place) tells is = Contains-at rows place row tells.at
 
+-- ---- the same list
+
+pub one_list_more : (rows others : List (List ℕ)) (at : ℕ) (row : List ℕ) → slice_get rows at ≡ Some row → slice_get others at ≡ Some row
+    → take at rows ≡ take at others → take (at + 1) rows ≡ take (at + 1) others
+one_list_more rows others at row here there before =
+    take-there rows at row here ∙ ap (λ it. it ++ row ∷ []) before ∙ sym (take-there others at row there)
+
+pub one_list : (rows others : List (List ℕ)) (count : ℕ) → length rows ≤ count → length rows ≡ length others → take count rows ≡ take count others → rows ≡ others
+one_list rows others count past long same =
+    sym (take_all count rows past) ∙ same ∙ take_all count others (subst (λ it. it ≤ count) long past)
+
+pub one_list_same : (rows others : List (List ℕ)) → rows ≡ others → (row : List ℕ) → Contains rows row ↔ Contains others row
+one_list_same rows others same row = (subst (λ them. Contains them row) same, subst (λ them. Contains them row) (sym same))
+
 -- ---- marks
 
 pub marked_none : (rows : List (List ℕ)) (marks : List Bool) → ((at : ℕ) → get_or marks at false ≡ false) → AreMarked rows [] marks

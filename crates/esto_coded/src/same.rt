@@ -22,8 +22,8 @@ fn are_among(alloc: Global, one: &Rows, other: &Rows, index: &Index) -> Result<b
     Ok(true)
 }
 
-/// Whether each row of the one is a row of the other.
-pub(crate) fn is_part(alloc: Global, one: &Rows, other: &Rows) -> Result<bool, OutOfMemory>
+/// Whether each row of the one is a row of the other, by an index of these.
+fn is_part_by_index(alloc: Global, one: &Rows, other: &Rows) -> Result<bool, OutOfMemory>
     ensures { IfOk result (λ it. IsTrue it
         ↔ ((row : List ℕ) → Contains one.now.rows row → Contains other.now.rows row)) }
 {
@@ -134,8 +134,8 @@ fn are_marked(
     Ok(true)
 }
 
-/// Whether each row of one of the two is a row of the other.
-pub fn hold_same(alloc: Global, one: &Rows, other: &Rows) -> Result<bool, OutOfMemory>
+/// Whether each row of one of the two is a row of the other, by an index of the one and marks of its rows.
+fn are_one_set(alloc: Global, one: &Rows, other: &Rows) -> Result<bool, OutOfMemory>
     ensures { IfOk result (λ it. IsTrue it
         ↔ ((row : List ℕ) → Contains one.now.rows row ↔ Contains other.now.rows row)) }
 {
@@ -146,4 +146,44 @@ pub fn hold_same(alloc: Global, one: &Rows, other: &Rows) -> Result<bool, OutOfM
     }
     let back = are_marked(alloc, one, &index, &marks)?;
     Ok(back)
+}
+
+/// Whether both are the same list. It needs no index, and ends at the first place where they differ.
+fn are_one_list(alloc: Global, one: &Rows, other: &Rows) -> Result<bool, OutOfMemory>
+    ensures { IfOk result (λ it. IsTrue it → one.now.rows ≡ other.now.rows) }
+{
+    if one.len() != other.len() {
+        return Ok(false);
+    }
+    let mut row = Values::new(alloc);
+    'rows: for at in 0..one.len() {
+        one.read_row(at, &mut row)?;
+        if !other.is_at(at, row.items()) {
+            return Ok(false);
+        }
+    }
+    Ok(true)
+}
+
+/// Whether each row of one of the two is a row of the other. Files are often in the order in which rows are found, so
+/// this is looked at first.
+pub fn hold_same(alloc: Global, one: &Rows, other: &Rows) -> Result<bool, OutOfMemory>
+    ensures { IfOk result (λ it. IsTrue it
+        ↔ ((row : List ℕ) → Contains one.now.rows row ↔ Contains other.now.rows row)) }
+{
+    if are_one_list(alloc, one, other)? {
+        return Ok(true);
+    }
+    are_one_set(alloc, one, other)
+}
+
+/// Whether each row of the one is a row of the other.
+pub(crate) fn is_part(alloc: Global, one: &Rows, other: &Rows) -> Result<bool, OutOfMemory>
+    ensures { IfOk result (λ it. IsTrue it
+        ↔ ((row : List ℕ) → Contains one.now.rows row → Contains other.now.rows row)) }
+{
+    if are_one_list(alloc, one, other)? {
+        return Ok(true);
+    }
+    is_part_by_index(alloc, one, other)
 }
