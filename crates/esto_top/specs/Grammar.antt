@@ -171,11 +171,11 @@ asked (command.Over catalogue task) = asked_over catalogue.now task
 abbrev pub IsNamed : Option Request → Type 0
 IsNamed request = MatchOption request ⊥ (λ _. Unit {0})
 
--- The size of `bench` is one of the made case, and words name the task over a catalogue.
-abbrev pub IsSized : Command → Type 0
-IsSized (command.Bench size) = (0 < size) × (size ≤ MAX_SIZE)
-IsSized (command.Verify catalogue query atoms file) = Unit {0}
-IsSized (command.Over catalogue task) = IsNamed (asked_over catalogue.now task)
+-- Words can mean the command: the size of `bench` is one of the made case, and words name the task over a catalogue.
+abbrev pub IsMeant : Command → Type 0
+IsMeant (command.Bench size) = (0 < size) × (size ≤ MAX_SIZE)
+IsMeant (command.Verify catalogue query atoms file) = Unit {0}
+IsMeant (command.Over catalogue task) = IsNamed (asked_over catalogue.now task)
 
 -- The course of what is asked for.
 abbrev pub course_of_request : Option Files → Request → Course Status Reply

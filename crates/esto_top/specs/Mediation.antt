@@ -1,4 +1,4 @@
--- What a call of the program does.
+-- What a call of the program does, which `mediate` of `src/top.rt` ensures.
 use Rattle.esto_top.specs.Benches.{BenchesAlways}
 use Rattle.esto_top.specs.Call.{AsksAlong, Call}
 use Rattle.esto_top.specs.CertificateOutcomes.{ExplainsWhereTold, VerifiesWhereTold}

@@ -6,7 +6,7 @@ ghost use Rattle.esto_status.specs.Answers.{Answers};
 ghost use Rattle.esto_status.specs.Asked.{AsksIn};
 ghost use Rattle.esto_top.specs.DataOutcomes.{AnswersFill};
 ghost use Rattle.esto_top.specs.Grammar.{is_word, is_digit, is_leading_digit, is_list_number, is_made_size, value_of, request_of_one, request_of_two};
-ghost use Rattle.esto_top.specs.Grammar.{request_of_three, request_of_four, request_of, asked, IsSized, course_of_asked, number_above, numbers_above};
+ghost use Rattle.esto_top.specs.Grammar.{request_of_three, request_of_four, request_of, asked, IsMeant, course_of_asked, number_above, numbers_above};
 ghost use Rattle.esto_top.specs.Grammar.{names_atoms, verifies_named};
 
 use crate::bench::bench;
@@ -167,7 +167,7 @@ fn made_size(word: &[u8]) -> usize
 fn command_of_one<'a>(verb: &Text, word: &'a Text) -> Option<Command<'a>>
     ensures command { MatchOption result (request_of_one verb.now word.now ≡ None)
         (λ command. request_of_one verb.now word.now ≡ asked command) }
-    ensures sized { IfSome result IsSized }
+    ensures meant { IfSome result IsMeant }
 {
     if is_word(verb, b"check") {
         Some(Command::Over(word, Task::Check))
@@ -184,7 +184,7 @@ fn command_of_one<'a>(verb: &Text, word: &'a Text) -> Option<Command<'a>>
 fn command_of_two<'a>(verb: &Text, first: &'a Text, second: &'a Text) -> Option<Command<'a>>
     ensures command { MatchOption result (request_of_two verb.now first.now second.now ≡ None)
         (λ command. request_of_two verb.now first.now second.now ≡ asked command) }
-    ensures sized { IfSome result IsSized }
+    ensures meant { IfSome result IsMeant }
 {
     if is_word(verb, b"list") {
         Some(Command::Over(first, Task::Union(second, UnionTask::List)))
@@ -212,7 +212,7 @@ fn command_of_three<'a>(
         (request_of_three verb.now first.now second.now third.now ≡ None)
         (λ command. request_of_three verb.now first.now second.now third.now
         ≡ asked command) }
-    ensures sized { IfSome result IsSized }
+    ensures meant { IfSome result IsMeant }
 {
     if is_word(verb, b"contains") {
         Some(Command::Over(first, Task::Contains(second, third)))
@@ -239,7 +239,7 @@ fn command_of_four<'a>(
         (request_of_four verb.now first.now second.now third.now fourth.now ≡ None)
         (λ command. request_of_four verb.now first.now second.now third.now fourth.now
         ≡ asked command) }
-    ensures sized { IfSome result IsSized }
+    ensures meant { IfSome result IsMeant }
 {
     if is_word(verb, b"verify") {
         Some(Command::Verify(first, second, third, fourth))
@@ -252,7 +252,7 @@ fn command_of_four<'a>(
 pub fn command_of<'a>(words: &'a [Text]) -> Option<Command<'a>>
     ensures command { MatchOption result (request_of words.now ≡ None)
         (λ command. request_of words.now ≡ asked command) }
-    ensures sized { IfSome result IsSized }
+    ensures meant { IfSome result IsMeant }
 {
     match words {
         [verb, word] => command_of_one(verb, word),
@@ -267,7 +267,7 @@ pub fn command_of<'a>(words: &'a [Text]) -> Option<Command<'a>>
 
 /// Does what a command asks for.
 pub fn obey<S: Shelf>(alloc: Global, shelf: &mut S, command: Command<'_>) -> Result<Reply, Status>
-    requires { IsSized command }
+    requires { IsMeant command }
     ensures answer { Answers (course_of_asked (S.files shelf.old) (asked command.entry))
         (Rises S.faults shelf.old shelf.new) result }
     ensures asked { AsksIn (S.asked shelf.old) (S.asked shelf.new)

@@ -1,4 +1,4 @@
-//! What a command does over its catalogue, which is opened here for every command. Start from `over_catalogue`.
+//! What a command does over its catalogue, which is opened here for every command that has one. Start from `over_catalogue`.
 ghost use Rattle.std.specs.Prelude.{◌≡◌, ◌≤◌};
 ghost use Rattle.esto_ports.specs.Faults.{Rises};
 ghost use Rattle.esto_status.specs.Answers.{Answers};
