@@ -2,11 +2,13 @@
 use Rattle.std.proofs.Common.{◌≡◌, ◌≢◌, ◌&&◌, ℕ, ◌+◌, ◌-◌, ◌*◌, ◌≤◌, nat_le, Bool, true, false, if◌then◌else◌, length, List, [], ◌∷◌, ◌++◌}
 use Rattle.std.proofs.Common.{Option, Some, None, option_map, refl, sym, ap, ◌∙◌, subst, arith}
 use Rattle.std.proofs.lemmas.Bool.Decides.{nat_tests}
-use Rattle.std.proofs.lemmas.List.{append_assoc}
+use Rattle.std.proofs.Common.{◌<◌, drop, get_or}
+use Rattle.std.proofs.lemmas.List.{append_assoc, append-nil, drop_all}
+use Rattle.esto_term.proofs.PlaceLemmas.{drop-item}
 use Rattle.esto_term.specs.Nesting.{greatest_u64}
 use Rattle.esto_term.proofs.ListLemmas.{after}
 use Rattle.esto_cert.specs.Lines.{number_after, with_item, line_of_words}
-use Rattle.esto_cert.specs.Reading.{capped, line_within}
+use Rattle.esto_cert.specs.Reading.{capped, within, list_within, line_within}
 
 pub after_nothing : {A : Type 0} (rest : Option (List A)) → after [] rest ≡ rest
 after_nothing None = refl
@@ -16,6 +18,39 @@ after_nothing (Some rest) = refl
 pub after_one : {A : Type 0} (done : List A) (item : A) (rest : Option (List A)) → after (done ++ item ∷ []) rest ≡ after done (with_item (Some item) rest)
 after_one done item None = refl
 after_one done item (Some rest) = ap Some (append_assoc done (item ∷ []) rest)
+
+-- a walk over items of which each gives one, unless it is wanting
+module _ {X A : Type 0} (items : List X) (of : List X → Option (List A)) (item : X → Option A) (none : of [] ≡ Some [])
+    (more : (thing : X) (rest : List X) → of (thing ∷ rest) ≡ with_item (item thing) (of rest)) where
+  left_is : (place : ℕ) (thing : X) (done : List A) → place < length items → thing ≡ get_or items place thing
+      → after done (with_item (item thing) (of (drop (place + 1) items))) ≡ after done (of (drop place items))
+  left_is place thing done within is =
+      ap (after done) (sym (more thing (drop (place + 1) items))) ∙ ap (λ it. after done (of it)) (sym (drop-item items place thing within is))
+
+  pub walk_turn : (place : ℕ) (thing : X) (one : A) (done later : List A) → place < length items → thing ≡ get_or items place thing → item thing ≡ Some one
+      → later ≡ done ++ one ∷ [] → after done (of (drop place items)) ≡ of items → after later (of (drop (place + 1) items)) ≡ of items
+  walk_turn place thing one done later within is told later_is so_far =
+      ap (λ it. after it (of (drop (place + 1) items))) later_is ∙ after_one done one (of (drop (place + 1) items))
+      ∙ ap (λ it. after done (with_item it (of (drop (place + 1) items)))) (sym told) ∙ left_is place thing done within is ∙ so_far
+
+  pub walk_wanting : (place : ℕ) (thing : X) (done : List A) → place < length items → thing ≡ get_or items place thing → item thing ≡ None
+      → after done (of (drop place items)) ≡ of items → None ≡ of items
+  walk_wanting place thing done within is told so_far =
+      ap (λ it. after done (with_item it (of (drop (place + 1) items)))) (sym told) ∙ left_is place thing done within is ∙ so_far
+
+  pub walk_end : (place : ℕ) (done : List A) → length items ≤ place → after done (of (drop place items)) ≡ of items → Some done ≡ of items
+  walk_end place done past so_far =
+      ap Some (sym (append-nil done)) ∙ ap (after done) (sym none) ∙ ap (λ it. after done (of it)) (sym (drop_all place items past)) ∙ so_far
+
+-- a number more is within 64 bits where it is and the others are
+pub within_more : (number : Option ℕ) (numbers : Option (List ℕ)) → list_within (with_item number numbers) ≡ with_item (within number) (list_within numbers)
+within_more None numbers = refl
+within_more (Some number) None = nothing (within (Some number))
+  where
+    nothing : (number : Option ℕ) → None ≡ with_item number None
+    nothing None = refl
+    nothing (Some number) = refl
+within_more (Some number) (Some numbers) = refl
 
 -- words of another number say nothing
 pub other_words : (words : List (List ℕ)) → length words ≢ 3 → length words ≢ 5 → None ≡ line_within (line_of_words words)

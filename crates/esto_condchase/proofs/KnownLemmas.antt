@@ -1,5 +1,5 @@
 -- Turns of the loops that gather what is group and what is reached.
-use Rattle.std.proofs.Common.{◌≡◌, ◌⊎◌, ◌↔◌, ◌<◌, ◌+◌, inl, inr, ℕ, Bool, List, [], ◌∷◌, ◌++◌, length, map, set, get_or, slice_get, Some, Contains}
+use Rattle.std.proofs.Common.{◌≡◌, ◌⊎◌, ◌↔◌, ◌<◌, inl, inr, ℕ, Bool, List, [], ◌∷◌, ◌++◌, length, map, set, get_or, slice_get, Some, Contains}
 use Rattle.std.proofs.Common.{sym, ap, ◌∙◌, subst, arith}
 use Rattle.std.proofs.lemmas.List.{nil_from_length}
 use Rattle.std.specs.List.{AllZip}
@@ -131,16 +131,27 @@ reach_new ones later own sets others grown both to set =
       (λ which. more.1 (elim which [ inl before ↦ inl before | inr (is, covers, its) ↦ inr (is, (both set).1 (covers, its)) ])),
     )
 
+pub reach_none : (ones : List Reached) (told : List Term) (sets others : List (List Bool)) → length others ≡ 0 → (own : List Term) (set : List Bool)
+    → Reach ones own set ↔ (Reach ones own set ⊎ IsReachedBy told sets others own set)
+reach_none ones told sets others empty own set = (
+  (λ reach. inl reach),
+  (λ which. elim which [
+    | inl reach ↦ reach
+    | inr (is, covers, its) ↦ absurd (covers_none set (subst (λ it. Covers it set) (nil_from_length others empty) its))
+  ]),
+)
+
 module _ (groups : List Group) (from these : List Term) (atom : Fact Term) (one : Reached) (by : List (List Bool)) (fact : Fact Term)
-    (to to_items goals goal_items fact_items atom_items : List Term) (needs : List (List Bool)) (to_is : to ≡ one.to ++ fact.terms)
-    (to_same : to_items ≡ to) (fact_same : fact_items ≡ fact.terms) (goals_same : goal_items ≡ goals) (atom_same : atom_items ≡ atom.terms)
-    (goals_are : goals ≡ map (taken from to_items) atom_items)
-    (touches : (set : List Bool) → Covers needs set ↔ (Covers by set × AllZip (AreTouching groups set) fact_items goal_items)) (later : List Reached) where
+    (to to_items fact_items atom_items : List Term) (needs : List (List Bool)) (to_is : to ≡ one.to ++ fact.terms)
+    (to_same : to_items ≡ to) (fact_same : fact_items ≡ fact.terms) (atom_same : atom_items ≡ atom.terms)
+    (touches : (set : List Bool)
+    → Covers needs set ↔ (Covers by set × AllZip (AreTouching groups set) fact_items (map (taken from to_items) atom_items)))
+    (later : List Reached) where
   abbrev Needs : List Bool → Type 0
   Needs set = Covers by set × AllZip (AreTouching groups set) fact.terms (map (taken from (one.to ++ fact.terms)) atom.terms)
 
-  row_is : goal_items ≡ map (taken from (one.to ++ fact.terms)) atom.terms
-  row_is = goals_same ∙ goals_are ∙ (λ i. map (taken from ((to_same ∙ to_is) i)) (atom_same i))
+  row_is : map (taken from to_items) atom_items ≡ map (taken from (one.to ++ fact.terms)) atom.terms
+  row_is i = map (taken from ((to_same ∙ to_is) i)) (atom_same i)
 
   covers_needs : (set : List Bool) → Covers needs set ↔ Needs set
   covers_needs set = (
@@ -155,17 +166,6 @@ module _ (groups : List Group) (from these : List Term) (atom : Fact Term) (one 
       subst (AllZip (AreTouching groups set) fact_items) (sym row_is)
           (subst (λ it. AllZip (AreTouching groups set) it (map (taken from (one.to ++ fact.terms)) atom.terms)) (sym fact_same) row),
     )),
-  )
-
-  pub step_none : length needs ≡ 0 → (own : List Term) (set : List Bool)
-      → Reach later own set ↔ (Reach later own set ⊎ StepsBy groups from these atom one by fact own set)
-  step_none empty own set = (
-    (λ reach. inl reach),
-    (λ which. elim which [
-      | inl reach ↦ reach
-      | inr (is, covers, covers_by, row) ↦
-          absurd (covers_none set (subst (λ it. Covers it set) (nil_from_length needs empty) ((covers_needs set).1 (covers_by, row))))
-    ]),
   )
 
   pub step_more : (told told_items : List Term) (after : List Reached) → told_items ≡ to → told ≡ map (taken from told_items) these

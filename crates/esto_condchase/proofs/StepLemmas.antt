@@ -594,16 +594,12 @@ entry_goes entries from terms to owns atom fact sides places before place floor 
     subst (λ it. Goes atom.terms before.to it) all (subst (λ it. Goes atom.terms it owns) to_is (subst (λ it. Goes it to owns) terms_is
     (there set within (subst (λ (it : Entry). Within it.product set) (sym entry_is) its_within)))) passes
 
-pub floor_goes : (entries : List Entry) (m : Term → Term) (terms owns : List Term) (floor : ℕ) (before entry product : List Bool) (Settled : List Bool → Type 0)
-    → product ≡ united before entry
+pub floor_goes : (entries : List Entry) (m : Term → Term) (terms owns : List Term) (floor : ℕ) (product : List Bool) (Settled : List Bool → Type 0)
     → ((set : List Bool) → Within product set → PassesIn entries m terms owns set → Settled set ⊎ PassesIn (take floor entries) m terms owns set)
-    → 0 < floor → (set : List Bool) → Within before set → Within entry set → PassesIn entries m terms owns set
+    → 0 < floor → (set : List Bool) → Within product set → PassesIn entries m terms owns set
     → Settled set ⊎ ((0 < floor) × PassesIn (take floor entries) m terms owns set)
-floor_goes entries m terms owns floor before entry product Settled is goes some set within its_within passes =
-    elim (goes set (subst (λ it. Within it set) (sym is) (within_united before entry set within its_within)) passes) [
-      | inl settled ↦ inl settled
-      | inr old ↦ inr (some, old)
-    ]
+floor_goes entries m terms owns floor product Settled goes some set within passes =
+    elim (goes set within passes) [ inl settled ↦ inl settled | inr old ↦ inr (some, old) ]
 
 pub longer_items : (entries : List Entry) (own goal : Term) (floor : ℕ) (Settled : List Bool → Type 0) (given items later : List Support) → items ≡ given
     → AreLonger entries own goal floor Settled items later → AreLonger entries own goal floor Settled given later

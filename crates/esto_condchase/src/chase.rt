@@ -90,19 +90,6 @@ fn give_all(
     Ok(())
 }
 
-/// The entries of the expanded facts.
-fn given(alloc: Global, facts: &[ExpandedFact], atoms: usize) -> Result<Known, OutOfMemory>
-    requires { (fact : ExpandedFact) → Contains facts.now fact → fact.atom < atoms }
-    ensures derived { IfOk result
-        (λ entries. (rules : List Rule) → AreDerived facts.now rules entries) }
-    ensures counted { IfOk result (AreOfCount atoms) }
-    ensures given { IfOk result (AreGiven facts.now) }
-{
-    let mut entries = Known::new(alloc)?;
-    give_all(alloc, facts, atoms, &mut entries)?;
-    Ok(entries)
-}
-
 /// A round: adds what the rules and the links ask for and the entries do not cover.
 fn next(
     alloc: Global,
@@ -125,9 +112,45 @@ fn next(
     add_all(alloc, entries, asked.items(), count)
 }
 
-/// The rounds, to the end: each entry follows from those before it, each expanded fact is a fact of each world that has its
-/// atom, and no rule and no link asks for more.
+/// The entries of the expanded facts and the rounds, to the end, where there are no entries yet: each entry follows from
+/// those before it, each expanded fact is a fact of each world that has its atom, and no rule and no link asks for more.
 fn rounds(
+    alloc: Global,
+    facts: &ExpandedFacts,
+    atoms: usize,
+    rules: &Rules,
+    ranks: &Ranks,
+    entries: &mut Known,
+) -> Result<(), OutOfMemory>
+    requires flat { AreFlat (facts_of facts.now) }
+    requires atoms { (fact : ExpandedFact) → Contains facts.now fact → fact.atom < atoms }
+    requires within { IsWithin (length ranks.now) (IsEdge (rules_of rules.now)) }
+    requires ranks { AreRanks (IsEdge (rules_of rules.now)) (length ranks.now) ranks.now }
+    requires none { entries.old ≡ [] }
+    ensures derived { OnOk result (AreDerived facts.now (rules_of rules.now) entries.new) }
+    ensures counted { OnOk result (AreOfCount atoms entries.new) }
+    ensures given { OnOk result (AreGiven facts.now entries.new) }
+    ensures answered { OnOk result (AreAnswered (rules_of rules.now) entries.new entries.new) }
+    ensures joined { OnOk result (AreJoined entries.new entries.new) }
+{
+    rules_are_sound();
+    ranks_rise();
+    derived_entries_are_bounded();
+    let _count = ranks.len();
+    give_all(alloc, facts.items(), atoms, entries)?;
+    let mut since = 0;
+    'rounds: loop {
+        let before = entries.len();
+        next(alloc, entries, since, rules.items(), atoms)?;
+        if entries.len() == before {
+            return Ok(());
+        }
+        since = before;
+    }
+}
+
+/// The entries to which the rounds come.
+fn chased(
     alloc: Global,
     facts: &ExpandedFacts,
     atoms: usize,
@@ -145,20 +168,9 @@ fn rounds(
         (λ entries. AreAnswered (rules_of rules.now) entries entries) }
     ensures joined { IfOk result (λ entries. AreJoined entries entries) }
 {
-    rules_are_sound();
-    ranks_rise();
-    derived_entries_are_bounded();
-    let _count = ranks.len();
-    let mut entries = given(alloc, facts.items(), atoms)?;
-    let mut since = 0;
-    'rounds: loop {
-        let before = entries.len();
-        next(alloc, &mut entries, since, rules.items(), atoms)?;
-        if entries.len() == before {
-            return Ok(entries.into_list());
-        }
-        since = before;
-    }
+    let mut entries = Known::new(alloc)?;
+    rounds(alloc, facts, atoms, rules, ranks, &mut entries)?;
+    Ok(entries.into_list())
 }
 
 /// The conditional chase of expanded facts: what the rules make of them in the world of each set of atoms, in one chase for
@@ -210,6 +222,6 @@ pub fn chase_with_products(
     closed_worlds_are_databases();
     derived_entries_are_bounded();
     derived_entries_are_reasoned();
-    let entries = rounds(alloc, facts, atoms, rules, ranks)?;
+    let entries = chased(alloc, facts, atoms, rules, ranks)?;
     Ok(Entries::from_list(entries))
 }

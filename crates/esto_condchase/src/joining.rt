@@ -92,10 +92,13 @@ fn linked(
     ensures product { IfOk result (λ it. it.product ≡ product.now) }
     ensures reason { IfOk result (λ it. it.reason ≡ Equal places.now) }
 {
+    let places = Values::from_slice(alloc, places)?;
+    let product = product.copy(alloc)?;
+    let claim = same(alloc, term, other)?;
     Ok(Entry {
-        reason: Reason::Equal(Values::from_slice(alloc, places)?),
-        product: product.copy(alloc)?,
-        claim: same(alloc, term, other)?,
+        claim,
+        product,
+        reason: Reason::Equal(places),
     })
 }
 
@@ -344,8 +347,7 @@ fn join_at(
     )?;
     join_met(
         alloc, entries, groups, since, first, second, from, via, right, left, count, more,
-    )?;
-    Ok(())
+    )
 }
 
 /// The same for a group and each that shares the one of its sides.
@@ -414,8 +416,7 @@ fn join_group(
     )?;
     join_side(
         alloc, entries, groups, since, number, first, right, left, count, more,
-    )?;
-    Ok(())
+    )
 }
 
 /// The same for all groups.

@@ -81,7 +81,7 @@ fn anew(
     let from = terms_of(alloc, body)?;
     let live = both(alloc, last.terms.items(), asked)?;
     let given = matches_of(alloc, known, body, live.items(), sides, count)?;
-    let ways = match_next(
+    match_next(
         alloc,
         known,
         since,
@@ -91,8 +91,7 @@ fn anew(
         sides,
         given.items(),
         count,
-    )?;
-    Ok(ways)
+    )
 }
 
 /// The direct matches of a body among the entries, as far as they tell what the terms asked for meet, each with what

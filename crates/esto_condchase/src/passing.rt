@@ -434,13 +434,11 @@ fn floor_of(at: usize, floor: usize, index: usize) -> usize
 }
 
 /// The list of the start alone.
-fn only(alloc: Global, start: &Support) -> Result<List<Support>, OutOfMemory>
-    ensures { IfOk result (λ it. it ≡ start.now ∷ []) }
+fn only(alloc: Global, start: Support) -> Result<List<Support>, OutOfMemory>
+    ensures { IfOk result (λ it. it ≡ start ∷ []) }
 {
-    let links = start.links.copy(alloc)?;
-    let product = start.product.copy(alloc)?;
     let mut supports = List::new(alloc);
-    supports.push(Support { links, product })?;
+    supports.push(start)?;
     Ok(supports)
 }
 
@@ -450,20 +448,20 @@ pub fn through_row(
     step: &Step,
     at: usize,
     floor: usize,
-    start: &Support,
+    start: Support,
     kept: &Kept,
     count: usize,
 ) -> Result<List<Support>, OutOfMemory>
     requires lengths { length step.now.from.now ≡ length step.now.to.now }
     requires rows { length step.now.owns.now ≡ length step.now.terms.now }
-    requires count { length start.now.product ≡ count }
+    requires count { length start.product ≡ count }
     requires counts { AreOfCount count step.now.known.now }
     requires counted { AreCounted count kept.now }
     ensures { IfOk result (AreSupports step.now.known.now (meets step.now.from.now
         step.now.terms.now step.now.to.now step.now.owns.now) step.now.terms.now
         step.now.owns.now at floor
         (IsTold step.now.known.now step.now.sides step.now.places.now kept.now
-        (step.now.to.now ++ step.now.owns.now)) start.now
+        (step.now.to.now ++ step.now.owns.now)) start
         (length step.now.owns.now)) }
 {
     let mut supports = only(alloc, start)?;

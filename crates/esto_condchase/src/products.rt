@@ -12,11 +12,11 @@ ghost use Rattle.esto_chase_laws.specs.declared.entry.Entry.{Entry};
 ghost use Rattle.esto_condchase.specs.Products.{AreReachedOf, IsNext, IsFirst};
 ghost use Rattle.esto_known.specs.Touching.{AreGroupsOf, AreTouching};
 
-use crate::reached::{Reached, next, sets_of_all};
+use crate::reached::{Reached, next, sets_of_all, touching};
 use esto_bits::{Products, RowBits};
 use esto_chase_laws::Entry;
-use esto_known::{Groups, telling, touch_all};
-use esto_prov::{taken_terms, terms_of};
+use esto_known::{Groups, telling};
+use esto_prov::terms_of;
 use esto_semantics::Atom;
 use esto_term::{List, OutOfMemory, Replicate, Term, Terms};
 use std::alloc::Global;
@@ -49,8 +49,7 @@ fn touched(
 {
     let none = RowBits::new(alloc, count)?;
     let start = Products::only(alloc, &none)?;
-    let goals = taken_terms(alloc, head, targets, head)?;
-    touch_all(alloc, groups, targets, goals.items(), count, &start)
+    touching(alloc, groups, head, targets, head, targets, &start, count)
 }
 
 /// The targets, which the head is to meet, by the minimal sets in whose worlds it does.

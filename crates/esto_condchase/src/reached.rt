@@ -1,9 +1,11 @@
 //! The terms that the first atoms of a body reach in the worlds of sets.
-ghost use Rattle.std.specs.Prelude.{◌≡◌, ◌↔◌, ◌⊎◌, ◌<◌, ◌++◌, ◌∷◌, List, [], Bool, Some, length, slice_get, Contains, IfOk, IfSome, OnOk};
+ghost use Rattle.std.specs.Prelude.{◌≡◌, ◌↔◌, ◌⊎◌, ◌<◌, ◌++◌, ◌∷◌, List, [], Bool, Some, length, slice_get, map, Contains, IfOk, IfSome, OnOk};
+ghost use Rattle.std.specs.List.{AllZip};
 ghost use Rattle.esto_term.specs.declared.term.Term.{Term};
 ghost use Rattle.esto_term.specs.Sets.{Covers};
+ghost use Rattle.esto_chase_laws.specs.WorldMatches.{taken};
 ghost use Rattle.esto_condchase.specs.Products.{AreReachedOf, IsReachedBy, Reach, StepsBy, StepsWith, StepsFrom, Steps};
-ghost use Rattle.esto_known.specs.Touching.{AreGroupsOf};
+ghost use Rattle.esto_known.specs.Touching.{AreGroupsOf, AreTouching};
 ghost use Rattle.esto_condchase.specs.declared.reached.Reached.{Reached};
 
 use esto_bits::Products;
@@ -73,8 +75,7 @@ fn add_new(
         ↔ (Reach ones.old.items own set ⊎ IsReachedBy to sets.now.sets others.now.sets own set)) }
 {
     let by = both(alloc, sets, others)?;
-    push(ones, Reached { to, by })?;
-    Ok(())
+    push(ones, Reached { to, by })
 }
 
 /// Adds that the terms are reached by the unions of one of the sets and one of the others.
@@ -94,11 +95,58 @@ fn add(
         ↔ (Reach ones.old.items own set ⊎ IsReachedBy to sets.now.sets others.now.sets own set)) }
 {
     let Some(place) = place_of(ones.as_slice(), to.items()) else {
-        add_new(alloc, to, sets, others, count, ones)?;
-        return Ok(());
+        return add_new(alloc, to, sets, others, count, ones);
     };
-    add_at(alloc, place, sets, others, count, ones)?;
-    Ok(())
+    add_at(alloc, place, sets, others, count, ones)
+}
+
+/// Adds that what these terms meet first is reached by the unions of one of the sets and one of the others.
+fn add_told(
+    alloc: Global,
+    from: &[Term],
+    to: &[Term],
+    these: &[Term],
+    sets: &Products,
+    others: &Products,
+    count: usize,
+    ones: &mut Vec<Reached>,
+) -> Result<(), OutOfMemory>
+    requires sets { sets.now.count ≡ count }
+    requires others { others.now.count ≡ count }
+    requires counted { AreReachedOf count ones.old.items }
+    ensures counted { OnOk result (AreReachedOf count ones.new.items) }
+    ensures reach { OnOk result ((own : List Term) (set : List Bool) → Reach ones.new.items own set
+        ↔ (Reach ones.old.items own set ⊎ IsReachedBy (map (taken from.now to.now) these.now)
+        sets.now.sets others.now.sets own set)) }
+{
+    if others.is_empty() {
+        return Ok(());
+    }
+    let told = taken_terms(alloc, from, to, these)?;
+    add(alloc, told, sets, others, count, ones)
+}
+
+/// Keeps of the sets those in whose worlds the others touch what the terms meet first, place by place.
+pub fn touching(
+    alloc: Global,
+    groups: &Groups,
+    from: &[Term],
+    to: &[Term],
+    terms: &[Term],
+    others: &[Term],
+    sets: &Products,
+    count: usize,
+) -> Result<Products, OutOfMemory>
+    requires groups { AreGroupsOf count groups.now }
+    requires rows { length others.now ≡ length terms.now }
+    requires sets { sets.now.count ≡ count }
+    ensures count { IfOk result (λ it. it.count ≡ count) }
+    ensures covers { IfOk result (λ it. (set : List Bool) → Covers it.sets set
+        ↔ (Covers sets.now.sets set × AllZip (AreTouching groups.now set) others.now
+        (map (taken from.now to.now) terms.now))) }
+{
+    let goals = taken_terms(alloc, from, to, terms)?;
+    touch_all(alloc, groups, others, goals.items(), count, sets)
 }
 
 /// Adds what is reached from one by a fact.
@@ -125,14 +173,26 @@ fn step_by(
         ⊎ StepsBy groups.now from.now these.now atom.now one.now by.now.sets fact.now to set)) }
 {
     let to = followed(alloc, &one.to, &fact.terms)?;
-    let goals = taken_terms(alloc, from, to.items(), atom.terms.items())?;
-    let needs = touch_all(alloc, groups, fact.terms.items(), goals.items(), count, by)?;
-    if needs.is_empty() {
-        return Ok(());
-    }
-    let told = taken_terms(alloc, from, to.items(), these)?;
-    add(alloc, told, &one.by, &needs, count, later)?;
-    Ok(())
+    let needs = touching(
+        alloc,
+        groups,
+        from,
+        to.items(),
+        atom.terms.items(),
+        fact.terms.items(),
+        by,
+        count,
+    )?;
+    add_told(
+        alloc,
+        from,
+        to.items(),
+        these,
+        &one.by,
+        &needs,
+        count,
+        later,
+    )
 }
 
 /// Adds what is reached from one by what is known, if it is a fact that is alike to the atom.

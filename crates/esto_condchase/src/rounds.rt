@@ -13,6 +13,7 @@ ghost use Rattle.esto_condchase.specs.Rounds.{IsNoted, AsksMore, IsAnswered, IsR
 
 use crate::joining::join;
 use crate::news::matches_since;
+use crate::steps::both;
 use esto_bits::RowBits;
 use esto_chase_laws::{Claim, Entry, Reason};
 use esto_constraint::{Constraint, Egd, Tgd, frontier_of};
@@ -20,6 +21,7 @@ use esto_known::{Known, Way, is_covered, same};
 use esto_prov::{made_fact, taken_term, taken_terms, terms_of};
 use esto_term::{List, OutOfMemory, Places, Replicate, Term, Terms, Values};
 use std::alloc::Global;
+use std::slice;
 
 /// The entries that a way uses, those of its facts first.
 fn places_of(alloc: Global, way: &Way) -> Result<Places, OutOfMemory>
@@ -172,10 +174,11 @@ fn answer_tuples(
 fn sides_of(alloc: Global, rule: &Egd) -> Result<Terms, OutOfMemory>
     ensures { IfOk result (λ it. it ≡ rule.now.left ∷ rule.now.right ∷ []) }
 {
-    let mut sides = List::new(alloc);
-    sides.push(rule.left.copy(alloc)?)?;
-    sides.push(rule.right.copy(alloc)?)?;
-    Ok(sides)
+    both(
+        alloc,
+        slice::from_ref(&rule.left),
+        slice::from_ref(&rule.right),
+    )
 }
 
 /// Asks for what an equality rule asks for at all its direct matches, where what it asks for at those among the first few

@@ -164,9 +164,8 @@ fn pass(
     ensures counted { OnOk result (AreCounted count kept.new) }
 {
     let start = start_of(alloc, before, product)?;
-    let supports = through_row(alloc, step, at, floor, &start, kept, count)?;
-    keep_all(alloc, step, before, place, supports.items(), count, kept)?;
-    Ok(())
+    let supports = through_row(alloc, step, at, floor, start, kept, count)?;
+    keep_all(alloc, step, before, place, supports.items(), count, kept)
 }
 
 /// The same by an equality from a place on at one of the terms, unless this term is what it has to meet.
@@ -203,8 +202,7 @@ fn pass_at(
     if step.owns[at].equal(goal) {
         return Ok(());
     }
-    pass(alloc, step, before, place, at, floor, product, count, kept)?;
-    Ok(())
+    pass(alloc, step, before, place, at, floor, product, count, kept)
 }
 
 /// Keeps the ways that go on with the fact of the entry at a place, at some of its terms by an equality from a place on.
@@ -242,8 +240,50 @@ fn pass_anew(
     Ok(())
 }
 
-/// Keeps the ways that go on with the fact of the entry at a place, but where a floor is given for those that use no equality from
-/// there on.
+/// Keeps the ways that go on with the fact of the entry at a place, with a product, but where a floor is given for those that
+/// use no equality from there on.
+fn pass_within(
+    alloc: Global,
+    step: &Step,
+    before: &Way,
+    place: usize,
+    floor: usize,
+    product: &RowBits,
+    count: usize,
+    kept: &mut Kept,
+) -> Result<(), OutOfMemory>
+    requires to { step.now.to.now ≡ before.now.to }
+    requires lengths { length step.now.from.now ≡ length step.now.to.now }
+    requires rows { length step.now.owns.now ≡ length step.now.terms.now }
+    requires product { (entry : Entry) × (slice_get step.now.known.now place ≡ Some entry)
+        × (product.now ≡ united before.now.product entry.product) }
+    requires count { length product.now ≡ count }
+    requires counts { AreOfCount count step.now.known.now }
+    requires counted { AreCounted count kept.old }
+    ensures grown { OnOk result (Grown (ComesBy step.now.known.now step.now.from.now
+        step.now.terms.now before.now place step.now.owns.now) kept.old kept.new) }
+    ensures there { OnOk result ((set : List Bool) → Within product.now set
+        → PassesIn step.now.known.now (meets step.now.from.now step.now.terms.now
+        step.now.to.now step.now.owns.now) step.now.terms.now step.now.owns.now set
+        → IsTold step.now.known.now step.now.sides step.now.places.now kept.new
+        (step.now.to.now ++ step.now.owns.now) set
+        ⊎ ((0 < floor) × PassesIn (take floor step.now.known.now) (meets step.now.from.now
+        step.now.terms.now step.now.to.now step.now.owns.now) step.now.terms.now
+        step.now.owns.now set)) }
+    ensures counted { OnOk result (AreCounted count kept.new) }
+{
+    if is_settled(step, product, kept) {
+        return Ok(());
+    }
+    if floor == 0 {
+        let all = step.owns.len();
+        return pass(alloc, step, before, place, all, 0, product, count, kept);
+    }
+    pass_anew(alloc, step, before, place, floor, product, count, kept)
+}
+
+/// The same with the product of the way and the entry, unless the row passes in no world, or with no equality from the floor
+/// on.
 fn pass_from(
     alloc: Global,
     step: &Step,
@@ -278,16 +318,7 @@ fn pass_from(
         return Ok(());
     }
     let product = union_of(alloc, &before.product, &entry.product)?;
-    if is_settled(step, &product, kept) {
-        return Ok(());
-    }
-    if floor == 0 {
-        let all = step.owns.len();
-        pass(alloc, step, before, place, all, 0, &product, count, kept)?;
-        return Ok(());
-    }
-    pass_anew(alloc, step, before, place, floor, &product, count, kept)?;
-    Ok(())
+    pass_within(alloc, step, before, place, floor, &product, count, kept)
 }
 
 /// What a search goes on by: the entries, the terms of the atoms so far, the next atom, the places of the two sides,
@@ -331,8 +362,12 @@ fn fact_at<'a>(known: &'a Known, atom: &Atom, place: usize) -> Option<(&'a Entry
         (λ it. (slice_get known.now place ≡ Some it.0.now) × (it.0.now.claim ≡ Stated it.1.now)
         × IsLike atom.now it.1.now) }
 {
-    let entry = known.items().get(place)?;
-    let fact = like(&entry.claim, atom)?;
+    let Some(entry) = known.items().get(place) else {
+        return None;
+    };
+    let Some(fact) = like(&entry.claim, atom) else {
+        return None;
+    };
     Some((entry, fact))
 }
 
@@ -379,8 +414,7 @@ fn match_entry(
                 places: level.places,
                 key: key ^ hash_at(level.places, level.from.len(), fact.terms.items()),
             };
-            pass_from(alloc, &step, before, place, entry, floor, count, kept)?;
-            Ok(())
+            pass_from(alloc, &step, before, place, entry, floor, count, kept)
         }
     }
 }

@@ -68,8 +68,7 @@ fn match_facts(
         fresh.items(),
         count,
         kept,
-    )?;
-    Ok(())
+    )
 }
 
 /// The ways that go on from the given ones by the next atom.
@@ -154,8 +153,7 @@ fn live_terms(alloc: Global, atoms: &[Atom], asked: &[Term]) -> Result<Terms, Ou
     ensures { IfOk result (λ it. it ≡ terms_of atoms.now ++ asked.now) }
 {
     let terms = terms_of(alloc, atoms)?;
-    let live = both(alloc, terms.items(), asked)?;
-    Ok(live)
+    both(alloc, terms.items(), asked)
 }
 
 /// Goes on by one atom, before the rest, from the terms of those before it and the ways that match them.
@@ -191,8 +189,7 @@ fn go_on(
         ways.items(),
         count,
     )?;
-    from.append(atom.terms.copy(alloc)?)?;
-    Ok(())
+    from.append(atom.terms.copy(alloc)?)
 }
 
 /// The direct matches of a body among the entries, each with what it uses, as far as they tell what the terms meet

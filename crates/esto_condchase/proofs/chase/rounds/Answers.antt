@@ -9,17 +9,17 @@ use Rattle.esto_condchase.proofs.LoopLemmas.{answered_same, grown_same, turn_giv
 use Rattle.esto_condchase.proofs.NewsLemmas.{before_same, none_answered, turn_answered, none_joined, turn_joined}
 use Rattle.esto_condchase.proofs.chase.rounds.Goals as goal
 
-pub given-requires : goal.given-requires
-given-requires c fact inside = c.requires.atoms fact (subst (λ it. Contains it fact) c.items.ensures inside)
+pub give_all-requires-clause-atoms : goal.give_all-requires-clause-atoms
+give_all-requires-clause-atoms c fact inside = c.requires.atoms fact (subst (λ it. Contains it fact) c.items.ensures inside)
 
 pub rounds-init : goal.rounds-init
 rounds-init c = record {
-  derived = subst (λ it. AreDerived it (rules_of c.args.rules.now) c.in_ok-entries.entries) c.items.ensures
-      (c.in_ok-entries.ensures.derived (rules_of c.args.rules.now));
-  counted = c.in_ok-entries.ensures.counted;
-  given = subst (λ it. AreGiven it c.in_ok-entries.entries) c.items.ensures c.in_ok-entries.ensures.given;
-  before = none_answered (rules_of c.args.rules.now) c.in_ok-entries.entries (rules-AreRules c.args.rules.now c.rules_are_sound.ensures.rules);
-  joined_before = none_joined c.in_ok-entries.entries;
+  derived = subst (λ it. AreDerived it (rules_of c.args.rules.now) c.give_all.new.entries) c.items.ensures
+      (c.in_ok-give_all.ensures.derived (rules_of c.args.rules.now));
+  counted = c.in_ok-give_all.ensures.counted;
+  given = subst (λ it. AreGiven it c.give_all.new.entries) c.items.ensures c.in_ok-give_all.ensures.given;
+  before = none_answered (rules_of c.args.rules.now) c.give_all.new.entries (rules-AreRules c.args.rules.now c.rules_are_sound.ensures.rules);
+  joined_before = none_joined c.give_all.new.entries;
 }
 
 pub next-requires-clause-before : goal.next-requires-clause-before
@@ -30,32 +30,28 @@ pub returns-then-len-before-clause-derived : goal.returns-then-len-before-clause
 returns-then-len-before-clause-derived c =
     let grown = grown_same c.items-in-rounds.result.now c.args.rules.now c.rounds.entries c.next.new.entries c.items-in-rounds.ensures
     c.in_ok-next.ensures.grown in
-    subst (AreDerived c.args.facts.now (rules_of c.args.rules.now)) (sym c.into_list.ensures)
-    (grown.1.derived c.args.facts.now c.rounds.invariant.derived)
+    grown.1.derived c.args.facts.now c.rounds.invariant.derived
 
 pub returns-then-len-before-clause-given : goal.returns-then-len-before-clause-given
 returns-then-len-before-clause-given c =
     let grown = grown_same c.items-in-rounds.result.now c.args.rules.now c.rounds.entries c.next.new.entries c.items-in-rounds.ensures
     c.in_ok-next.ensures.grown in
-    subst (AreGiven c.args.facts.now) (sym c.into_list.ensures)
-    (turn_given c.args.facts.now (rules_of c.args.rules.now) c.args.atoms c.rounds.entries grown.0 c.next.new.entries grown.1 c.rounds.invariant.given)
+    turn_given c.args.facts.now (rules_of c.args.rules.now) c.args.atoms c.rounds.entries grown.0 c.next.new.entries grown.1 c.rounds.invariant.given
 
 pub returns-then-len-before-clause-answered : goal.returns-then-len-before-clause-answered
 returns-then-len-before-clause-answered c =
     let grown = grown_same c.items-in-rounds.result.now c.args.rules.now c.rounds.entries c.next.new.entries c.items-in-rounds.ensures
     c.in_ok-next.ensures.grown in
-    subst (λ it. AreAnswered (rules_of c.args.rules.now) it it) (sym c.into_list.ensures)
-    (end_answered (rules_of c.args.rules.now) c.rounds.entries c.next.new.entries (turn_same c.args.facts.now (rules_of c.args.rules.now) c.args.atoms c.rounds.entries grown.0 c.next.new.entries grown.1
+    end_answered (rules_of c.args.rules.now) c.rounds.entries c.next.new.entries (turn_same c.args.facts.now (rules_of c.args.rules.now) c.args.atoms c.rounds.entries grown.0 c.next.new.entries grown.1
     (sym c.len.ensures ∙ c.if-len-before.true ∙ c.len-before.ensures))
-    (answered_same c.items-in-rounds.result.now c.args.rules.now _ _ c.items-in-rounds.ensures c.in_ok-next.ensures.answered))
+    (answered_same c.items-in-rounds.result.now c.args.rules.now _ _ c.items-in-rounds.ensures c.in_ok-next.ensures.answered)
 
 pub returns-then-len-before-clause-joined : goal.returns-then-len-before-clause-joined
 returns-then-len-before-clause-joined c =
     let grown = grown_same c.items-in-rounds.result.now c.args.rules.now c.rounds.entries c.next.new.entries c.items-in-rounds.ensures
     c.in_ok-next.ensures.grown in
-    subst (λ it. AreJoined it it) (sym c.into_list.ensures)
-    (end_joined c.rounds.entries c.next.new.entries (turn_same c.args.facts.now (rules_of c.args.rules.now) c.args.atoms c.rounds.entries grown.0 c.next.new.entries grown.1
-    (sym c.len.ensures ∙ c.if-len-before.true ∙ c.len-before.ensures)) c.in_ok-next.ensures.joined)
+    end_joined c.rounds.entries c.next.new.entries (turn_same c.args.facts.now (rules_of c.args.rules.now) c.args.atoms c.rounds.entries grown.0 c.next.new.entries grown.1
+    (sym c.len.ensures ∙ c.if-len-before.true ∙ c.len-before.ensures)) c.in_ok-next.ensures.joined
 
 pub rounds-smaller : goal.rounds-smaller
 rounds-smaller c =

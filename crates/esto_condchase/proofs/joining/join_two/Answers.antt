@@ -1,10 +1,51 @@
-use Rattle.std.proofs.Common.{◌++◌, length, ap, subst, ◌∙◌}
+use Rattle.std.proofs.Common.{◌++◌, inl, length, refl, ap, subst, arith, ◌∙◌}
+use Rattle.std.proofs.lemmas.Bool.Decides.{nat_tests}
+use Rattle.std.proofs.lemmas.Option.{slice_get_within}
 use Rattle.std.proofs.lemmas.Result.{on_ok_weaker}
 use Rattle.esto_term.specs.Sets.{Covers}
-use Rattle.esto_condchase.proofs.AskLemmas.{pushed_asks}
+use Rattle.esto_condchase.proofs.AskLemmas.{AsksMore-none, pushed_asks}
 use Rattle.esto_known.proofs.CoverLemmas.{read_at}
 use Rattle.esto_condchase.proofs.JoinLemmas.{union_count, union_following, union_met, tell_same, tell_more, covers_itself}
 use Rattle.esto_condchase.proofs.joining.join_two.Goals as goal
+
+pub returns-then-second-since-clause-count : goal.returns-then-second-since-clause-count
+returns-then-second-since-clause-count c = refl
+
+pub returns-then-second-since-clause-tell : goal.returns-then-second-since-clause-tell
+returns-then-second-since-clause-tell c = c.requires.tell
+
+pub returns-then-second-since-clause-asks : goal.returns-then-second-since-clause-asks
+returns-then-second-since-clause-asks c rules = AsksMore-none rules c.args.sets.now.count c.args.entries.now c.args.more.now
+
+pub returns-then-second-since-clause-met : goal.returns-then-second-since-clause-met
+returns-then-second-since-clause-met c one two at at_other = inl (c.if-first-since.true, c.if-second-since.true)
+
+pub returns-in_default-clause-count : goal.returns-in_default-clause-count
+returns-in_default-clause-count c = refl
+
+pub returns-in_default-clause-tell : goal.returns-in_default-clause-tell
+returns-in_default-clause-tell c = c.requires.tell
+
+pub returns-in_default-clause-asks : goal.returns-in_default-clause-asks
+returns-in_default-clause-asks c rules = AsksMore-none rules c.args.sets.now.count c.args.entries.now c.args.more.now
+
+pub returns-in_default-clause-met : goal.returns-in_default-clause-met
+returns-in_default-clause-met c one two at at_other = absurd
+    (let below = slice_get_within c.args.entries.now c.args.first one at in let past = c.in_default.ensures.lookup in grind (arith, nat_tests, below, past))
+
+pub returns-in_default-get-clause-count : goal.returns-in_default-get-clause-count
+returns-in_default-get-clause-count c = refl
+
+pub returns-in_default-get-clause-tell : goal.returns-in_default-get-clause-tell
+returns-in_default-get-clause-tell c = c.requires.tell
+
+pub returns-in_default-get-clause-asks : goal.returns-in_default-get-clause-asks
+returns-in_default-get-clause-asks c rules = AsksMore-none rules c.args.sets.now.count c.args.entries.now c.args.more.now
+
+pub returns-in_default-get-clause-met : goal.returns-in_default-get-clause-met
+returns-in_default-get-clause-met c one two at at_other = absurd
+    (let below = slice_get_within c.args.entries.now c.args.second two at_other in let past = c.in_default-get.ensures.lookup in
+    grind (arith, nat_tests, below, past))
 
 pub add-requires : goal.add-requires
 add-requires c =
@@ -14,6 +55,12 @@ add-requires c =
     ap length c.in_ok-product.ensures ∙ (union_count c.args.entries.now c.args.first c.args.second c.in-Some.one.now c.in-Some-get.two.now c.args.from.now c.args.to.now at at_other
     (c.requires.meet c.in-Some.one.now c.in-Some-get.two.now at at_other)
     c.args.sets.now.count c.requires.counts).1
+
+pub returns-then-not-branch-clause-count : goal.returns-then-not-branch-clause-count
+returns-then-not-branch-clause-count c = c.in_ok-add.ensures.count
+
+pub returns-then-not-branch-clause-asks : goal.returns-then-not-branch-clause-asks
+returns-then-not-branch-clause-asks c rules = AsksMore-none rules c.args.sets.now.count c.args.entries.now c.args.more.now
 
 pub returns-then-not-branch-clause-tell : goal.returns-then-not-branch-clause-tell
 returns-then-not-branch-clause-tell c = tell_same _ c.args.sets.now.sets c.add.new.self.sets _ c.args.from.now c.args.to.now c.in_ok-add.ensures.covers

@@ -1,4 +1,5 @@
 use Rattle.std.proofs.Common.{◌++◌, Contains, ap, sym, subst, ◌∙◌}
+use Rattle.std.proofs.lemmas.Result.{IfOk-weaker}
 use Rattle.std.proofs.lemmas.List.Elements.{Contains-append_right}
 use Rattle.esto_known.specs.KeptWays.{AreCounted}
 use Rattle.esto_condchase.proofs.WayLemmas.{found_lengths}
@@ -18,6 +19,11 @@ pub match_next-requires-clause-given : goal.match_next-requires-clause-given
 match_next-requires-clause-given c = subst (AreCounted c.args.count) (sym c.items-3.ensures) c.in_ok-given.ensures.counted
 
 pub returns-clause-found : goal.returns-clause-found
-returns-clause-found c = anew_last c.args.known.now c.args.since c.args.body.now c.args.last.now c.args.asked.now c.args.sides.now c.items-2.result.now
-    c.in_ok-from.from c.in_ok-given.given c.items-3.result.now _ c.requires.among c.in_ok-from.ensures (c.items-2.ensures ∙ c.in_ok-live.ensures ∙ ap (λ it. it ++ c.args.asked.now) c.items.ensures) c.items-3.ensures c.in_ok-given.ensures.found
-    c.in_ok-ways.ensures.next
+returns-clause-found c = IfOk-weaker c.match_next.result _ _
+    (λ ways. anew_last c.args.known.now c.args.since c.args.body.now c.args.last.now c.args.asked.now c.args.sides.now c.items-2.result.now
+    c.in_ok-from.from c.in_ok-given.given c.items-3.result.now ways c.requires.among c.in_ok-from.ensures
+    (c.items-2.ensures ∙ c.in_ok-live.ensures ∙ ap (λ it. it ++ c.args.asked.now) c.items.ensures) c.items-3.ensures c.in_ok-given.ensures.found)
+    c.match_next.ensures.next
+
+pub returns-clause-counted : goal.returns-clause-counted
+returns-clause-counted c = c.match_next.ensures.counted

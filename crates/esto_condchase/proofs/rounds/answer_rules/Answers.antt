@@ -4,6 +4,10 @@ use Rattle.esto_term.proofs.PlaceLemmas.{item_at}
 use Rattle.esto_condchase.proofs.RoundLemmas.{rule_at, rules_turn, rules_all}
 use Rattle.esto_condchase.proofs.rounds.answer_rules.Goals as goal
 
+pub answer_rule-requires-clause-at : goal.answer_rule-requires-clause-at
+answer_rule-requires-clause-at c = rule_at c.args.rules.now c.rules.number c.index-rules-number.result
+    (item_at c.args.rules.now c.rules.number c.index-rules-number.result c.rules-test.true c.index-rules-number.is)
+
 pub answer_rule-requires-clause-before : goal.answer_rule-requires-clause-before
 answer_rule-requires-clause-before c =
     let at = rule_at c.args.rules.now c.rules.number c.index-rules-number.result

@@ -1,11 +1,35 @@
-use Rattle.std.proofs.Common.{[], ap, refl, ◌∙◌}
+use Rattle.std.proofs.Common.{[], ap, refl, sym, subst, ◌∙◌}
 use Rattle.esto_semantics.specs.Rules.{tuple}
 use Rattle.esto_semantics.specs.Facts.{terms_of}
 use Rattle.esto_constraint.specs.Constraints.{rules_of}
+use Rattle.esto_chase_laws.specs.Making.{frontier}
+use Rattle.esto_chase_laws.specs.Worlds.{AreOfCount}
 use Rattle.esto_term.proofs.ListLemmas.{Contains-nil}
+use Rattle.esto_condchase.proofs.AskLemmas.{AsksMore-none}
 use Rattle.esto_condchase.proofs.MeetLemmas.{item_inside}
 use Rattle.esto_condchase.proofs.RoundLemmas.{ways_turn, ways_all, found_of}
 use Rattle.esto_condchase.proofs.rounds.answer_tuples.Goals as goal
+
+pub found-init : goal.found-init
+found-init c = record {
+  grows = AsksMore-none (rules_of c.args.rules.now) c.args.count c.args.entries.now c.args.more.now;
+  answered = λ way inside. absurd (Contains-nil way inside);
+}
+
+pub answer_tuple-requires-clause-found : goal.answer_tuple-requires-clause-found
+answer_tuple-requires-clause-found c = (found_of c.args.entries.now _ c.args.since c.args.rule.now.body _ _ _ [] _ c.in_ok-found.found refl c.items-5.ensures
+    (c.items-6.ensures ∙ c.in_ok-asked.ensures ∙ ap terms_of c.items-4.ensures) refl c.in_ok-found.ensures.found).sound c.way-item.result
+    (item_inside c.in_ok-found.found c.items-way-items.result.now c.found.way-index c.way-item.result c.items-way-items.ensures c.found-test.true c.way-item.is)
+
+pub answer_tuple-requires-clause-from_is : goal.answer_tuple-requires-clause-from_is
+answer_tuple-requires-clause-from_is c = c.in_ok-from.ensures ∙ ap terms_of c.items.ensures
+
+pub answer_tuple-requires-clause-shared_is : goal.answer_tuple-requires-clause-shared_is
+answer_tuple-requires-clause-shared_is c = c.in_ok-shared.ensures ∙ (λ i. frontier (c.items-2.ensures i) (c.items-3.ensures i))
+
+pub answer_tuple-requires-clause-counts : goal.answer_tuple-requires-clause-counts
+answer_tuple-requires-clause-counts c = subst (λ n. AreOfCount n c.args.entries.now) (sym (c.in_ok-found.ensures.counted c.way-item.result
+    (item_inside c.in_ok-found.found c.items-way-items.result.now c.found.way-index c.way-item.result c.items-way-items.ensures c.found-test.true c.way-item.is))) c.requires.counts
 
 pub found-preserved : goal.found-preserved
 found-preserved c =
@@ -20,6 +44,9 @@ found-preserved c =
 
 pub matches_since-requires-clause-among : goal.matches_since-requires-clause-among
 matches_since-requires-clause-among c term inside = absurd (Contains-nil term inside)
+
+pub returns-clause-grows : goal.returns-clause-grows
+returns-clause-grows c = c.found.invariant.grows
 
 pub returns-clause-answered : goal.returns-clause-answered
 returns-clause-answered c =

@@ -1,0 +1,22 @@
+use Rattle.std.proofs.Common.{sym, subst}
+use Rattle.esto_constraint.specs.Constraints.{rules_of}
+use Rattle.esto_chase_laws.specs.Derived.{AreDerived}
+use Rattle.esto_chase_laws.specs.WorldLaws.{AreGiven}
+use Rattle.esto_chase_laws.specs.WorldSteps.{AreAnswered, AreJoined}
+use Rattle.esto_chase_laws.specs.Worlds.{AreOfCount}
+use Rattle.esto_condchase.proofs.chase.chased.Goals as goal
+
+pub returns-clause-derived : goal.returns-clause-derived
+returns-clause-derived c = subst (AreDerived c.args.facts.now (rules_of c.args.rules.now)) (sym c.into_list.ensures) c.in_ok-rounds.ensures.derived
+
+pub returns-clause-counted : goal.returns-clause-counted
+returns-clause-counted c = subst (AreOfCount c.args.atoms) (sym c.into_list.ensures) c.in_ok-rounds.ensures.counted
+
+pub returns-clause-given : goal.returns-clause-given
+returns-clause-given c = subst (AreGiven c.args.facts.now) (sym c.into_list.ensures) c.in_ok-rounds.ensures.given
+
+pub returns-clause-answered : goal.returns-clause-answered
+returns-clause-answered c = subst (λ it. AreAnswered (rules_of c.args.rules.now) it it) (sym c.into_list.ensures) c.in_ok-rounds.ensures.answered
+
+pub returns-clause-joined : goal.returns-clause-joined
+returns-clause-joined c = subst (λ it. AreJoined it it) (sym c.into_list.ensures) c.in_ok-rounds.ensures.joined
