@@ -4,7 +4,8 @@ ghost use Rattle.esto_constraint.specs.Graphs.{AreRanks};
 ghost use Rattle.esto_constraint.specs.Relations.{IsEdge};
 ghost use Rattle.esto_mapping.specs.Datasets.{words_of};
 ghost use Rattle.esto_query.specs.Schemas.{names_of};
-ghost use Rattle.esto_bench.specs.Case.{IsMadeCatalogue, made_dataset, made_datasets, made_schema, numbered};
+ghost use Rattle.esto_bench.specs.Case.{IsMadeCatalogue, made_dataset, made_datasets, made_schema, made_stores, numbered};
+ghost use Rattle.esto_bench.specs.Made.{AreMadeFragments};
 
 use crate::case::MAX_SIZE;
 use crate::fragments::{made_columns, made_fragments, made_stores, numbered};
@@ -12,9 +13,10 @@ use either::{Left, Right};
 use esto_acyclic::judge;
 use esto_constraint::Ranks;
 use esto_docmodel::{DataModel, Layout, Vocabulary, Word};
-use esto_mapping::{Catalogue, Dataset, Datasets};
+use esto_mapping::{Catalogue, Dataset, Datasets, Stores};
 use esto_query::{MAX_RELATIONS, Schema, SchemaError};
 use esto_term::{List, OutOfMemory, Replicate, Text};
+use esto_views::FragmentDefs;
 use std::alloc::Global;
 
 // Adds a relation of two columns, whose name is new.
@@ -71,16 +73,17 @@ fn made_datasets(alloc: Global, size: usize) -> Result<Datasets, OutOfMemory>
     Ok(datasets)
 }
 
-// The word that names the dataset.
-fn word_of(alloc: Global, dataset: &Dataset) -> Result<Word, OutOfMemory>
-    ensures { IfOk result (λ it. it ≡ record {
+// Puts the word that names the dataset at the end.
+fn push_word(alloc: Global, words: &mut Vocabulary, dataset: &Dataset) -> Result<(), OutOfMemory>
+    ensures { OnOk result (words.new ≡ words.old ++ record {
       name = dataset.now.name;
       model = dataset.now.model;
       base = dataset.now.base;
-    }) }
+    } ∷ []) }
 {
-    Ok(Word {
-        name: dataset.name.copy(alloc)?,
+    let name = dataset.name.copy(alloc)?;
+    words.push(Word {
+        name,
         model: dataset.model,
         base: dataset.base,
     })
@@ -92,7 +95,7 @@ fn words_of(alloc: Global, datasets: &[Dataset]) -> Result<Vocabulary, OutOfMemo
 {
     let mut words = List::new(alloc);
     'datasets: for dataset in datasets {
-        words.push(word_of(alloc, dataset)?)?;
+        push_word(alloc, &mut words, dataset)?;
     }
     Ok(words)
 }
@@ -108,19 +111,47 @@ fn ranks_of(alloc: Global, schema: &Schema) -> Result<Ranks, OutOfMemory>
     }
 }
 
+// The relations, with their ranks under no rules.
+fn ranked_schema(alloc: Global, size: usize) -> Result<(Schema, Ranks), OutOfMemory>
+    requires { size ≤ MAX_SIZE }
+    ensures schema { IfOk result (λ it. it.0 ≡ made_schema size) }
+    ensures ranks { IfOk result (λ it. AreRanks (IsEdge []) (length it.0) it.1) }
+{
+    let schema = made_schema(alloc, size)?;
+    let ranks = ranks_of(alloc, &schema)?;
+    Ok((schema, ranks))
+}
+
+// The datasets, with the words that name them.
+fn named_datasets(alloc: Global, size: usize) -> Result<(Datasets, Vocabulary), OutOfMemory>
+    ensures datasets { IfOk result (λ it. it.0 ≡ made_datasets size) }
+    ensures words { IfOk result (λ it. it.1 ≡ words_of (made_datasets size)) }
+{
+    let datasets = made_datasets(alloc, size)?;
+    let words = words_of(alloc, datasets.items())?;
+    Ok((datasets, words))
+}
+
+// The fragments, with their stores.
+fn stored_fragments(alloc: Global, size: usize) -> Result<(FragmentDefs, Stores), OutOfMemory>
+    ensures fragments { IfOk result (λ it. AreMadeFragments size it.0) }
+    ensures stores { IfOk result (λ it. it.1 ≡ made_stores size) }
+{
+    let fragments = made_fragments(alloc, size)?;
+    let stores = made_stores(alloc, size)?;
+    Ok((fragments, stores))
+}
+
 /// The catalogue of the made case of this size, at most `MAX_SIZE`.
 pub fn made_catalogue(alloc: Global, size: usize) -> Result<Catalogue, OutOfMemory>
     requires { size ≤ MAX_SIZE }
     ensures { IfOk result (IsMadeCatalogue size) }
 {
-    let schema = made_schema(alloc, size)?;
+    let (schema, ranks) = ranked_schema(alloc, size)?;
     // the count is read so that the relations are known to be those of a schema
     let _count = schema.len();
-    let ranks = ranks_of(alloc, &schema)?;
-    let datasets = made_datasets(alloc, size)?;
-    let words = words_of(alloc, datasets.items())?;
-    let stores = made_stores(alloc, size)?;
-    let fragments = made_fragments(alloc, size)?;
+    let (datasets, words) = named_datasets(alloc, size)?;
+    let (fragments, stores) = stored_fragments(alloc, size)?;
     let rules = List::new(alloc);
     Ok(Catalogue {
         schema,

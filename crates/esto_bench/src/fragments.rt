@@ -21,13 +21,21 @@ pub fn numbered(alloc: Global, letter: &str, number: usize) -> Result<Text, OutO
     Text::from_str(alloc, name.as_str())
 }
 
+// Puts the text at the end.
+fn push_text(alloc: Global, texts: &mut TextRow, text: &str) -> Result<(), OutOfMemory>
+    ensures { OnOk result (texts.new ≡ texts.old ++ text.now ∷ []) }
+{
+    let text = Text::from_str(alloc, text)?;
+    texts.push(text)
+}
+
 /// The columns of each table.
 pub fn made_columns(alloc: Global) -> Result<TextRow, OutOfMemory>
     ensures { IfOk result (λ it. it ≡ made_columns) }
 {
     let mut columns = List::new(alloc);
-    columns.push(Text::from_str(alloc, "x")?)?;
-    columns.push(Text::from_str(alloc, "y")?)?;
+    push_text(alloc, &mut columns, "x")?;
+    push_text(alloc, &mut columns, "y")?;
     Ok(columns)
 }
 
@@ -41,8 +49,8 @@ pub fn two_variables(alloc: Global, first: u64, second: u64) -> Result<Terms, Ou
     Ok(terms)
 }
 
-/// An atom over the relation and two variables.
-pub fn atom_of(alloc: Global, relation: usize, first: u64, second: u64) -> Result<Atom, OutOfMemory>
+// An atom over the relation and two variables.
+fn atom_of(alloc: Global, relation: usize, first: u64, second: u64) -> Result<Atom, OutOfMemory>
     ensures { IfOk result (λ it. it
         ≡ record { relation = relation; terms = Plain first ∷ Plain second ∷ [] }) }
 {
@@ -50,13 +58,36 @@ pub fn atom_of(alloc: Global, relation: usize, first: u64, second: u64) -> Resul
     Ok(Fact { relation, terms })
 }
 
+/// Puts an atom over the relation and two variables at the end.
+pub fn push_atom(
+    alloc: Global,
+    atoms: &mut Atoms,
+    relation: usize,
+    first: u64,
+    second: u64,
+) -> Result<(), OutOfMemory>
+    ensures { OnOk result (atoms.new ≡ atoms.old
+        ++ record { relation = relation; terms = Plain first ∷ Plain second ∷ [] } ∷ []) }
+{
+    let atom = atom_of(alloc, relation, first, second)?;
+    atoms.push(atom)
+}
+
+// Puts the name that the text gives at the end.
+fn push_name(alloc: Global, names: &mut Names, text: &str) -> Result<(), OutOfMemory>
+    ensures { OnOk result (names.new ≡ names.old ++ Name.Given text.now ∷ []) }
+{
+    let text = Text::from_str(alloc, text)?;
+    names.push(Name::Given(text))
+}
+
 // The names of the view's variables.
 fn view_names(alloc: Global) -> Result<Names, OutOfMemory>
     ensures { IfOk result (λ it. it ≡ Name.Given (codes "x") ∷ Name.Given (codes "y") ∷ []) }
 {
     let mut names = List::new(alloc);
-    names.push(Name::Given(Text::from_str(alloc, "x")?))?;
-    names.push(Name::Given(Text::from_str(alloc, "y")?))?;
+    push_name(alloc, &mut names, "x")?;
+    push_name(alloc, &mut names, "y")?;
     Ok(names)
 }
 
@@ -65,7 +96,7 @@ fn view_body(alloc: Global, relation: usize) -> Result<Atoms, OutOfMemory>
     ensures { IfOk result (λ it. it ≡ (made_view relation).body) }
 {
     let mut body = List::new(alloc);
-    body.push(atom_of(alloc, relation, 0, 1)?)?;
+    push_atom(alloc, &mut body, relation, 0, 1)?;
     Ok(body)
 }
 
@@ -74,8 +105,8 @@ fn view_of(alloc: Global, relation: usize) -> Result<Query, OutOfMemory>
     ensures { IfOk result (λ it. query_of it ≡ made_view relation) }
 {
     let head = two_variables(alloc, 0, 1)?;
-    let body = view_body(alloc, relation)?;
     let names = view_names(alloc)?;
+    let body = view_body(alloc, relation)?;
     Ok(Query { head, body, names })
 }
 
@@ -98,8 +129,8 @@ fn fragment_of(
     ensures { IfOk result (IsMadeFragment letter.now relation weight) }
 {
     let name = numbered(alloc, letter, relation)?;
-    let view = view_of(alloc, relation)?;
     let access = without_inputs(alloc)?;
+    let view = view_of(alloc, relation)?;
     Ok(FragmentDef {
         name,
         view,
@@ -147,12 +178,25 @@ pub fn made_fragments(alloc: Global, size: usize) -> Result<FragmentDefs, OutOfM
 fn store_of(alloc: Global, letter: &str, relation: usize) -> Result<Store, OutOfMemory>
     ensures { IfOk result (λ it. it ≡ made_store letter.now relation) }
 {
-    let columns = made_columns(alloc)?;
     let file = numbered(alloc, letter, relation)?;
+    let columns = made_columns(alloc)?;
     Ok(Store {
         shape: Shape::Table(columns),
         file,
     })
+}
+
+// Puts the store of the fragment of the letter over the relation at the end.
+fn push_store(
+    alloc: Global,
+    stores: &mut Stores,
+    letter: &str,
+    relation: usize,
+) -> Result<(), OutOfMemory>
+    ensures { OnOk result (stores.new ≡ stores.old ++ made_store letter.now relation ∷ []) }
+{
+    let store = store_of(alloc, letter, relation)?;
+    stores.push(store)
 }
 
 // Puts the stores of both fragments of the relation at the end.
@@ -160,10 +204,9 @@ fn add_stores(alloc: Global, stores: &mut Stores, relation: usize) -> Result<(),
     ensures { OnOk result (stores.new ≡ stores.old
         ++ made_store (codes "A") relation ∷ made_store (codes "B") relation ∷ []) }
 {
-    let first = store_of(alloc, "A", relation)?;
-    let second = store_of(alloc, "B", relation)?;
-    stores.push(first)?;
-    stores.push(second)
+    push_store(alloc, stores, "A", relation)?;
+    push_store(alloc, stores, "B", relation)?;
+    Ok(())
 }
 
 /// The stores of the fragments over so many relations.

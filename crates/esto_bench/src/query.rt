@@ -3,7 +3,7 @@ ghost use Rattle.std.specs.Prelude.{◌≡◌, ◌<◌, ◌≤◌, map, IfOk};
 ghost use Rattle.esto_bench.specs.Case.{IsMadeQuery, below, made_atom, made_name, made_names};
 
 use crate::case::MAX_SIZE;
-use crate::fragments::{atom_of, two_variables};
+use crate::fragments::{push_atom, two_variables};
 use esto_query::{Name, Names, Query};
 use esto_semantics::Atoms;
 use esto_term::{List, OutOfMemory, Text};
@@ -18,7 +18,7 @@ fn made_body(alloc: Global, size: usize) -> Result<Atoms, OutOfMemory>
     let mut body = List::new(alloc);
     'relations: for relation in 0..size {
         let variable = relation as u64;
-        body.push(atom_of(alloc, relation, variable, variable + 1)?)?;
+        push_atom(alloc, &mut body, relation, variable, variable + 1)?;
     }
     Ok(body)
 }
@@ -51,7 +51,7 @@ pub fn made_query(alloc: Global, size: usize) -> Result<Query, OutOfMemory>
     ensures { IfOk result (IsMadeQuery size) }
 {
     let head = two_variables(alloc, 0, size as u64)?;
-    let body = made_body(alloc, size)?;
     let names = made_names(alloc, size)?;
+    let body = made_body(alloc, size)?;
     Ok(Query { head, body, names })
 }

@@ -1,5 +1,5 @@
 //! The rows of the made case.
-ghost use Rattle.std.specs.Prelude.{◌≡◌, ◌<◌, ◌≤◌, ◌+◌, ◌*◌, None, IfOk, OnOk};
+ghost use Rattle.std.specs.Prelude.{◌≡◌, ◌<◌, ◌≤◌, ◌+◌, ◌*◌, ◌++◌, ◌∷◌, [], None, IfOk, OnOk};
 ghost use Rattle.std.specs.Fmt.{decimal};
 ghost use Rattle.esto_stores.specs.Table.{table_rows, table_fault};
 ghost use Rattle.esto_stores.specs.TableText.{table_text};
@@ -26,6 +26,14 @@ fn decimal_text(alloc: Global, number: usize) -> Result<Text, OutOfMemory>
     Text::from_str(alloc, text.as_str())
 }
 
+// Puts the number in decimal at the end.
+fn push_decimal(alloc: Global, row: &mut TextRow, number: usize) -> Result<(), OutOfMemory>
+    ensures { OnOk result (row.new ≡ row.old ++ decimal number ∷ []) }
+{
+    let text = decimal_text(alloc, number)?;
+    row.push(text)
+}
+
 // The row of the relation at the place.
 fn made_row(alloc: Global, relation: usize, place: usize) -> Result<TextRow, OutOfMemory>
     requires relation { relation < MAX_SIZE }
@@ -33,8 +41,8 @@ fn made_row(alloc: Global, relation: usize, place: usize) -> Result<TextRow, Out
     ensures { IfOk result (λ it. it ≡ made_row relation place) }
 {
     let mut row = List::new(alloc);
-    row.push(decimal_text(alloc, place)?)?;
-    row.push(decimal_text(alloc, (3 * place + (relation + 1)) % ROWS)?)?;
+    push_decimal(alloc, &mut row, place)?;
+    push_decimal(alloc, &mut row, (3 * place + (relation + 1)) % ROWS)?;
     Ok(row)
 }
 

@@ -7,7 +7,7 @@ use Rattle.std.proofs.lemmas.List.{get_or-set_same, get_or-set_other, length-set
 use Rattle.std.proofs.lemmas.Option.{same_Some}
 use Rattle.std.proofs.lemmas.List.Elements.{Contains-push_cases, Contains-append_left, Contains-append_right}
 use Rattle.serde_json.specs.declared.value.Value.{Value}
-use Rattle.esto_term.proofs.ListLemmas.{Contains-head, Contains-rest, Contains-one}
+use Rattle.esto_term.proofs.ListLemmas.{Contains-head, Contains-nil, Contains-rest, Contains-one}
 use Rattle.esto_term.specs.declared.term.Term.{Term, out-Term}
 use Rattle.esto_term.specs.declared.term.Term.TheVariants.{Const, Plain, outs-Plain}
 use Rattle.esto_docmodel.specs.Forests.{name, place, Node, HasKid}
@@ -113,6 +113,9 @@ pub weight_first : (e : Entry) (es : List Entry)
     → weight (entries_of (e ∷ es)) ≡ length (first_path (entries_of (e ∷ []))) + 1 + end_weight (entries_of (e ∷ [])) + weight (entries_of es)
 weight_first e es = ap weight (entries_first e es) ∙ weight_before (entries_of (e ∷ [])) (entries_of es) (entry_some e)
 
+pub value_weight : (e : Entry) (path : List Step) (term : Term) → e ≡ entry.Value path term → end_weight (entries_of (e ∷ [])) ≡ 1
+value_weight e path term is = ap (λ (x : Entry). end_weight (entries_of (x ∷ []))) is ∙ ap end_weight (entry-Value path term done)
+
 pub group_weight : (e : Entry) (path : List Step) (inner : List Entry) → e ≡ entry.Group path inner
     → end_weight (entries_of (e ∷ [])) ≡ 1 + weight (entries_of inner)
 group_weight e path inner is = ap (λ (x : Entry). end_weight (entries_of (x ∷ []))) is ∙ ap end_weight (entry-Group path inner done)
@@ -178,6 +181,12 @@ laid_later columns step path done laid = tt
 laid_later columns step path (holds own term rest) laid = (later_plain step path laid.0, laid.1, tt)
 laid_later columns step path (group own inner rest) laid = (later_plain step path laid.0, laid.1, laid.2, tt)
 
+-- a path that is laid out has no `**`
+pub none_below : (columns : ℕ) (path : List Step) (x : Entries) → IsSome x → AreLaidOut columns (with_path (Below ∷ path) x) → ⊥
+none_below columns path done some laid = absurd some
+none_below columns path (holds own term rest) some laid = laid.0 (Contains-head Below path)
+none_below columns path (group own inner rest) some laid = laid.0 (Contains-head Below path)
+
 module _ (columns : ℕ) (tasks : List Task) (node : Node) where
   pub ready_entry : (x rest : Entries) → AreReady columns ((before x rest, node) ∷ tasks)
       → AreReady columns ((with_path (first_path x) x, node) ∷ (rest, node) ∷ tasks)
@@ -189,6 +198,9 @@ module _ (columns : ℕ) (tasks : List Task) (node : Node) where
 
   pub ready_rest : AreReady columns ((done, node) ∷ tasks) → AreReady columns tasks
   ready_rest ready = record { laid_out = ready.laid_out.1; once = λ k within. omega (arith, ready.once k within) }
+
+  pub ready_value : (term : Term) → AreReady columns ((holds [] term done, node) ∷ tasks) → AreReady columns tasks
+  ready_value term ready = record { laid_out = ready.laid_out.1; once = λ k within. omega (arith, ready.once k within) }
 
   pub ready_step : (step : Step) (path : List Step) (x : Entries) (other : Node) → AreReady columns ((with_path (step ∷ path) x, node) ∷ tasks)
       → AreReady columns ((with_path path x, other) ∷ tasks)
@@ -407,6 +419,12 @@ module _ (columns : ℕ) (tasks : List Task) (node : Node) (term : Term) (cells 
             let here : times_by_kind k (out-Term term) ≡ 0 =
             ap (λ (t : Term). times_by_kind k (out-Term t)) named ∙ other_times column k (λ e. apart (sym e)) in omega (arith, here, none)
 
+pub fills_memberless : (columns : ℕ) (tasks : List Task) (node : Node) (cells : Row) (old : List Row) (k : List ℕ) (path : List Step) (x : Entries) → IsSome x
+    → ((found : Node) → HasKid node.inside (name k) found → ⊥) → Fills columns ((with_path (Name k ∷ path) x, node) ∷ tasks) cells cells old old
+fills_memberless columns tasks node cells old k path x some none =
+    fills_nothing columns ((with_path (Name k ∷ path) x, node) ∷ tasks) cells old
+    (λ row h. let found = (matched_step (row_map row) node (Name k) path x some).0 h.0 in none found.0 found.1)
+
 pub fills_groupless : (columns : ℕ) (tasks : List Task) (node : Node) (inner : Entries) (cells : Row) (old : List Row)
     → ((m : Term → Term) → Matches m inner node → ⊥) → Fills columns ((group [] inner done, node) ∷ tasks) cells cells old old
 fills_groupless columns tasks node inner cells old none =
@@ -429,6 +447,13 @@ module _ (columns : ℕ) (entries : Entries) (tasks : List Task) where
   moved_back : (node : Node) (cells other row : Row) → ((n : Node) → AgreeOff ((entries, n) ∷ tasks) cells other)
       → Completes columns ((entries, node) ∷ tasks) cells row → Completes columns ((entries, node) ∷ tasks) other row
   moved_back node cells other row same h = record { count = h.count; kept = λ k none. sym (same node k none) ∙ h.kept k none; matched = h.matched }
+
+  pub some_starts : (cells : Row) (old : List Row) → FillsSome columns entries [] tasks cells cells old old
+  some_starts cells old = record {
+    gains = gains_nothing (CompletesSome columns entries [] tasks cells) old (λ row h. Contains-nil h.0 h.1);
+    count = refl;
+    kept = λ node k none. refl;
+  }
 
   pub some_goes : (nodes : List Node) (node : Node) (cells now later : Row) (old rows new : List Row)
       → FillsSome columns entries nodes tasks cells now old rows → Fills columns ((entries, node) ∷ tasks) now later rows new

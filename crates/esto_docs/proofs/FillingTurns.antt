@@ -1,6 +1,6 @@
 -- The turns of filling rows along a layout.
 use Rattle.std.proofs.Common.{◌≡◌, ◌∙◌, ◌<◌, ◌+◌, ◌++◌, ℕ, List, [], ◌∷◌, length, map, take, get_or, Bor, sym, ap, subst, arith}
-use Rattle.std.proofs.lemmas.List.{take_more, map-append}
+use Rattle.std.proofs.lemmas.List.{take_more, map-append, map_more}
 use Rattle.serde_json.specs.View.{view}
 use Rattle.serde_json.specs.declared.value.Value.{Value}
 use Rattle.esto_docmodel.specs.Forests.{Node}
@@ -9,7 +9,7 @@ use Rattle.esto_docmodel.specs.Patterns.{Entries, done}
 use Rattle.esto_docmodel.specs.Shapes.{entries_of}
 use Rattle.esto_docmodel.specs.declared.pattern.Entry.{Entry}
 use Rattle.esto_docmodel.specs.declared.pattern.Step.{Step}
-use Rattle.esto_docs.specs.Filling.{value_node, cells_of, Task, AreReady, Fills, task_of, tasks_of, with_path}
+use Rattle.esto_docs.specs.Filling.{value_node, value_text, cells_of, Task, AreReady, Fills, task_of, tasks_of, with_path}
 use Rattle.esto_docs.specs.Rows.{Row}
 use Rattle.esto_docs.specs.declared.filling.Pending.{Pending}
 use Rattle.esto_docs.proofs.FillingLemmas.{tasks_last, cells_count, before, entries_first, weight, end_weight, weight_in, weight_push, weight_first, ready_entry, fills_entry, fills_rest, fills_row}
@@ -103,3 +103,11 @@ items_more values i value d within is =
     ap (map (λ v. value_node (view v))) (take_more values i d within)
     ∙ ap (λ (w : Value). map (λ v. value_node (view v)) (take i values ++ w ∷ [])) (sym is)
     ∙ map-append (λ v. value_node (view v)) (take i values) (value ∷ [])
+
+-- a turn of the loop over values
+pub cells_more : (values : List (Bor Value)) (index : ℕ) (value : Bor Value) (row new : Row) (text : List ℕ) → index < length values
+    → value ≡ get_or values index value → row ≡ cells_of (take index values) → text ≡ value_text (view value.now) → new ≡ row ++ text ∷ []
+    → new ≡ cells_of (take (index + 1) values)
+cells_more values index value row new text within at so_far is more =
+    more ∙ (λ i. so_far i ++ is i ∷ []) ∙ ap (λ (it : Bor Value). cells_of (take index values) ++ value_text (view it.now) ∷ []) at
+    ∙ sym (map_more (λ (it : Bor Value). value_text (view it.now)) values index value within)

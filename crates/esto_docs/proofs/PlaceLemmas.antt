@@ -1,6 +1,7 @@
 -- Entries that have no place in a node.
-use Rattle.std.proofs.Common.{◌≡◌, ◌↔◌, ◌∙◌, ℕ, Bool, false, List, [], ◌∷◌, sym, ap, subst}
+use Rattle.std.proofs.Common.{◌≡◌, ◌↔◌, ◌∙◌, ◌++◌, ℕ, Bool, false, List, [], ◌∷◌, inl, inr, sym, ap, subst}
 use Rattle.std.specs.Prelude.{Contains}
+use Rattle.std.proofs.lemmas.List.Elements.{Contains-push_cases}
 use Rattle.serde_json.specs.Data.{Data}
 use Rattle.esto_term.specs.declared.term.Term.{Term}
 use Rattle.esto_docmodel.specs.Forests.{name, place, Node, HasKid}
@@ -28,6 +29,9 @@ module _ (test : Bool) (node : Node) (e : Entry) (es rest : List Entry) (split :
   ruled_first path first rules lacks _ m h =
       rules lacks m (subst (λ (p : List Step). Matches m (with_path p (entries_of (e ∷ []))) node) (sym first) (parts m h).0)
 
+  pub ruled_rest : RulesOut test (entries_of rest) node → RulesOut test (entries_of es) node
+  ruled_rest rules lacks m h = rules lacks m (parts m h).1
+
 -- ---- a step of its path
 
 module _ (node : Node) (whole path : List Step) (x : Entries) (some : IsSome x) where
@@ -37,6 +41,10 @@ module _ (node : Node) (whole path : List Step) (x : Entries) (some : IsSome x) 
       let at = (matched_step m node (Name k) path x some).0 (subst (λ (p : List Step). Matches m (with_path p x) node) split h) in
       rules lacks m (subst (λ (n : Node). Matches m (with_path path x) n) (sym ((is at.0).0 at.1)) at.2)
 
+  pub ruled_memberless : (k : List ℕ) → whole ≡ Name k ∷ path → ((u : Node) → HasKid node.inside (name k) u → ⊥) → RulesOut false (with_path whole x) node
+  ruled_memberless k split none _ m h =
+      let at = (matched_step m node (Name k) path x some).0 (subst (λ (p : List Step). Matches m (with_path p x) node) split h) in none at.0 at.1
+
   pub ruled_items : (test : Bool) (nodes : List Node) → whole ≡ Item ∷ path → ((u : Node) → HasKid node.inside place u ↔ Contains nodes u)
       → ((u : Node) → Contains nodes u → RulesOut test (with_path path x) u) → RulesOut test (with_path whole x) node
   ruled_items test nodes split are rules lacks m h =
@@ -44,6 +52,13 @@ module _ (node : Node) (whole path : List Step) (x : Entries) (some : IsSome x) 
       rules at.0 ((are at.0).0 at.1) lacks m at.2
 
 -- A turn of the loop over the items.
+pub ruled_more : (x : Entries) (nodes more : List Node) (node : Node) (test : Bool) → more ≡ nodes ++ node ∷ []
+    → ((u : Node) → Contains nodes u → RulesOut false x u) → RulesOut test x node → test ≡ false → (u : Node) → Contains more u → RulesOut false x u
+ruled_more x nodes more node test is before rules lacks u there = elim (Contains-push_cases nodes node u (subst (λ (ns : List Node). Contains ns u) is there)) [
+  | inl earlier ↦ before u earlier
+  | inr last ↦ λ _ m h. rules lacks m (subst (λ (n : Node). Matches m x n) (sym last) h)
+]
+
 -- ---- the end of its path
 
 pub ruled_value : (d : Data) (x : Entries) (term : Term) → x ≡ holds [] term done → RulesOut (holds_text d) x (value_node d)

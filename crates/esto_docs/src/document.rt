@@ -43,15 +43,29 @@ fn text_in<'a>(row: &'a [Text], term: &'a Term) -> &'a str
     }
 }
 
+// Puts a member in place of what its name had.
+fn put_member(
+    members: &mut Map<String, Value>,
+    name: String,
+    value: Value,
+) -> Result<(), OutOfMemory>
+    ensures { OnOk result (members_view members.new.entries
+        ≡ put (string_bytes name) (view value) (members_view members.old.entries)) }
+{
+    match members.insert(name, value) {
+        Ok(_) => Ok(()),
+        Err(_) => Err(OutOfMemory),
+    }
+}
+
 // The object of one field.
 fn object_of(alloc: Global, name: &Text, value: Value) -> Result<Value, OutOfMemory>
     ensures { IfOk result (λ it. view it ≡ step_data (step.Name name.now) (view value)) }
 {
+    let name = string_of(alloc, name.as_str())?;
     let mut members = Map::new(alloc);
-    match members.insert(string_of(alloc, name.as_str())?, value) {
-        Ok(_) => Ok(Value::Object(members)),
-        Err(_) => Err(OutOfMemory),
-    }
+    put_member(&mut members, name, value)?;
+    Ok(Value::Object(members))
 }
 
 // The array of one item.
@@ -119,19 +133,18 @@ fn later_steps(path: &[Step]) -> &[Step]
     }
 }
 
-// Puts a member in place of what its name had.
-fn put_member(
+// Puts a value as the member of the name with which a path begins, in place of what that name had.
+fn put_first(
+    alloc: Global,
     members: &mut Map<String, Value>,
-    name: String,
+    path: &[Step],
     value: Value,
 ) -> Result<(), OutOfMemory>
     ensures { OnOk result (members_view members.new.entries
-        ≡ put (string_bytes name) (view value) (members_view members.old.entries)) }
+        ≡ put (first_name path.now) (view value) (members_view members.old.entries)) }
 {
-    match members.insert(name, value) {
-        Ok(_) => Ok(()),
-        Err(_) => Err(OutOfMemory),
-    }
+    let name = first_name(alloc, path)?;
+    put_member(members, name, value)
 }
 
 // What an entry writes after its first step.
@@ -167,8 +180,8 @@ fn members_of(
     'entries: while left > 0 {
         left -= 1;
         let entry = &entries[left];
-        let name = first_name(alloc, path_of(entry))?;
-        put_member(&mut members, name, entry_value(alloc, entry, row)?)?;
+        let value = entry_value(alloc, entry, row)?;
+        put_first(alloc, &mut members, path_of(entry), value)?;
     }
     Ok(members)
 }

@@ -1,7 +1,8 @@
 //! The tree of a JSON value.
-ghost use Rattle.std.specs.Prelude.{◌≡◌, IfOk};
+ghost use Rattle.std.specs.Prelude.{◌≡◌, ◌++◌, ◌∷◌, [], IfOk, OnOk};
 ghost use Rattle.serde_json.specs.View.{view, number_view, items_view, members_view};
-ghost use Rattle.esto_docs.specs.Trees.{number_tree, tree_of, trees_of, fields_of};
+ghost use Rattle.esto_docmodel.specs.Names.{Rise};
+ghost use Rattle.esto_docs.specs.Trees.{field_of, number_tree, tree_of, trees_of, fields_of};
 ghost use Rattle.esto_docmodel.specs.declared.tree.Tree.TheVariants as variants;
 
 use esto_docmodel::{Field, Fields, Tree, Trees};
@@ -29,6 +30,15 @@ fn number_of(alloc: Global, number: &Number) -> Result<Tree, OutOfMemory>
         return value_of(alloc, digits.as_str());
     }
     Ok(Tree::Nothing)
+}
+
+// Puts a field at the end, whose name is greater than those before.
+fn push_field(alloc: Global, fields: &mut Fields, name: &str, tree: Tree) -> Result<(), OutOfMemory>
+    requires { Rise (fields.old ++ field_of name.now tree ∷ []) }
+    ensures { OnOk result (fields.new ≡ fields.old ++ field_of name.now tree ∷ []) }
+{
+    let name = Text::from_str(alloc, name)?;
+    fields.push(Field { name, tree })
 }
 
 /// The tree of a JSON value.
@@ -66,9 +76,8 @@ fn fields_of(alloc: Global, members: &Map<String, Value>) -> Result<Fields, OutO
 {
     let mut fields = Fields::new(alloc);
     'members: for (name, value) in members.iter() {
-        let name = Text::from_str(alloc, name.as_str())?;
         let tree = tree_of(alloc, value)?;
-        fields.push(Field { name, tree })?;
+        push_field(alloc, &mut fields, name.as_str(), tree)?;
     }
     Ok(fields)
 }

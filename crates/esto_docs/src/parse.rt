@@ -7,7 +7,7 @@ use serde_json::Value;
 use std::alloc::Global;
 
 /// Why bytes give no value.
-#[derive(Drop)]
+#[derive(Clone, Copy)]
 pub enum ParseError {
     /// The bytes are no JSON value.
     BadJson,

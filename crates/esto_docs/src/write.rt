@@ -14,7 +14,7 @@ ghost use Rattle.esto_docmodel.specs.declared.file.Layout.TheVariants as layouts
 use crate::document::document_of;
 use esto_docmodel::{Layout, Pattern};
 use esto_lines::laws::lines_begin_anew;
-use esto_term::{Bytes, OutOfMemory, Text, TextRows};
+use esto_term::{Bytes, OutOfMemory, Text, TextRows, push};
 use serde_json::Value;
 use std::alloc::Global;
 
@@ -30,6 +30,19 @@ fn document_text(alloc: Global, document: &Value) -> Result<Bytes, OutOfMemory>
     }
 }
 
+// The text of a row's document, on one line.
+fn row_text(alloc: Global, pattern: &Pattern, row: &[Text]) -> Result<Bytes, OutOfMemory>
+    requires { IsPlain (document (entries_of pattern.now.entries) row.now) }
+    ensures text { IfOk result (λ text.
+        text ≡ compact_text (document (entries_of pattern.now.entries) row.now)) }
+    ensures read { IfOk result (λ _.
+        IsReadBack (document (entries_of pattern.now.entries) row.now)) }
+{
+    let document = document_of(alloc, pattern.entries.items(), row)?;
+    let text = document_text(alloc, &document)?;
+    Ok(text)
+}
+
 // Puts the line of a row's document at the end.
 fn put_line(
     alloc: Global,
@@ -42,8 +55,7 @@ fn put_line(
         ++ document_line (document (entries_of pattern.now.entries) row.now)) }
     ensures read { OnOk result (IsReadBack (document (entries_of pattern.now.entries) row.now)) }
 {
-    let document = document_of(alloc, pattern.entries.items(), row)?;
-    let line = document_text(alloc, &document)?;
+    let line = row_text(alloc, pattern, row)?;
     text.append(line.bytes())?;
     text.append(b"\n")?;
     Ok(())
@@ -75,9 +87,7 @@ fn documents_of(
     let mut documents = Vec::new(alloc);
     'rows: for row in rows.items() {
         let document = document_of(alloc, pattern.entries.items(), row.items())?;
-        if documents.push(document).is_err() {
-            return Err(OutOfMemory);
-        }
+        push(&mut documents, document)?;
     }
     Ok(documents)
 }

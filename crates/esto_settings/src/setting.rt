@@ -1,5 +1,5 @@
 //! What is written in a catalogue, in plain data: after this file nothing knows TOML.
-ghost use Rattle.std.specs.Prelude.{◌≡◌, None, Some, IfOk, IfErr, MatchOption};
+ghost use Rattle.std.specs.Prelude.{◌≡◌, ◌++◌, ◌∷◌, [], None, Some, IfOk, IfErr, MatchOption, OnOk};
 ghost use Rattle.toml.specs.Data.{get_member};
 ghost use Rattle.toml.specs.View.{view, items_view, table_view};
 ghost use Rattle.esto_settings.specs.Settings.{is_same, has_key, setting_at, texts_of, array_setting, setting_of, entry_of, switch_of, entries_of, section_of};
@@ -63,6 +63,14 @@ impl From<OutOfMemory> for TomlError {
     }
 }
 
+// Puts a text at the end.
+fn push_text(alloc: Global, texts: &mut TextRow, text: &str) -> Result<(), OutOfMemory>
+    ensures { OnOk result (texts.new ≡ texts.old ++ text.now ∷ []) }
+{
+    let text = Text::from_str(alloc, text)?;
+    texts.push(text)
+}
+
 // The texts of an array, or None where it has something else.
 fn texts_of(alloc: Global, array: &[Value]) -> Result<Option<TextRow>, OutOfMemory>
     ensures { IfOk result (λ it. it ≡ texts_of (items_view array.now)) }
@@ -70,7 +78,7 @@ fn texts_of(alloc: Global, array: &[Value]) -> Result<Option<TextRow>, OutOfMemo
     let mut texts = List::new(alloc);
     'items: for item in array {
         match item.as_str() {
-            Some(text) => texts.push(Text::from_str(alloc, text)?)?,
+            Some(text) => push_text(alloc, &mut texts, text)?,
             None => return Ok(None),
         }
     }
@@ -101,16 +109,37 @@ fn setting_of(alloc: Global, value: &Value) -> Result<Setting, OutOfMemory>
     }
 }
 
+// Puts a key with its setting at the end.
+fn push_field(
+    alloc: Global,
+    entry: &mut KeyList,
+    key: &str,
+    value: &Value,
+) -> Result<(), OutOfMemory>
+    ensures { OnOk result (entry.new ≡ entry.old
+        ++ record { key = key.now; setting = setting_of (view value.now) } ∷ []) }
+{
+    let key = Text::from_str(alloc, key)?;
+    let setting = setting_of(alloc, value)?;
+    entry.push(Field { key, setting })
+}
+
 fn entry_of(alloc: Global, table: &Table) -> Result<KeyList, OutOfMemory>
     ensures { IfOk result (λ it. it ≡ entry_of (table_view table.now)) }
 {
     let mut entry = List::new(alloc);
     'fields: for (key, value) in table {
-        let key = Text::from_str(alloc, key.as_str())?;
-        let setting = setting_of(alloc, value)?;
-        entry.push(Field { key, setting })?;
+        push_field(alloc, &mut entry, key.as_str(), value)?;
     }
     Ok(entry)
+}
+
+// Puts the entry of a table at the end.
+fn push_entry(alloc: Global, entries: &mut SectionTables, table: &Table) -> Result<(), OutOfMemory>
+    ensures { OnOk result (entries.new ≡ entries.old ++ entry_of (table_view table.now) ∷ []) }
+{
+    let entry = entry_of(alloc, table)?;
+    entries.push(entry)
 }
 
 // The entries of an array, or None where it has something else than tables.
@@ -120,7 +149,7 @@ fn entries_of(alloc: Global, array: &[Value]) -> Result<Option<SectionTables>, O
     let mut entries = List::new(alloc);
     'items: for item in array {
         match item.as_table() {
-            Some(table) => entries.push(entry_of(alloc, table)?)?,
+            Some(table) => push_entry(alloc, &mut entries, table)?,
             None => return Ok(None),
         }
     }

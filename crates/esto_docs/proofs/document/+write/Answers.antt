@@ -1,6 +1,14 @@
-use Rattle.std.proofs.Common.{◌∙◌, ap, arith}
-use Rattle.esto_docs.specs.Documents.{first_name}
-use Rattle.esto_docs.proofs.GroupLemmas.{members_go}
+use Rattle.std.proofs.Common.{List, ap, arith, sym, ◌∙◌}
+use Rattle.std.proofs.lemmas.Result.{IfOk-weaker}
+use Rattle.serde_json.specs.Data.{Data, array, item, no_items, object, string}
+use Rattle.serde_json.proofs.Views.{view-Object}
+use Rattle.serde_json.specs.View.{view}
+use Rattle.serde_json.specs.declared.value.Value as json
+use Rattle.esto_docmodel.specs.Shapes.{entries_of}
+use Rattle.esto_docmodel.specs.declared.pattern.Entry.{Entry}
+use Rattle.esto_docmodel.specs.declared.pattern.Step.{Step}
+use Rattle.esto_docs.specs.Documents.{document, first_name, later_steps, path_data}
+use Rattle.esto_docs.proofs.GroupLemmas.{fields_first, group_data, item_first, members_go, text_data, value_data}
 use Rattle.esto_docs.proofs.document.+write.Goals as goal
 
 pub members_of-entries-preserved : goal.members_of-entries-preserved
@@ -8,5 +16,39 @@ members_of-entries-preserved t c =
     let held = c.entries.invariant in (
       omega (arith, held.0),
       members_go c.args.row.now c.args.entries.now c.entries.left c.index-entries-left.result c.index-entries-left.result _ _ _ _ c.entries-test.true held.0
-          c.index-entries-left.is held.1 (c.in_ok-name.ensures ∙ ap first_name c.path_of.ensures.first) c.in_ok-entry_value.ensures c.in_ok-put_member.ensures,
+          c.index-entries-left.is held.1 (ap first_name c.path_of.ensures.first) c.in_ok-value.ensures c.in_ok-put_first.ensures,
     )
+
+pub entry_value-returns-in_ok-string_of-in-Value : goal.entry_value-returns-in_ok-string_of-in-Value
+entry_value-returns-in_ok-string_of-in-Value t c =
+    let cell = view (json.String c.in_ok-string_of-in-Value.field-0) in
+    let wrapped =
+    ap (λ (path : List Step). path_data path cell) (c.later_steps.ensures ∙ ap later_steps c.items.ensures)
+    ∙ ap (path_data (later_steps c.in-Value.path)) (text_data c.in_ok-string_of-in-Value.field-0
+    ∙ ap string (c.in_ok-string_of-in-Value.ensures ∙ c.text_in.ensures))
+    ∙ sym (value_data c.args.entry.now c.in-Value.path c.in-Value.term c.args.row.now c.in-Value.is) in
+    IfOk-weaker c.wrap_all.result _ _ (λ it is. is ∙ wrapped) c.wrap_all.ensures
+
+pub entry_value-returns-in_ok-inner-in-Group : goal.entry_value-returns-in_ok-inner-in-Group
+entry_value-returns-in_ok-inner-in-Group t c =
+    let inner = view c.in_ok-inner-in-Group.inner in
+    let wrapped =
+    ap (λ (path : List Step). path_data path inner) (c.later_steps-in-Group.ensures ∙ ap later_steps c.items-in-Group-2.ensures)
+    ∙ ap (path_data (later_steps c.in-Group.path)) (c.in_ok-inner-in-Group.ensures
+    ∙ ap (λ (entries : List Entry). document (entries_of entries) c.args.row.now) c.items-in-Group.ensures)
+    ∙ sym (group_data c.args.entry.now c.in-Group.path c.in-Group.entries c.args.row.now c.in-Group.is) in
+    IfOk-weaker c.wrap_all-in-Group.result _ _ (λ it is. is ∙ wrapped) c.wrap_all-in-Group.ensures
+
+pub document_of-returns-then-begins_with_field : goal.document_of-returns-then-begins_with_field
+document_of-returns-then-begins_with_field t c =
+    view-Object c.in_ok-members_of.field-0 ∙ ap object c.in_ok-members_of.ensures
+    ∙ fields_first c.args.entries.now c.in-Some.first.now c.args.row.now c.path_of.result.now c.in-Some.ensures.value c.path_of.ensures.first
+    (sym c.begins_with_field.ensures ∙ c.if-begins_with_field.true)
+
+pub document_of-returns : goal.document_of-returns
+document_of-returns t c =
+    let whole =
+    ap (λ (own : Data). array (item own no_items)) c.in_ok-entry_value.ensures
+    ∙ item_first c.args.entries.now c.in-Some.first.now c.args.row.now c.path_of.result.now c.in-Some.ensures.value c.path_of.ensures.first
+    (sym c.begins_with_field.ensures ∙ c.if-begins_with_field.false) in
+    IfOk-weaker c.array_of.result _ _ (λ it is. is ∙ whole) c.array_of.ensures
