@@ -1,5 +1,5 @@
 -- The facts of documents that the atoms of a pattern can go to, and the rows of a query that was made before.
-use Rattle.std.proofs.Common.{◌≡◌, ◌↔◌, ◌==◌, Bool, true, filter, List, [], map, Contains, refl, sym, ap, ◌∙◌, subst, arith}
+use Rattle.std.proofs.Common.{◌≡◌, ◌↔◌, ◌==◌, true, filter, List, [], map, Contains, refl, sym, ap, ◌∙◌, subst, arith}
 use Rattle.std.proofs.lemmas.Bool.Decides.{nat_tests}
 use Rattle.std.proofs.lemmas.List.Folds.{list_any_at}
 use Rattle.esto_term.proofs.ListLemmas.{Contains-filter, Contains-filter_from, Contains-map, Contains-map_from}

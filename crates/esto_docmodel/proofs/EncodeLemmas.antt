@@ -1,6 +1,6 @@
 -- The loops of the encodings, a turn at a time.
-use Rattle.std.proofs.Common.{◌≡◌, true, false, filter, ℕ, suc, ◌+◌, ◌<◌, List, [], ◌∷◌, ◌++◌, map, drop, length, get_or, Some, None, refl, sym, ap, ◌∙◌, subst, arith, append_assoc}
-use Rattle.std.proofs.lemmas.List.{append-nil, map-append}
+use Rattle.std.proofs.Common.{◌≡◌, true, false, filter, ℕ, suc, ◌+◌, ◌<◌, ◌≤◌, List, [], ◌∷◌, ◌++◌, map, drop, length, get_or, Some, None, refl, sym, ap, ◌∙◌, subst, arith, append_assoc}
+use Rattle.std.proofs.lemmas.List.{append-nil, drop_all, map-append}
 use Rattle.std.proofs.lemmas.List.Elements.{filter-append}
 use Rattle.std.proofs.lemmas.Option.{slice_get-get_or}
 use Rattle.std.proofs.lemmas.Result.{IfOk-weaker, on_ok_weaker}
@@ -11,8 +11,8 @@ use Rattle.esto_term.proofs.PlaceLemmas.{drop-item, drop-there}
 use Rattle.esto_semantics.specs.declared.fact.Fact.{Fact}
 use Rattle.esto_docmodel.specs.DocumentFacts.{DocFact, root, field, item, value, below, flat}
 use Rattle.esto_docmodel.specs.Encodings.{size, entering, belows, holding, facts_from, every, has_term, has_text, is_among_kind, is_kept, kept, kept_of, end}
-use Rattle.esto_docmodel.specs.Encodings.{step_atoms, atoms}
-use Rattle.esto_docmodel.specs.Patterns.{done}
+use Rattle.esto_docmodel.specs.Encodings.{step_atoms, atoms, used}
+use Rattle.esto_docmodel.specs.Patterns.{done, group}
 use Rattle.esto_docmodel.specs.Forests.{Label, name, place, Forest, none, kid, Node, node}
 use Rattle.esto_docmodel.specs.Gaining.{fact_over}
 use Rattle.esto_docmodel.specs.Putting.{turned, node_facts}
@@ -223,6 +223,16 @@ module _ (base v next : ℕ) (path : List Step) (start put : List (Fact Term)) (
       ∙ ap (λ (w : List (DocFact Term)). put ++ map (flat base) w) (sym (append-nil (atoms (entries_of inner) (end path v next) (next + length path))))
       ∙ path_then (atoms (entries_of inner) (end path v next) (next + length path) ++ []))
 
+-- the next variable after an entry, kind by kind, when its path is put
+module _ (v next : ℕ) (path : List Step) (last later : ℕ) (numbers : ◌≡◌ {A = ℕ × ℕ} (last, later) (end path v next, next + length path)) where
+  pub value_entry_next : (it : Entry) (term : Term) → it ≡ entry.Value path term → later ≡ next + used (entry_shape it done)
+  value_entry_next it term is = rw (is, entry-Value path term done) (omega (arith, ap (λ (w : ℕ × ℕ). w.1) numbers))
+
+  pub group_entry_next : {E : Type 0} (answer : Result ℕ E) (it : Entry) (inner : List Entry) → it ≡ entry.Group path inner
+      → IfOk answer (λ n. n ≡ later + used (entries_of inner)) → IfOk answer (λ n. n ≡ next + used (entry_shape it done))
+  group_entry_next answer it inner is = rw (is, entry-Group path inner done) (IfOk-weaker answer (λ n. n ≡ later + used (entries_of inner))
+      (λ n. n ≡ next + used (group path (entries_of inner) done)) (λ n told. omega (arith, told, ap (λ (w : ℕ × ℕ). w.1) numbers)))
+
 -- the facts of the first of the fields or items that are left, and those of the others
 module _ (relations : Kept) (number next later : ℕ) (above inner : List ℕ) (is_inner : inner ≡ above ++ number ∷ []) where
   inside_turned : number ∷ turned above ≡ turned inner
@@ -270,6 +280,19 @@ pub item_count : (next later all : ℕ) (items : List Tree) (i : ℕ) (t : Tree)
 item_count next later all items i t within is numbered known =
     rw numbered (kid_count next all (shape t) (row (map shape (drop (i + 1) items))) place
     (ap (λ (w : List Tree). next + size (row (map shape w))) (sym (drop-item items i t within is)) ∙ known))
+
+-- the fields, or the items, are all counted
+pub fields_counted : (next first : ℕ) (items fields : List (FieldOf Tree)) (i : ℕ) → length items ≤ i → items ≡ fields
+    → next + size (named_row (map shaped_field (drop i items))) ≡ first + size (named_row (map shaped_field items))
+    → next ≡ first + size (named_row (map shaped_field fields))
+fields_counted next first items fields i past is known =
+    let none : size (named_row (map shaped_field (drop i items))) ≡ 0 = ap (λ (w : List (FieldOf Tree)). size (named_row (map shaped_field w))) (drop_all i items past) in
+    subst (λ (w : List (FieldOf Tree)). next ≡ first + size (named_row (map shaped_field w))) is (omega (arith, known, none))
+
+pub items_counted : (next first : ℕ) (items : List Tree) (i : ℕ) → length items ≤ i
+    → next + size (row (map shape (drop i items))) ≡ first + size (row (map shape items)) → next ≡ first + size (row (map shape items))
+items_counted next first items i past known =
+    let none : size (row (map shape (drop i items))) ≡ 0 = ap (λ (w : List Tree). size (row (map shape w))) (drop_all i items past) in omega (arith, known, none)
 
 -- ---- names that rise
 

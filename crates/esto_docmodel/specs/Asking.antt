@@ -1,5 +1,5 @@
 -- A pattern as a query that is made once, and the facts of documents that its atoms can go to.
-use Rattle.std.specs.Prelude.{◌≡◌, ◌==◌, ℕ, ◌<◌, Bool, true, List, AllPairs}
+use Rattle.std.specs.Prelude.{◌≡◌, ◌==◌, ◌<◌, Bool, true, List, AllPairs}
 use Rattle.std.specs.List.{list_any}
 use Rattle.esto_term.specs.declared.term.Term.{Term}
 use Rattle.esto_semantics.specs.declared.fact.Fact.{Fact}

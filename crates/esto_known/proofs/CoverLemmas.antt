@@ -1,7 +1,7 @@
 -- What is covered, and entries that are added where it is not.
 use Rattle.std.proofs.Common.{◌≡◌, ◌⊎◌, inl, inr, ℕ, ◌+◌, ◌<◌, ◌≤◌, Bool, List, [], ◌∷◌, ◌++◌, length, take, get_or, slice_get, Some, arith, Contains, refl, sym, ap, ◌∙◌, subst}
 use Rattle.std.proofs.Common.{ltb, true}
-use Rattle.std.proofs.lemmas.Bool.Decides.{nat_tests}
+use Rattle.std.proofs.lemmas.Bool.{ltb-true}
 use Rattle.std.proofs.lemmas.Option.{slice_get_within}
 use Rattle.std.proofs.lemmas.List.{append_assoc, append-nil}
 use Rattle.std.proofs.lemmas.List.Elements.{Contains-append_cases, Contains-append_left, Contains-push, Contains-push_cases}
@@ -28,7 +28,7 @@ use Rattle.esto_known.specs.Indexes.{CoversClaim}
 -- what is read at a place stands there
 pub read_at : {X : Type 0} (items : List X) (place : ℕ) (item : X) → true ≡ ltb place (length items) → item ≡ get_or items place item
     → slice_get items place ≡ Some item
-read_at items place item inside at = item_at items place item (grind (arith, nat_tests)) at
+read_at items place item inside at = item_at items place item (ltb-true place (length items) (sym inside)) at
 
 -- ---- covered
 

@@ -1,12 +1,12 @@
 -- Terms, and places of terms, that tell what others meet.
-use Rattle.std.proofs.Common.{◌≡◌, ◌⊎◌, ◌<◌, ◌≤◌, ◌+◌, inl, inr, ℕ, List, [], length, take, get_or, ◌-◌}
+use Rattle.std.proofs.Common.{◌≡◌, ◌⊎◌, ◌<◌, ◌≤◌, ◌+◌, inl, inr, ℕ, List, [], length, take, get_or}
 use Rattle.std.proofs.Common.{Contains, sym, ap, ◌∙◌, subst, zero, suc, Bool, true, false, cond, ◌∷◌, ◌++◌, slice_get}
 use Rattle.std.proofs.Common.{Option, None, Some, MatchOption, IfSome, refl, arith}
 use Rattle.std.proofs.lemmas.List.{take_all}
 use Rattle.std.proofs.lemmas.List.Elements.{Contains-push_cases, Contains-push}
 use Rattle.esto_term.specs.declared.term.Term.{Term, out-Term}
 use Rattle.esto_semantics.proofs.SubstitutionLemmas.{substituted-outside}
-use Rattle.esto_term.proofs.ListLemmas.{Contains-nil, Contains-at, thing_at, HoldsBelow}
+use Rattle.esto_term.proofs.ListLemmas.{Contains-nil, Contains-at, Contains-pushed, thing_at, HoldsBelow}
 use Rattle.esto_chase_laws.specs.WorldMatches.{unless_constant, taken}
 use Rattle.esto_known.specs.Told.{Tell, IsPut, IsFirstAt, IsMetAt, TellsOne}
 use Rattle.esto_term.proofs.PlaceLemmas.{take-item, item_at}
@@ -21,6 +21,24 @@ use Rattle.esto_chase_laws.proofs.TakenLemmas.{taken-Const, taken_cases}
 
 pub taken-apart : (from to others : List Term) (term : Term) → (Contains from term → ⊥) → taken from to term ≡ taken from others term
 taken-apart from to others term apart = ap (unless_constant (out-Term term) term) (substituted-outside from to term apart ∙ sym (substituted-outside from others term apart))
+
+-- whether the term is put in
+module _ (from these : List Term) (term : Term) where
+  pub put_apart : (Contains from term → ⊥) → IsPut from term these these
+  put_apart apart = record { kept = λ own inside. inside; told = inr apart; among = λ own inside. inl inside }
+
+  pub put_there : Contains these term → IsPut from term these these
+  put_there there = record { kept = λ own inside. inside; told = inl there; among = λ own inside. inl inside }
+
+  pub put_last : (later : List Term) (last : Term) → later ≡ these ++ last ∷ [] → last ≡ term → Contains from term → IsPut from term these later
+  put_last later last grown same stands = record {
+    kept = λ own inside. Contains-pushed these later last own grown inside;
+    told = inl (subst (Contains later) same (subst (λ it. Contains it last) (sym grown) (Contains-push these last)));
+    among = λ own inside. elim (Contains-push_cases these last own (subst (λ it. Contains it own) grown inside)) [
+      | inl earlier ↦ inl earlier
+      | inr here ↦ inr (subst (Contains from) (sym same ∙ here) stands)
+    ];
+  }
 
 pub tell_none : (from these : List Term) → these ≡ [] → Tell from [] these
 tell_none from these none = rw none record {

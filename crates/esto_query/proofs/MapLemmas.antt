@@ -1,8 +1,8 @@
 -- What equal images come of, and maps that are changed at one variable.
-use Rattle.std.proofs.Common.{◌≡◌, ◌≢◌, ℕ, eqb, cond, true, false, List, map, get_or, Contains, None, sym, ap, ◌∙◌, inl, inr, arith}
+use Rattle.std.proofs.Common.{◌≡◌, ◌≢◌, ℕ, eqb, cond, List, map, get_or, Contains, None, refl, sym, ap, ◌∙◌, inl, inr}
 use Rattle.std.proofs.lemmas.List.{get_or-map}
 use Rattle.std.proofs.lemmas.Option.{none-some}
-use Rattle.std.proofs.lemmas.Bool.Decides.{nat_tests}
+use Rattle.std.proofs.lemmas.Bool.{eq-eqb, ne_eqb}
 use Rattle.std.specs.FinMap.{get}
 use Rattle.esto_term.specs.declared.term.Term.{Term, out-Term}
 use Rattle.esto_term.specs.declared.term.Term.TheOpen.{Term-F}
@@ -33,19 +33,13 @@ changed m variable new term = changed_kind m variable new term (out-Term term)
 pub changed-Const : (m : Term → Term) (variable : ℕ) (new : Term) (text : List ℕ) → changed m variable new (Const text) ≡ m (Const text)
 changed-Const m variable new text = ap (changed_kind m variable new (Const text)) (outs-Const text)
 
-same_test : (n : ℕ) → eqb n n ≡ true
-same_test n = grind (arith, nat_tests)
-
-other_test : (n k : ℕ) → n ≢ k → eqb n k ≡ false
-other_test n k apart = grind (arith, nat_tests)
-
 pub changed-here : (m : Term → Term) (variable : ℕ) (new : Term) → changed m variable new (Plain variable) ≡ new
 changed-here m variable new =
-    ap (changed_kind m variable new (Plain variable)) (outs-Plain variable) ∙ ap (λ b. cond b new (m (Plain variable))) (same_test variable)
+    ap (changed_kind m variable new (Plain variable)) (outs-Plain variable) ∙ ap (λ b. cond b new (m (Plain variable))) (eq-eqb variable variable refl)
 
 pub changed-other : (m : Term → Term) (variable : ℕ) (new : Term) (number : ℕ) → number ≢ variable → changed m variable new (Plain number) ≡ m (Plain number)
 changed-other m variable new number apart =
-    ap (changed_kind m variable new (Plain number)) (outs-Plain number) ∙ ap (λ b. cond b new (m (Plain number))) (other_test number variable apart)
+    ap (changed_kind m variable new (Plain number)) (outs-Plain number) ∙ ap (λ b. cond b new (m (Plain number))) (ne_eqb number variable apart)
 
 pub Keeps-changed : (m : Term → Term) (variable : ℕ) (new : Term) → Keeps Const m → Keeps Const (changed m variable new)
 Keeps-changed m variable new keeps text = changed-Const m variable new text ∙ keeps text

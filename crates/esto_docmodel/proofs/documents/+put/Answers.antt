@@ -1,6 +1,6 @@
 use Rattle.std.proofs.Common.{arith, refl}
 use Rattle.std.proofs.lemmas.Result.{on_ok_weaker}
-use Rattle.esto_docmodel.proofs.EncodeLemmas.{value_facts, nothing_facts, fields_facts, items_facts, field_rest, item_rest, field_count, item_count}
+use Rattle.esto_docmodel.proofs.EncodeLemmas.{value_facts, nothing_facts, fields_facts, items_facts, field_rest, item_rest, field_count, item_count, fields_counted, items_counted}
 use Rattle.esto_docmodel.proofs.EncodeLemmas.{value_inside, nothing_inside, fields_inside, items_inside, leaf_next, leaf_rising, row_next, row_rising}
 use Rattle.esto_docmodel.proofs.EncodeLemmas.{field_inside, item_inside}
 use Rattle.esto_docmodel.proofs.GainLemmas.{gains_both, gains_those, leads_start, leads_more, fields_end, items_end, room_stays}
@@ -118,3 +118,15 @@ pub put_node-put_value-requires-clause-room : goal.put_node-put_value-requires-c
 put_node-put_value-requires-clause-room g t c =
     room_stays g.S.FactSink.Holds g.S.FactSink.arities c.args.relations.now.base c.args.sink.now c.put_belows.new.sink c.in_ok-put_belows.ensures.same
     c.requires.room
+
+pub put_fields-returns-clause-next : goal.put_fields-returns-clause-next
+put_fields-returns-clause-next g t c =
+    fields_counted _ _ c.items-field-items.result.now c.args.fields.now c.fields.field-index (omega (arith, c.fields-test.false))
+    c.items-field-items.ensures.value c.fields.invariant.1
+
+pub put_items-returns-clause-next : goal.put_items-returns-clause-next
+put_items-returns-clause-next g t c =
+    items_counted _ _ c.args.items.now c.items.item-index (omega (arith, c.items-test.false)) c.items.invariant.1
+
+pub put_node-put_belows-requires : goal.put_node-put_belows-requires
+put_node-put_belows-requires g t c = record { base = c.requires.base; room = c.requires.room }

@@ -1,7 +1,7 @@
 use Rattle.std.proofs.Common.{ℕ, List, map, suc, length, Contains, AllPairs, ap, sym, ◌∙◌, subst}
 use Rattle.esto_term.specs.declared.term.Term.{Term}
 use Rattle.esto_semantics.specs.Valuations.{Assignment}
-use Rattle.esto_docmodel.specs.Matching.{AreRows, valuation_of}
+use Rattle.esto_docmodel.specs.Matching.{valuation_of}
 use Rattle.esto_docmodel.specs.Shapes.{shape, entries_of}
 use Rattle.esto_docmodel.specs.Valuations.{AreMatches, BindsVariables, GivesTexts, ComesBefore}
 use Rattle.esto_docmodel.proofs.MatchLemmas.{are_matches, bind_variables, give_texts, are_ascending, rows_long}

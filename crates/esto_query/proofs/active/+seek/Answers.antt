@@ -1,6 +1,7 @@
-use Rattle.std.proofs.Common.{◌≡◌, ◌∷◌, ap, ◌∙◌, length, arith}
-use Rattle.std.proofs.lemmas.Result.{IfOk-weaker}
+use Rattle.std.proofs.Common.{◌≡◌, ◌∷◌, refl, ap, ◌∙◌, length, arith}
+use Rattle.std.proofs.lemmas.Result.{IfOk-weaker, on_ok_weaker}
 use Rattle.std.specs.List.{insert, remove}
+use Rattle.esto_term.proofs.ListLemmas.{Contains-nil}
 use Rattle.esto_query.specs.Active.{rule_of}
 use Rattle.esto_query.specs.Trails.{with_trail}
 use Rattle.esto_query.proofs.ActiveLemmas.{head_less, equality_told, tuple_told, over_at_end, end_decides, denial_decides, same_decides, same_concluded, concluded_next}
@@ -34,6 +35,9 @@ is_active-returns-in-Equals-clause-tells t c =
     rw c.in-Equals.is (equality_told c.args.rule.now.body.now c.args.facts.now c.in-Equals.one.now c.in-Equals.other.now known aimed
     c.equal-is_same.result told)
 
+pub is_active-returns-in-Never-clause-tells : goal.is_active-returns-in-Never-clause-tells
+is_active-returns-in-Never-clause-tells t c = rw c.in-Never.is (λ m keeps extends never. never)
+
 pub has_active-seek-requires : goal.has_active-seek-requires
 has_active-seek-requires t c = (
   omega (arith, c.decreases, ap length c.in_ok-left.ensures),
@@ -50,6 +54,12 @@ pub seek-returns-in_default-clause-decides : goal.seek-returns-in_default-clause
 seek-returns-in_default-clause-decides t c =
     rw c.in_default.ensures (IfOk-weaker c.is_active.result _ _
     (end_decides c.args.facts.now (rule_of c.args.rule.now) (with_trail c.args.start.now c.args.trail.now.items)) c.is_active.ensures.tells)
+
+pub seek-returns-in_default-clause-left : goal.seek-returns-in_default-clause-left
+seek-returns-in_default-clause-left t c = on_ok_weaker c.is_active.result (λ _. refl) c.is_active.ensures.trail
+
+pub seek-returns-in_default-clause-trail : goal.seek-returns-in_default-clause-trail
+seek-returns-in_default-clause-trail t c = c.is_active.ensures.trail
 
 pub seek-seek_each-requires : goal.seek-seek_each-requires
 seek-seek_each-requires t c =
@@ -97,6 +107,9 @@ seek-returns-clause-decides t c =
     same_decides left (atom ∷ remove left place) (taken_same left place atom c.take-waiting.ensures.atom) c.args.facts.now
     (rule_of c.args.rule.now) (with_trail c.args.start.now c.args.trail.now.items) c.in_ok-is_found.is_found decides
 
+pub seek_each-places-init : goal.seek_each-places-init
+seek_each-places-init t c = record { left = refl; trail = refl; holds = λ place inside. absurd (Contains-nil place inside) }
+
 pub seek_each-bind_place-requires : goal.seek_each-bind_place-requires
 seek_each-bind_place-requires t c = flat_first c.args.atom.now c.args.left.now c.requires.flat
 
@@ -113,6 +126,15 @@ seek_each-seek-requires t c =
             (with_trail c.args.start.now c.bind_place.new.trail.items) tried.1 c.args.rule.now.body.now c.args.rule.now.conclusion aimed),
       ),
     )
+
+pub seek_each-returns-then-is_found-clause-left : goal.seek_each-returns-then-is_found-clause-left
+seek_each-returns-then-is_found-clause-left t c = c.in-Ok.ensures.left ∙ c.places.invariant.left
+
+pub seek_each-returns-then-is_found-clause-trail : goal.seek_each-returns-then-is_found-clause-trail
+seek_each-returns-then-is_found-clause-trail t c =
+    let grown = rw c.in-Ok-true.field-0-test at c.in-Ok-true.ensures in
+    undone _ _ _ _ _ _ (omega (arith, c.args.trail.now.ok.0, c.len-mark.ensures)) c.places.invariant.trail grown.0
+    c.in-Ok.ensures.trail c.truncate.ensures.items
 
 pub seek_each-returns-then-is_found-clause-decides : goal.seek_each-returns-then-is_found-clause-decides
 seek_each-returns-then-is_found-clause-decides t c =

@@ -1,5 +1,6 @@
-use Rattle.std.proofs.Common.{◌≡◌, ◌∷◌, [], ap, subst, length, arith}
+use Rattle.std.proofs.Common.{◌≡◌, ◌∷◌, [], refl, ap, subst, length, arith}
 use Rattle.std.proofs.lemmas.List.{nil_from_length}
+use Rattle.esto_term.proofs.ListLemmas.{Contains-nil}
 use Rattle.esto_semantics.specs.Maps.{AreFlat}
 use Rattle.esto_query.specs.Active.{rule_of, IsConcluded}
 use Rattle.esto_query.specs.Trails.{with_trail}
@@ -17,6 +18,11 @@ least_from-returns-in_default t c =
     (λ same is tells. least_at_end c.args.facts.now (rule_of c.args.rule.now) c.args.start.now c.args.trail.now.items c.is_active.new.trail.items
     c.args.places.now same is tells) c.is_active.ensures.trail c.is_active.ensures.tells)
 
+pub least_from-returns-in-Ok-false : goal.least_from-returns-in-Ok-false
+least_from-returns-in-Ok-false t c =
+    let none = rw c.in-Ok-false.field-0-test at c.in-Ok-false.ensures.decides in
+    (c.in-Ok-false.ensures.trail, refl, none)
+
 pub least_from-least_through-requires : goal.least_from-least_through-requires
 least_from-least_through-requires t c =
     let split : c.args.atoms.now ≡ c.in-Some.atom.now ∷ c.in-Some.rest.now = c.in-Some.ensures.cases.0 in
@@ -33,6 +39,9 @@ pub least_from-returns : goal.least_from-returns
 least_from-returns t c =
     let split : c.args.atoms.now ≡ c.in-Some.atom.now ∷ c.in-Some.rest.now = c.in-Some.ensures.cases.0 in
     rw split (rw c.in-Ok-true.ensures.trail at c.least_through.ensures)
+
+pub least_through-places-init : goal.least_through-places-init
+least_through-places-init t c = record { trail = refl; places = refl; holds = λ place inside. absurd (Contains-nil place inside) }
 
 pub least_through-bind_place-requires : goal.least_through-bind_place-requires
 least_through-bind_place-requires t c = flat_first c.args.atom.now c.args.rest.now c.requires.flat
