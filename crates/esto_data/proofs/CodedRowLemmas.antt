@@ -61,6 +61,11 @@ stays_by old new stand grown next = record {
   grown = grown;
 }
 
+pub stays_same : (old new : CodedData) → new.facts ≡ old.facts → new.next ≡ old.next → Stays old new
+stays_same old new same next =
+    stays_by old new (λ facts stand. subst (λ it. StandFor it facts) (sym same) stand)
+    ([], ap (λ (it : Coded). it.texts) same ∙ sym (append-nil old.facts.texts)) next
+
 -- ---- codes and terms
 
 module _ (texts : List (List ℕ)) where

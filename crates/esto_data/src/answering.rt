@@ -21,18 +21,28 @@ use esto_term::TextRows;
 use std::alloc::Global;
 
 // The answers of the queries together over the facts as rows of texts, or the status of a node in one.
-fn rows_of(alloc: Global, queries: &Queries, coded: CodedData) -> Result<TextRows, Status>
+fn rows_of(alloc: Global, queries: &Queries, coded: &mut CodedData) -> Result<TextRows, Status>
+    requires union { FormUnion queries.now }
+    requires coded { IsCoded coded.old }
+    ensures { (loaded : Loaded) → IsCodedOf loaded coded.old
+        → Answers (lists_texts (IsUnionAnswerOfFacts queries.now loaded.facts)) ⊥ result }
+{
+    match answer_union_coded(alloc, queries.items(), coded) {
+        Ok(rows) => Ok(rows),
+        Err(AnswerError::NodeInRow(column)) => Err(Status::NodeInRow(column)),
+        Err(AnswerError::OutOfMemory) => Err(Status::OutOfMemory),
+    }
+}
+
+// The answers of the queries together over the facts, which are let go, as rows of texts; or the status of a node in one.
+fn taken_rows(alloc: Global, queries: &Queries, coded: CodedData) -> Result<TextRows, Status>
     requires union { FormUnion queries.now }
     requires coded { IsCoded coded }
     ensures { (loaded : Loaded) → IsCodedOf loaded coded
         → Answers (lists_texts (IsUnionAnswerOfFacts queries.now loaded.facts)) ⊥ result }
 {
     let mut coded = coded;
-    match answer_union_coded(alloc, queries.items(), &mut coded) {
-        Ok(rows) => Ok(rows),
-        Err(AnswerError::NodeInRow(column)) => Err(Status::NodeInRow(column)),
-        Err(AnswerError::OutOfMemory) => Err(Status::OutOfMemory),
-    }
+    rows_of(alloc, queries, &mut coded)
 }
 
 // Gives the text of the answers of the union of the queries over the facts.
@@ -42,7 +52,7 @@ fn answer_data(alloc: Global, queries: &Queries, coded: CodedData) -> Result<Rep
     ensures { (loaded : Loaded) → IsCodedOf loaded coded
         → Answers (answers_facts queries.now loaded.facts) ⊥ result }
 {
-    let rows = rows_of(alloc, queries, coded)?;
+    let rows = taken_rows(alloc, queries, coded)?;
     let text = union_rows_text(alloc, queries, &rows)?;
     Ok(Reply::Done(text))
 }

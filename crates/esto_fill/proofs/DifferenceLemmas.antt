@@ -1,7 +1,6 @@
 -- An audit: the rules, the rows of one fragment, and those of all.
-use Rattle.std.proofs.Common.{◌≡◌, ◌↔◌, inl, inr, ℕ, ◌≤◌, ◌<◌, ◌+◌, List, [], length, take, map, Option, None, Some, true, false, slice_get, Contains, refl}
+use Rattle.std.proofs.Common.{◌≡◌, ◌↔◌, inl, inr, ℕ, ◌≤◌, ◌<◌, ◌+◌, List, [], length, take, map, Option, None, Some, slice_get, Contains, refl}
 use Rattle.std.proofs.Common.{sym, ap, ◌∙◌, subst, arith}
-use Rattle.std.specs.Option.{is_some}
 use Rattle.std.proofs.lemmas.Bool.{cases_order}
 use Rattle.std.proofs.lemmas.List.{get_or_past, length-map}
 use Rattle.std.proofs.lemmas.Option.{get_or_from_slice_get, same_Some, slice_get_cases, slice_get_within}
@@ -212,16 +211,6 @@ module _ (fragments : List FragmentDef) (database : Database) (rows : List (List
       before = λ earlier less row. ((before earlier less row).1, (before earlier less row).0);
     }
 
-    pub apart_option : (outcome : Option Difference) → is_some outcome ≡ true → JudgesFragment fragment.name OwnRows held outcome → AreOneBelow number
-        → JudgesFragments its_names its_views database rows outcome
-    apart_option None some judged before = absurd (cc)
-    apart_option (Some difference) some judged before = first_apart difference judged before
-
-    pub one_option : (outcome : Option Difference) → is_some outcome ≡ false → JudgesFragment fragment.name OwnRows held outcome → AreOneBelow number
-        → AreOneBelow (number + 1)
-    one_option None none judged before = one_more judged before
-    one_option (Some difference) none judged before = absurd (cc)
-
   pub all_one : length rows ≡ length fragments → AreTextViews its_views database → (count : ℕ) → length fragments ≤ count → AreOneBelow count
       → HoldViewRows its_views database (IsRowOf (held_by rows))
   all_one many texts count past before fact = (there, back)
@@ -259,16 +248,3 @@ audited rules own names views facts rows None meets judged = record { meets = me
 audited rules own names views facts rows (Some (Broken number cells)) meets judged = absurd judged
 audited rules own names views facts rows (Some (Missing name row)) meets judged = (meets, judged)
 audited rules own names views facts rows (Some (Extra name row)) meets judged = (meets, judged)
-
--- a rule is broken, or each is met and the fragments are judged
-pub audited_broken : (rules : List Rule) (own : List (List Name)) (names : List (List ℕ)) (views : List ConjunctiveQuery) (facts : List (Fact Term))
-    (Holds : Fact (List ℕ) → Type 0) (outcome : Option Difference) → is_some outcome ≡ true → JudgesRules rules own facts outcome
-    → Audits rules own names views facts Holds outcome
-audited_broken rules own names views facts Holds None some judged = absurd (cc)
-audited_broken rules own names views facts Holds (Some difference) some judged = audited_rule rules own names views facts Holds difference judged
-
-pub audited_apart : (rules : List Rule) (own : List (List Name)) (names : List (List ℕ)) (views : List ConjunctiveQuery) (facts : List (Fact Term))
-    (rows : List (List Row)) (broken outcome : Option Difference) → is_some broken ≡ false → JudgesRules rules own facts broken
-    → JudgesFragments names views (database_of facts) rows outcome → Audits rules own names views facts (IsRowOf (held_by rows)) outcome
-audited_apart rules own names views facts rows None outcome none meets judged = audited rules own names views facts rows outcome meets judged
-audited_apart rules own names views facts rows (Some difference) outcome none meets judged = absurd (cc)

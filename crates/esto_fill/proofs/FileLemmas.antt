@@ -5,7 +5,8 @@ use Rattle.std.proofs.Common.{sym, ap, ◌∙◌, subst, append_assoc, append-ni
 use Rattle.std.proofs.lemmas.List.{take_all}
 use Rattle.std.proofs.lemmas.List.Elements.{Contains-append_cases}
 use Rattle.std.specs.Prelude.{true, false, Result, Ok, Err}
-use Rattle.std.proofs.lemmas.Option.{same_Some, slice_get_within}
+use Rattle.std.specs.Result.{IsErrAnd}
+use Rattle.std.proofs.lemmas.Option.{same_Some, slice_get_read, slice_get_within}
 use Rattle.esto_mapping.specs.declared.dataset.Dataset.{Dataset}
 use Rattle.esto_docmodel.specs.DocumentFacts.{DocFact, value, below, row_of, flat}
 use Rattle.esto_docmodel.specs.Encodings.{size, entering, belows, holding, facts_from, facts_of}
@@ -29,13 +30,15 @@ use Rattle.esto_term.specs.declared.term.Term.{Term}
 use Rattle.esto_term.specs.declared.term.Term.TheVariants.{Const, Plain}
 use Rattle.esto_term.proofs.ListLemmas.{Contains-nil, Contains-cases, Contains-map_from, Contains-one, HoldsBelow}
 use Rattle.esto_term.proofs.PlaceLemmas.{take-item}
-use Rattle.esto_fill.specs.Files.{dataset_fault, nodes_in, AreFactsByModel, AreFactsOf, AreFactsFrom, AreReadable, AreWantedOf, GivesFacts, HaveRisingNames, IsLoadedFrom, RiseByModel}
+use Rattle.esto_fill.specs.Files.{AddsFile, LoadsFacts, dataset_fault, nodes_in, AreFactsByModel, AreFactsOf, AreFactsFrom, AreReadable, AreWantedOf, GivesFacts, HaveRisingNames, IsLoadedFrom, RiseByModel}
 use Rattle.esto_fill.specs.Wanted.{IsKeptFor, Leaves, is_wanted}
 use Rattle.esto_fill.specs.declared.wanted.Wanted.{Wanted}
 use Rattle.esto_fill.specs.declared.wanted.Wanted.TheVariants.{Every}
 use Rattle.esto_fill.proofs.WantedLemmas.{AreOver, chosen, kept_leaves, leaves_append, leaves_flat}
 use Rattle.esto_fill.specs.declared.loaded.Loaded.{Loaded}
 use Rattle.esto_fill.specs.declared.datasets.DatasetBytes.{DatasetBytes}
+use Rattle.esto_fill.specs.declared.datasets.LoadError.{LoadError}
+use Rattle.esto_fill.specs.declared.datasets.LoadError.TheVariants.{Fault, OutOfMemory}
 
 -- ---- facts of rows are over constants
 
@@ -246,6 +249,27 @@ pub loaded_all : (datasets : List Dataset) (files : List DatasetBytes) (loaded :
     → AreFactsFrom datasets 0 files loaded.facts loaded.next
 loaded_all datasets files loaded (facts, are, some, rising) =
     subst (λ those. AreFactsFrom datasets 0 files those loaded.next) (sym some) are
+
+-- the first file that has a fault, where a loop finds it
+pub first_faulty : (datasets : List Dataset) (files items : List DatasetBytes) → items ≡ files → (count : ℕ) (file : DatasetBytes) → count < length items
+    → file ≡ get_or items count file → AreReadableBelow datasets items count → (loaded : Loaded) (error : LoadError) (result : Result Loaded LoadError)
+    → IsErrAnd result (λ handed. handed ≡ error) → AddsFile datasets file loaded (Err error) → LoadsFacts datasets files result
+first_faulty datasets files items same count file within read before loaded error (Ok more) handed adds = absurd handed
+first_faulty datasets files items same count file within read before loaded OutOfMemory (Err own) handed adds =
+    subst (λ (it : LoadError). LoadsFacts datasets files (Err it)) (sym handed) (tt {0})
+first_faulty datasets files items same count file within read before loaded (Fault its_number fault) (Err own) handed (is, (dataset, there, at_fault)) =
+    subst (λ (it : LoadError). LoadsFacts datasets files (Err it)) (sym handed) (record {
+      place = count;
+      file = file;
+      dataset = dataset;
+      there = subst (λ (those : List DatasetBytes). slice_get those count ≡ Some file) same
+          (slice_get_read items (length items) count file refl within read);
+      same = sym is;
+      is = subst (λ n. slice_get datasets n ≡ Some dataset) (sym is) there;
+      at_fault = at_fault;
+      before = λ earlier other its less at at_its. before earlier other less
+          (subst (λ (those : List DatasetBytes). slice_get those earlier ≡ Some other) (sym same) at) its at_its;
+    })
 
 -- all files are loaded, where the loop goes over a list that is theirs
 pub all_loaded : (datasets : List Dataset) (files items : List DatasetBytes) (count : ℕ) (loaded : Loaded) → items ≡ files → length items ≤ count

@@ -1,10 +1,11 @@
 -- The text of a fragment's file, and what it says when it is read.
-use Rattle.std.proofs.Common.{◌≡◌, ◌↔◌, ℕ, Bool, true, false, if◌then◌else◌, List, ◌++◌, length, map, get_or, Option, None, Some, Contains, refl, sym}
+use Rattle.std.proofs.Common.{◌≡◌, ◌↔◌, ◌<◌, slice_get, ℕ, Bool, true, false, if◌then◌else◌, List, ◌++◌, length, map, get_or, Option, None, Some, Contains, refl, sym}
 use Rattle.std.proofs.Common.{ap, ◌∙◌, subst}
 use Rattle.std.specs.Prelude.{All, IfSome, Ok, drop, nat_eq}
 use Rattle.std.specs.List.{starts_with}
 use Rattle.std.proofs.lemmas.List.{length-map}
 use Rattle.std.proofs.lemmas.List.Elements.{Contains-get_or}
+use Rattle.std.proofs.lemmas.Option.{slice_get_read}
 use Rattle.esto_docmodel.specs.declared.file.Shape.{Shape}
 use Rattle.esto_docmodel.specs.declared.file.Shape.TheVariants.{Documents}
 use Rattle.esto_ports.specs.declared.mark.TheConstants.{MARK}
@@ -21,10 +22,11 @@ use Rattle.esto_semantics.specs.declared.fact.Value.{Value}
 use Rattle.esto_semantics.specs.declared.fact.Value.TheVariants.{Text}
 use Rattle.esto_semantics.proofs.ValueLemmas.{same_texts}
 use Rattle.esto_stores.specs.Rows.{Row}
-use Rattle.esto_fill.specs.Filled.{IsOpenedAs, SaysRows, with_mark}
+use Rattle.esto_stores.specs.KeyText.{row_fault}
+use Rattle.esto_term.proofs.ListLemmas.{HoldsBelow}
+use Rattle.esto_fill.specs.Filled.{IsFirstUnfit, IsOpenedAs, SaysRows, with_mark}
 use Rattle.esto_ports.specs.Marks.{without_mark}
 use Rattle.esto_fill.specs.Texts.{AreExactly}
-use Rattle.esto_fill.specs.declared.rows.AnswerError.TheVariants as answer
 
 -- ---- marks
 
@@ -75,3 +77,17 @@ opened_as shape width Rows rows text file exact says is = subst (IsOpenedAs shap
     (λ there. (says.rows_are row).1 ((in_rows Rows rows exact row).1 there)),
   );
 })
+
+-- the first cell that a key file can't hold, where a loop finds it
+pub unfit_first : (rows items : List Row) → items ≡ rows → (count : ℕ) (row : Row) → count < length items → row ≡ get_or items count row
+    → HoldsBelow (λ _ it. row_fault it ≡ None) items count → (column : ℕ) → row_fault row ≡ Some column → (cell own : List ℕ)
+    → slice_get row column ≡ Some cell → own ≡ cell → IsFirstUnfit rows own
+unfit_first rows items same count row within read before column fault cell own there is = record {
+  place = count;
+  row = row;
+  there = subst (λ (those : List Row). slice_get those count ≡ Some row) same (slice_get_read items (length items) count row refl within read);
+  column = column;
+  fault = fault;
+  is = there ∙ ap Some (sym is);
+  before = λ earlier other less at. before earlier other less (subst (λ (those : List Row). slice_get those earlier ≡ Some other) (sym same) at);
+}

@@ -8,15 +8,17 @@ use Rattle.std.specs.declared.cmp.Ordering.TheVariants.{Less}
 use Rattle.std.proofs.lemmas.List.{take_all}
 use Rattle.std.proofs.lemmas.List.Elements.{Contains-push_cases, Contains-append_left, Contains-append_right}
 use Rattle.std.proofs.lemmas.Bool.{cases_order}
-use Rattle.std.proofs.lemmas.Option.{slice_get_within}
+use Rattle.std.proofs.lemmas.Option.{slice_get_read, slice_get_within}
 use Rattle.esto_query.specs.Rows.{IsAscending, row_cmp}
 use Rattle.esto_columns.specs.Lent.{AreRising}
 use Rattle.esto_query.specs.Making.{query_of}
 use Rattle.esto_semantics.specs.Facts.{Database}
+use Rattle.esto_semantics.specs.Maps.{AreFlat}
+use Rattle.esto_semantics.specs.declared.fact.Fact.{Fact}
 use Rattle.esto_views.specs.Fragments.{views_of}
 use Rattle.esto_views.specs.declared.fragments.FragmentDef.{FragmentDef}
-use Rattle.esto_semantics.specs.Queries.{ConjunctiveQuery, IsAnswer}
-use Rattle.esto_semantics.specs.Standing.{RowsStand}
+use Rattle.esto_semantics.specs.Queries.{ConjunctiveQuery, IsAnswer, IsAnswerInto, IsQuery}
+use Rattle.esto_semantics.specs.Standing.{AnswersStand, RowsStand}
 use Rattle.esto_semantics.specs.declared.fact.Value.{Value}
 use Rattle.esto_semantics.specs.declared.fact.Value.TheVariants.{Text, Node}
 use Rattle.esto_stores.specs.Rows.{Row}
@@ -24,16 +26,16 @@ use Rattle.esto_term.specs.Kinds.{IsConstant}
 use Rattle.esto_term.specs.declared.term.Term.{Term}
 use Rattle.esto_term.specs.declared.term.Term.TheVariants.{Const}
 use Rattle.esto_term.proofs.ChoiceLemmas.{pairs_cons, pairs_head, pairs_tail}
-use Rattle.esto_term.proofs.ListLemmas.{Contains-head, Contains-at, Contains-map, Contains-map_from, map_at, map_at-from, map_agree, map_itself, map_then}
+use Rattle.esto_term.proofs.ListLemmas.{Contains-head, Contains-one, Contains-at, Contains-map, Contains-map_from, map_at, map_at-from, map_agree, map_itself, map_then}
 use Rattle.esto_term.proofs.ListLemmas.{place-from_Contains, HoldsBelow}
 use Rattle.esto_term.proofs.PlaceLemmas.{take-item}
-use Rattle.esto_fill.specs.Databases.{value_of}
+use Rattle.esto_fill.specs.Databases.{database_of, value_of}
 use Rattle.esto_fill.specs.Placing.{text_of, IsImageOf, AreConstant, IsOpenAt, LeastOpen, NamesColumn, lesser}
 use Rattle.esto_fill.specs.Texts.{HaveTextsOnly, AreTextsOf, IsFirstNodeColumn, AreTextViews, GivesTexts, JudgesRows, JudgesViews}
 use Rattle.esto_fill.specs.declared.rows.AnswerError.{AnswerError}
 use Rattle.esto_fill.specs.declared.rows.AnswerError.TheVariants.{NodeInRow, OutOfMemory}
 use Rattle.esto_fill.proofs.OrderLemmas.{ordered_as_texts}
-use Rattle.esto_fill.proofs.ValueLemmas.{told, node_open, text_constant, text_Const, map_value}
+use Rattle.esto_fill.proofs.ValueLemmas.{facts_stand, told, node_open, text_constant, text_Const, map_value}
 
 -- ---- the least place of another term than a constant
 
@@ -95,6 +97,20 @@ open_more rows row (Some place) (Some other) before own = (
     least (inl same) = first (omega (arith, same))
     least (inr (inl less)) = first (omega (arith, less))
     least (inr (inr more)) = second (omega (arith, more))
+
+-- the first term of a row that is no constant, where a loop finds it
+pub first_open : (row : List Term) (place : ℕ) (term : Term) → place < length row → term ≡ get_or row place term → (IsConstant term → ⊥)
+    → HoldsBelow (λ _ it. IsConstant it) row place → LeastOpen (row ∷ []) (Some place)
+first_open row place term within read other_kind before = (
+  (row, Contains-head row [], (term, slice_get_read row (length row) place term refl within read, other_kind)),
+  λ other at inside (own, there, apart). elim (cases_order at place) [
+    | inl same ↦ omega arith
+    | inr (inl less) ↦
+        let one = Contains-one row other inside in
+        absurd (apart (before at own less (subst (λ (those : List Term). slice_get those at ≡ Some own) (sym one) there)))
+    | inr (inr more) ↦ omega arith
+  ],
+)
 
 pub open_next : (rows : List (List Term)) (count : ℕ) (row : List Term) (place other new : Option ℕ) → count < length rows → row ≡ get_or rows count row
     → LeastOpen (take count rows) place → LeastOpen (row ∷ []) other → new ≡ lesser place other → LeastOpen (take (count + 1) rows) new
@@ -208,6 +224,11 @@ module _ (One Other : List Value → Type 0) (same : (values : List Value) → O
   judges_same (Ok done) given = λ values there. given values ((same values).1 there)
   judges_same (Err (NodeInRow column)) given = column_moved column given
   judges_same (Err OutOfMemory) given = tt
+
+-- the answers of a query over the database of flat facts are the rows that it has over the facts
+pub answers_flat : AnswersStand → (facts : List (Fact Term)) → AreFlat facts → (query : ConjunctiveQuery) → IsQuery query
+    → RowsStand value_of (IsAnswerInto Const query (Contains facts)) (IsAnswer query (database_of facts))
+answers_flat stand facts flat query is_one = stand facts value_of (database_of facts) query (facts_stand facts flat) is_one
 
 -- the images of the rows that stand for others are these
 pub images_are : (rows : List (List Term)) (Rows : List Term → Type 0) (Others : List Value → Type 0) → RowsStand value_of Rows Others

@@ -11,7 +11,6 @@ use Rattle.esto_stores.specs.Rows.{Row}
 use Rattle.esto_term.specs.Kinds.{IsConstant}
 use Rattle.esto_term.specs.declared.term.Term.{Term, out-Term}
 use Rattle.esto_term.specs.declared.term.Term.TheOpen.{Term-F}
-use Rattle.esto_term.specs.declared.term.Term.TheVariants.{Const}
 use Rattle.esto_fill.specs.Databases.{value_of}
 use Rattle.esto_fill.specs.Differences.{IsInOne}
 use Rattle.esto_fill.specs.Filled.{CanHold, IsFirstUnfit, text_in}

@@ -4,7 +4,6 @@ ghost use Rattle.esto_semantics.specs.Queries.{IsAnswer};
 ghost use Rattle.esto_fill.specs.Databases.{database_of};
 ghost use Rattle.esto_fill.specs.Texts.{GivesTexts};
 
-use crate::laws::{facts_stand_as_databases, loaded_facts_are_flat};
 use crate::loaded::Loaded;
 use crate::rows::{AnswerError, texts_of};
 use esto_query::{Query, answers, queries_are_sound};
@@ -18,8 +17,6 @@ pub fn answer(alloc: Global, query: &Query, loaded: &Loaded) -> Result<TextRows,
     ensures { GivesTexts (IsAnswer (query_of query.now) (database_of loaded.now.facts)) result }
 {
     databases_stand_for_facts();
-    facts_stand_as_databases();
-    loaded_facts_are_flat();
     queries_are_sound();
     let rows = answers(alloc, query, &loaded.facts)?;
     texts_of(alloc, rows)

@@ -1,5 +1,5 @@
 //! Whether the facts of datasets and the rows of fragments agree, and the first difference.
-ghost use Rattle.std.specs.Prelude.{◌≡◌, List, length, map, IfOk};
+ghost use Rattle.std.specs.Prelude.{◌≡◌, List, Some, length, map, IfOk};
 ghost use Rattle.esto_constraint.specs.Constraints.{rules_of};
 ghost use Rattle.esto_constraint.specs.EncodingRules.{written};
 ghost use Rattle.esto_steps.specs.Rows.{IsRowOf, held_by};
@@ -8,15 +8,16 @@ ghost use Rattle.esto_semantics.specs.Maps.{AreFlat};
 ghost use Rattle.esto_semantics.specs.Queries.{IsAnswer};
 ghost use Rattle.esto_semantics.specs.declared.fact.Fact.{Fact};
 ghost use Rattle.esto_term.specs.declared.term.Term.{Term};
+ghost use Rattle.esto_ports.specs.declared.difference.Difference.TheVariants as difference;
 ghost use Rattle.esto_views.specs.Fragments.{views_of};
 ghost use Rattle.esto_fill.specs.Databases.{database_of};
 ghost use Rattle.esto_fill.specs.Differences.{Audits};
 ghost use Rattle.esto_fill.specs.Judging.{JudgesRules, JudgesFragment, JudgesFragments};
+ghost use Rattle.esto_fill.specs.Placing.{text_of};
 ghost use Rattle.esto_fill.specs.Texts.{AreTextViews, HaveTextsOnly};
 ghost use Rattle.esto_fill.specs.Trials.{IsEnoughFor};
 
 use crate::apart::{Apart, first_apart, ordered_rows};
-use crate::laws::{facts_stand_as_databases, loaded_facts_are_flat};
 use crate::loaded::Loaded;
 use crate::record::record_of;
 use crate::rows::{counted, text_row};
@@ -27,7 +28,7 @@ use esto_mapping::Catalogue;
 use esto_ports::Difference;
 use esto_query::{Columns, IndexedFacts, queries_are_sound};
 use esto_semantics::databases_stand_for_facts;
-use esto_term::{List, OutOfMemory, Replicate, TextRows};
+use esto_term::{List, OutOfMemory, Replicate, Term, Text, TextRows};
 use esto_views::{FragmentDef, FragmentDefs};
 use std::alloc::Global;
 
@@ -47,16 +48,33 @@ fn broken_rule(
         → JudgesRules (rules_of catalogue.now.rules) (map written catalogue.now.rules) all outcome) }
 {
     databases_stand_for_facts();
-    facts_stand_as_databases();
     rules_are_sound();
     least_active_matches_are_least();
     let Some(broken) = first_broken(alloc, &catalogue.rules, laws, facts)? else {
         return Ok(None);
     };
     let rule = catalogue.rules.item(broken.rule);
-    let cells = record_of(alloc, rule, &broken.found.valuation)?;
     let number = counted(broken.rule)?;
+    let cells = record_of(alloc, rule, &broken.found.valuation)?;
     Ok(Some(Difference::Rule(number, cells)))
+}
+
+// The fragment of the name lacks the row of the texts of the terms.
+fn missing(alloc: Global, name: &Text, terms: &[Term]) -> Result<Option<Difference>, OutOfMemory>
+    ensures { IfOk result (λ it. it ≡ Some (difference.Missing name.now (map text_of terms.now))) }
+{
+    let name = name.copy(alloc)?;
+    let row = text_row(alloc, terms)?;
+    Ok(Some(Difference::Missing(name, row)))
+}
+
+// The fragment of the name holds the row of the texts of the terms too many.
+fn extra(alloc: Global, name: &Text, terms: &[Term]) -> Result<Option<Difference>, OutOfMemory>
+    ensures { IfOk result (λ it. it ≡ Some (difference.Extra name.now (map text_of terms.now))) }
+{
+    let name = name.copy(alloc)?;
+    let row = text_row(alloc, terms)?;
+    Ok(Some(Difference::Extra(name, row)))
 }
 
 // The least row that is in the view's rows or in the fragment's and not in both. None comes exactly where they are the same.
@@ -73,19 +91,12 @@ fn apart_of(
         (IsAnswer (query_of fragment.now.view) (database_of facts.now)) rows.now) }
 {
     databases_stand_for_facts();
-    facts_stand_as_databases();
     queries_are_sound();
     let own = facts.answers(alloc, &fragment.view)?;
     let held = ordered_rows(alloc, rows)?;
     match first_apart(own.items(), held.items()) {
-        Some(Apart::Missing(place)) => {
-            let row = text_row(alloc, own.item(place).items())?;
-            Ok(Some(Difference::Missing(fragment.name.copy(alloc)?, row)))
-        }
-        Some(Apart::Extra(place)) => {
-            let row = text_row(alloc, held.item(place).items())?;
-            Ok(Some(Difference::Extra(fragment.name.copy(alloc)?, row)))
-        }
+        Some(Apart::Missing(place)) => missing(alloc, &fragment.name, own.item(place).items()),
+        Some(Apart::Extra(place)) => extra(alloc, &fragment.name, held.item(place).items()),
         None => Ok(None),
     }
 }
@@ -106,9 +117,8 @@ fn apart_fragment(
 {
     'fragments: for number in 0..fragments.len() {
         let fragment = fragments.item(number);
-        let outcome = apart_of(alloc, fragment, facts, rows.item(number))?;
-        if outcome.is_some() {
-            return Ok(outcome);
+        if let Some(difference) = apart_of(alloc, fragment, facts, rows.item(number))? {
+            return Ok(Some(difference));
         }
     }
     Ok(None)
@@ -131,12 +141,10 @@ fn first_difference(
         (map (λ fragment. fragment.name) catalogue.now.fragments)
         (views_of catalogue.now.fragments) all (IsRowOf (held_by rows.now)) outcome) }
 {
-    let broken = broken_rule(alloc, catalogue, laws, facts)?;
-    if broken.is_some() {
-        return Ok(broken);
+    match broken_rule(alloc, catalogue, laws, facts)? {
+        Some(difference) => Ok(Some(difference)),
+        None => apart_fragment(alloc, &catalogue.fragments, facts, rows),
     }
-    let apart = apart_fragment(alloc, &catalogue.fragments, facts, rows)?;
-    Ok(apart)
 }
 
 // The columns by which matches of the rules that are none of the laws, and the rows of the fragments' views, are found.
@@ -169,7 +177,6 @@ pub fn audit_tried(
         (map (λ fragment. fragment.name) catalogue.now.fragments)
         (views_of catalogue.now.fragments) facts (IsRowOf (held_by rows.now)) outcome) }
 {
-    loaded_facts_are_flat();
     let columns = columns_of(alloc, catalogue, laws.items())?;
     let facts = IndexedFacts::by(alloc, columns, &loaded.facts)?;
     first_difference(alloc, catalogue, laws.items(), &facts, rows)
@@ -193,7 +200,6 @@ pub fn audit(
         (map (λ fragment. fragment.name) catalogue.now.fragments)
         (views_of catalogue.now.fragments) loaded.now.facts (IsRowOf (held_by rows.now)) outcome) }
 {
-    loaded_facts_are_flat();
     let laws = List::new(alloc);
     audit_tried(alloc, catalogue, &laws, loaded, rows)
 }

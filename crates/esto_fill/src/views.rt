@@ -6,7 +6,6 @@ ghost use Rattle.esto_views.specs.Fragments.{views_of};
 ghost use Rattle.esto_fill.specs.Databases.{database_of};
 ghost use Rattle.esto_fill.specs.Texts.{JudgesRows, JudgesViews};
 
-use crate::laws::{facts_stand_as_databases, loaded_facts_are_flat};
 use crate::loaded::Loaded;
 use crate::nodes::{are_free, node_columns};
 use crate::rows::{AnswerError, least_open, node_at};
@@ -23,7 +22,6 @@ fn judge_view(alloc: Global, view: &Query, facts: &IndexedFacts) -> Result<(), A
     ensures { JudgesRows (IsAnswer (query_of view.now) (database_of facts.now)) result }
 {
     databases_stand_for_facts();
-    facts_stand_as_databases();
     queries_are_sound();
     let rows = facts.answers(alloc, view)?;
     match least_open(rows.items()) {
@@ -45,21 +43,32 @@ pub fn add_views(
 }
 
 // Whether no row of a fragment's view over the database of the facts holds a node, by the rows of each view.
-fn judge_views(alloc: Global, catalogue: &Catalogue, loaded: &Loaded) -> Result<(), AnswerError>
-    ensures { JudgesViews (views_of catalogue.now.fragments)
-        (database_of loaded.now.facts) result }
+fn judge_each(
+    alloc: Global,
+    fragments: &FragmentDefs,
+    facts: &IndexedFacts,
+) -> Result<(), AnswerError>
+    requires { AreFlat facts.now }
+    ensures { JudgesViews (views_of fragments.now) (database_of facts.now) result }
 {
-    loaded_facts_are_flat();
-    let mut columns = Columns::none(alloc);
-    add_views(alloc, &mut columns, &catalogue.fragments)?;
-    let facts = IndexedFacts::by(alloc, columns, &loaded.facts)?;
-    'fragments: for fragment in catalogue.fragments.items() {
-        match judge_view(alloc, &fragment.view, &facts) {
+    'fragments: for fragment in fragments.items() {
+        match judge_view(alloc, &fragment.view, facts) {
             Ok(()) => {}
             Err(error) => return Err(error),
         }
     }
     Ok(())
+}
+
+// The same over facts that are loaded.
+fn judge_views(alloc: Global, catalogue: &Catalogue, loaded: &Loaded) -> Result<(), AnswerError>
+    ensures { JudgesViews (views_of catalogue.now.fragments)
+        (database_of loaded.now.facts) result }
+{
+    let mut columns = Columns::none(alloc);
+    add_views(alloc, &mut columns, &catalogue.fragments)?;
+    let facts = IndexedFacts::by(alloc, columns, &loaded.facts)?;
+    judge_each(alloc, &catalogue.fragments, &facts)
 }
 
 /// Whether no row of a fragment's view over the database of the facts holds a node. NodeInRow comes exactly where one

@@ -1,12 +1,18 @@
 -- Rows that are kept as codes of their texts.
 use Rattle.std.proofs.Common.{◌≡◌, ℕ, zero, suc, ◌<◌, List, [], ◌∷◌, map, length, get_or, set, All, Some, slice_get, Contains, refl, sym, ap, ◌∙◌, subst, arith}
-use Rattle.std.specs.Prelude.{Result, Ok, Err, OnErr}
+use Rattle.std.specs.Prelude.{Option, Result, Ok, Err, OnErr}
+use Rattle.std.specs.Result.{IsErrAnd}
 use Rattle.std.proofs.lemmas.List.{get_or_append_left, length-append, length-map, map-set}
 use Rattle.std.proofs.lemmas.List.Elements.{All-set, Contains-get_or}
 use Rattle.std.proofs.lemmas.Option.{get_or_from_slice_get, slice_get_within}
 use Rattle.esto_columns.specs.CodedRows.{CodedRows}
 use Rattle.esto_columns.specs.Interned.{Grows, AreCodesOf, AreCodedRows}
 use Rattle.esto_columns.specs.declared.stored.StoredRows.{StoredRows}
+use Rattle.esto_docs.specs.Coded.{CodesFile}
+use Rattle.esto_lines.specs.Faults.{Gives}
+use Rattle.esto_ports.specs.declared.file_fault.FileError.{FileError}
+use Rattle.esto_ports.specs.declared.file_fault.FileError.TheVariants.{Fault, OutOfMemory}
+use Rattle.esto_ports.specs.declared.file_fault.FileFault.{FileFault}
 use Rattle.esto_steps.specs.Planned.{inputs_of}
 use Rattle.esto_steps.specs.Rows.{held_by}
 use Rattle.esto_stores.specs.Rows.{Row}
@@ -19,6 +25,13 @@ use Rattle.esto_run.specs.Stored.{AreEmpty, stored_none}
 pub at_error : {A E P : Type 0} (result : Result A E) → P → OnErr result P
 at_error (Ok value) holds = tt
 at_error (Err error) holds = holds
+
+-- a file's first fault is handed on
+pub fault_handed : (Has : Row → Type 0) (fault : Option FileFault) (width : ℕ) (texts : List (List ℕ)) (error : FileError)
+    (result : Result (Unit {0}) FileError) → IsErrAnd result (λ handed. handed ≡ error) → CodesFile Has fault width texts (Err error) → Gives tt fault result
+fault_handed Has fault width texts error (Ok value) handed codes = absurd handed
+fault_handed Has fault width texts (Fault found) (Err own) handed codes = subst (λ (it : FileError). Gives (tt {0}) fault (Err it)) (sym handed) codes
+fault_handed Has fault width texts OutOfMemory (Err own) handed codes = subst (λ (it : FileError). Gives (tt {0}) fault (Err it)) (sym handed) tt
 
 -- ---- coded rows and their texts
 

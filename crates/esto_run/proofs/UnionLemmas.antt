@@ -1,6 +1,6 @@
 -- The run of several sets together.
-use Rattle.std.proofs.Common.{◌≡◌, ◌∙◌, ◌++◌, ◌+◌, ℕ, List, [], ◌∷◌, map, take, length, slice_get, Some, Contains, refl, sym, subst, ap}
-use Rattle.std.proofs.lemmas.List.{append-nil, append_assoc, take_more}
+use Rattle.std.proofs.Common.{◌≡◌, ◌≤◌, ◌∙◌, ◌++◌, ◌+◌, ℕ, List, [], ◌∷◌, map, take, length, slice_get, Some, Contains, refl, sym, subst, ap}
+use Rattle.std.proofs.lemmas.List.{append-nil, append_assoc, take_all, take_more}
 use Rattle.std.proofs.lemmas.Option.{get_or_from_slice_get, slice_get_within}
 use Rattle.esto_columns.specs.CodedRows.{CodedRows}
 use Rattle.esto_columns.specs.Interned.{Grows}
@@ -30,6 +30,14 @@ rows_more first into new all at row there is more =
     more ∙ (λ i. record { arity = (is i).arity; rows = (is i).rows ++ row ∷ [] })
     ∙ ap (λ (them : List (List ℕ)). record { arity = first.arity; rows = them })
     (append_assoc first.rows (take at all) (row ∷ []) ∙ ap (λ them. first.rows ++ them) (sym one_more))
+
+pub rows_none : (first : CodedRows) → first ≡ record { arity = first.arity; rows = first.rows ++ [] }
+rows_none first = λ i. record { arity = first.arity; rows = (sym (append-nil first.rows)) i }
+
+pub rows_all : (first into : CodedRows) (all : List (List ℕ)) (at : ℕ) → length all ≤ at
+    → into ≡ record { arity = first.arity; rows = first.rows ++ take at all } → into ≡ record { arity = first.arity; rows = first.rows ++ all }
+rows_all first into all at past is =
+    subst (λ (those : List (List ℕ)). into ≡ record { arity = first.arity; rows = first.rows ++ those }) (take_all at all past) is
 
 -- the answers of one query more come to the rows
 pub answers_more : (old new : List (List ℕ)) → Grows old new → (Holds : Fact (List ℕ) → Type 0) (rows own : List (List ℕ)) (queries : List ConjunctiveQuery)

@@ -11,7 +11,11 @@ use Rattle.esto_run.specs.Opened.{held_of, rows_held}
 abbrev pub IsStoredRow : List (List ℕ) → List StoredRows → Fact (List ℕ) → Type 0
 IsStoredRow texts stored = IsRowOf (held_by (rows_held (map (held_of texts) stored)))
 
+-- One of the rows of codes has the codes of the row's texts.
+abbrev pub IsCodedRow : List (List ℕ) → List (List ℕ) → Row → Type 0
+IsCodedRow texts coded row = (codes : List ℕ) × Contains coded codes × AreCodesOf texts codes row
+
 -- Each code of the rows is that of a text, and their texts are exactly these rows.
 pub record AreCodesOfAll (texts coded : List (List ℕ)) (Has : Row → Type 0) : Type 0 where
   pub below : (codes : List ℕ) → Contains coded codes → (code : ℕ) → Contains codes code → code < length texts
-  pub exact : (row : Row) → ((codes : List ℕ) × Contains coded codes × AreCodesOf texts codes row) ↔ Has row
+  pub exact : (row : Row) → IsCodedRow texts coded row ↔ Has row

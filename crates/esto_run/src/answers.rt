@@ -1,9 +1,12 @@
 //! The text of a query's answers.
-ghost use Rattle.std.specs.Prelude.{◌≡◌, length, All, IfOk};
+ghost use Rattle.std.specs.Prelude.{◌≡◌, ◌<◌, ℕ, List, length, All, Contains, IfOk};
 ghost use Rattle.esto_term.specs.declared.term.Term.{out-Term};
 ghost use Rattle.esto_columns.specs.Lent.{lent_rows};
-ghost use Rattle.esto_run.specs.Answers.{level_name, head_names, rows_text};
+ghost use Rattle.esto_stores.specs.Rows.{Row};
+ghost use Rattle.esto_run.specs.Answers.{IsAnswersText, level_name, head_names, rows_text};
+ghost use Rattle.esto_run.specs.Coded.{IsCodedRow};
 
+use esto_columns::{Codes, Rows, sorted_rows};
 use esto_query::{Name, Names, Query};
 use esto_stores::{write_lent_records, write_records};
 use esto_term::{Bytes, List, OutOfMemory, Replicate, Term, Text, TextRow, TextRows};
@@ -48,8 +51,8 @@ pub fn answers_text(alloc: Global, query: &Query, rows: &TextRows) -> Result<Byt
     Ok(text)
 }
 
-/// The text of rows of answers of the query, whose cells are lent.
-pub(crate) fn lent_answers_text(
+// The text of rows of answers of the query, whose cells are lent.
+fn lent_answers_text(
     alloc: Global,
     query: &Query,
     rows: &[Vec<&[u8]>],
@@ -59,5 +62,23 @@ pub(crate) fn lent_answers_text(
 {
     let names = head_names(alloc, query)?;
     let text = write_lent_records(alloc, &names, rows)?;
+    Ok(text)
+}
+
+/// The text of the rows of codes, each once, in rising order, cell by cell by bytes, under the names of the query's head.
+pub(crate) fn coded_answers_text(
+    alloc: Global,
+    query: &Query,
+    codes: &Codes,
+    rows: &Rows,
+) -> Result<Bytes, OutOfMemory>
+    requires below { (row : List ℕ) → Contains rows.now.rows row
+        → (code : ℕ) → Contains row code → code < length codes.now }
+    requires wide { (row : Row) → IsCodedRow codes.now rows.now.rows row
+        → length row ≡ length query.now.head }
+    ensures { IfOk result (IsAnswersText query.now (IsCodedRow codes.now rows.now.rows)) }
+{
+    let sorted = sorted_rows(alloc, rows, codes)?;
+    let text = lent_answers_text(alloc, query, sorted.as_slice())?;
     Ok(text)
 }

@@ -12,10 +12,9 @@ ghost use Rattle.esto_run.specs.Coded.{AreCodesOfAll, IsStoredRow};
 ghost use Rattle.esto_run.specs.Laws.{IsAnswerOver};
 ghost use Rattle.esto_run.specs.Opened.{AreRowsFor, HaveTexts, held_of, rows_held};
 
-use crate::answers::lent_answers_text;
+use crate::answers::coded_answers_text;
 use crate::held::FragmentRows;
-use crate::laws::plans_are_runnable;
-use esto_columns::{Codes, Rows, StoredRows, sorted_rows, sorted_texts};
+use esto_columns::{Codes, Rows, StoredRows, sorted_texts};
 use esto_exec::run_plan;
 use esto_plan::{plan_of, results_are_candidate_answers, results_have_texts};
 use esto_query::Query;
@@ -26,9 +25,9 @@ use std::alloc::Global;
 
 /// Rows of codes, with the texts of the codes.
 #[derive(Drop)]
-struct CodedAnswers {
-    codes: Codes,
-    rows: Rows,
+pub(crate) struct CodedAnswers {
+    pub(crate) codes: Codes,
+    pub(crate) rows: Rows,
 }
 
 /// The answers of the candidate of a set of the plan's atoms over the stored rows, as rows of codes. Constants get codes.
@@ -51,7 +50,6 @@ pub(crate) fn coded_answers(
         → AreCodesOfAll codes.new it.rows
         (IsAnswerOver (IsStoredRow codes.old stored.now) (candidate (plan_query plan.now) set))) }
 {
-    plans_are_runnable();
     results_are_candidate_answers();
     results_have_texts();
     chosen_atoms_are_named();
@@ -104,8 +102,7 @@ pub fn rows_of_set(
     ensures rising { IfOk result AreRising }
 {
     let answers = answers_of_set(alloc, order, plan, fragments, opened)?;
-    let texts = sorted_texts(alloc, &answers.rows, &answers.codes)?;
-    Ok(texts)
+    sorted_texts(alloc, &answers.rows, &answers.codes)
 }
 
 /// The text of the answers of the candidate of a set of the plan's atoms over the rows of the fragments, under the names
@@ -128,7 +125,5 @@ pub fn run_text(
         (candidate (plan_query plan.now) set)) text) }
 {
     let answers = answers_of_set(alloc, order, plan, fragments, opened)?;
-    let rows = sorted_rows(alloc, &answers.rows, &answers.codes)?;
-    let text = lent_answers_text(alloc, query, rows.as_slice())?;
-    Ok(text)
+    coded_answers_text(alloc, query, &answers.codes, &answers.rows)
 }

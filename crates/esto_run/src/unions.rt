@@ -10,11 +10,11 @@ ghost use Rattle.esto_run.specs.Opened.{AreRowsFor, HaveTexts, held_of, rows_hel
 ghost use Rattle.esto_run.specs.Picks.{IsRunnable, candidate_of};
 ghost use Rattle.esto_run.specs.declared.picks.Pick.{Pick};
 
-use crate::answers::lent_answers_text;
+use crate::answers::coded_answers_text;
 use crate::held::FragmentRows;
 use crate::picks::Pick;
-use crate::run::coded_answers;
-use esto_columns::{Codes, Rows, StoredRows, sorted_rows};
+use crate::run::{CodedAnswers, coded_answers};
+use esto_columns::{Codes, Rows, StoredRows};
 use esto_query::Query;
 use esto_term::{Bytes, OutOfMemory};
 use esto_views::FragmentDefs;
@@ -86,6 +86,27 @@ fn answers_of_picks(
     Ok(rows)
 }
 
+// The answers of the picks' candidates over the rows of the fragments, as rows of so many codes.
+fn answers_of_opened(
+    alloc: Global,
+    arity: usize,
+    picks: &[Pick],
+    fragments: &FragmentDefs,
+    opened: FragmentRows,
+) -> Result<CodedAnswers, OutOfMemory>
+    requires runnable { (pick : Pick) → Contains picks.now pick → IsRunnable fragments.now pick }
+    requires arity { (pick : Pick) → Contains picks.now pick
+        → length pick.plan.now.head ≡ arity }
+    requires rows { AreRowsFor fragments.now opened }
+    ensures { IfOk result (λ it. AreCodesOfAll it.codes it.rows.rows (IsAnswerOfOne
+        (IsRowOf (held_by (rows_held opened))) (map candidate_of picks.now))) }
+{
+    let (codes, stored) = opened.into_parts();
+    let mut codes = codes;
+    let rows = answers_of_picks(alloc, arity, picks, fragments, stored.items(), &mut codes)?;
+    Ok(CodedAnswers { codes, rows })
+}
+
 /// The text of the rows that are an answer of the candidate of one of the picks over the rows of the fragments, each row
 /// once, in rising order, under the names of the query's head, which is as long as that of each pick's plan. It rests on the
 /// rows of those fragments alone that the picks' sets use.
@@ -103,11 +124,6 @@ pub fn text_of_picks(
     ensures { IfOk result (IsAnswersText query.now (IsAnswerOfOne
         (IsRowOf (held_by (rows_held opened))) (map candidate_of picks.now))) }
 {
-    let (codes, stored) = opened.into_parts();
-    let mut codes = codes;
-    let arity = query.head.len();
-    let answers = answers_of_picks(alloc, arity, picks, fragments, stored.items(), &mut codes)?;
-    let rows = sorted_rows(alloc, &answers, &codes)?;
-    let text = lent_answers_text(alloc, query, rows.as_slice())?;
-    Ok(text)
+    let answers = answers_of_opened(alloc, query.head.len(), picks, fragments, opened)?;
+    coded_answers_text(alloc, query, &answers.codes, &answers.rows)
 }

@@ -1,6 +1,7 @@
 use Rattle.std.proofs.Common.{arith}
 use Rattle.esto_constraint.specs.Constraints.{rules_of}
 use Rattle.esto_data.proofs.CodedAuditLemmas.{rules_end, rules_goes, rules_start, rules_stop}
+use Rattle.esto_data.proofs.CodedRowLemmas.{stays_on}
 use Rattle.esto_data.proofs.coded_audit.are_passed.Goals as goal
 
 pub rules-init : goal.rules-init
@@ -22,3 +23,12 @@ pub returns-clause-passed : goal.returns-clause-passed
 returns-clause-passed c loaded its =
     rules_end c.args.coded.now c.rules.coded (rules_of c.args.laws.now) c.args.rules.now c.rules.rule-index (omega (arith, c.rules-test.false))
     c.rules.invariant loaded its
+
+pub returns-in_err-is_passed-clause-stays : goal.returns-in_err-is_passed-clause-stays
+returns-in_err-is_passed-clause-stays c = stays_on _ _ _ c.rules.invariant.stays c.is_passed.ensures.stays
+
+pub returns-then-not-branch-clause-stays : goal.returns-then-not-branch-clause-stays
+returns-then-not-branch-clause-stays c = stays_on _ _ _ c.rules.invariant.stays c.is_passed.ensures.stays
+
+pub returns-clause-stays : goal.returns-clause-stays
+returns-clause-stays c = c.rules.invariant.stays

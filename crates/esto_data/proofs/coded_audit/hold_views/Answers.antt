@@ -1,5 +1,6 @@
 use Rattle.std.proofs.Common.{arith}
 use Rattle.esto_data.proofs.CodedAuditLemmas.{fragments_end, fragments_goes, fragments_start, fragments_stop}
+use Rattle.esto_data.proofs.CodedRowLemmas.{stays_on}
 use Rattle.esto_data.proofs.coded_audit.hold_views.Goals as goal
 
 pub fragments-init : goal.fragments-init
@@ -21,3 +22,12 @@ pub returns-clause-holds : goal.returns-clause-holds
 returns-clause-holds c =
     fragments_end c.args.coded.now c.fragments.coded c.args.rows.now c.args.fragments.now c.fragments.number c.requires (omega (arith, c.fragments-test.false))
     c.fragments.invariant
+
+pub returns-in_err-holds_view-clause-stays : goal.returns-in_err-holds_view-clause-stays
+returns-in_err-holds_view-clause-stays c = stays_on _ _ _ c.fragments.invariant.stays c.holds_view.ensures.stays
+
+pub returns-then-not-branch-clause-stays : goal.returns-then-not-branch-clause-stays
+returns-then-not-branch-clause-stays c = stays_on _ _ _ c.fragments.invariant.stays c.holds_view.ensures.stays
+
+pub returns-clause-stays : goal.returns-clause-stays
+returns-clause-stays c = c.fragments.invariant.stays

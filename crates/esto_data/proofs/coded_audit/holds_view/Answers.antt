@@ -1,4 +1,4 @@
-use Rattle.std.proofs.Common.{Contains, sym, subst}
+use Rattle.std.proofs.Common.{Contains, refl, sym, subst}
 use Rattle.esto_coded.specs.Coded.{Coded, StandFor}
 use Rattle.esto_columns.proofs.CodingLemmas.{rows_grow}
 use Rattle.esto_columns.specs.Interned.{Grows}
@@ -6,7 +6,7 @@ use Rattle.esto_query.specs.Making.{query_of}
 use Rattle.esto_semantics.specs.Queries.{IsAnswer, IsAnswerInto}
 use Rattle.esto_term.specs.declared.term.Term.TheVariants.{Const}
 use Rattle.esto_fill.specs.Databases.{database_of, value_of}
-use Rattle.esto_data.proofs.CodedRowLemmas.{same_rows, same_texts}
+use Rattle.esto_data.proofs.CodedRowLemmas.{same_rows, same_texts, stays_on, stays_same}
 use Rattle.esto_data.proofs.coded_audit.holds_view.Goals as goal
 
 pub returns-clause-holds : goal.returns-clause-holds
@@ -27,3 +27,15 @@ returns-clause-holds c loaded its list codes =
       (λ exact. c.in_ok-same.ensures.1 (same_rows texts own (IsAnswerInto Const query (Contains facts)) (IsAnswer query (database_of facts)) are stand.there
           stand.back c.in_ok-own.ensures.telling.distinct held list here exact)),
     )
+
+pub returns-in_err-index_joins-clause-stays : goal.returns-in_err-index_joins-clause-stays
+returns-in_err-index_joins-clause-stays c = stays_same _ _ c.index_joins.ensures refl
+
+pub returns-in_err-own-clause-stays : goal.returns-in_err-own-clause-stays
+returns-in_err-own-clause-stays c = stays_on _ _ _ (stays_same _ _ c.index_joins.ensures refl) c.rows_of.ensures.stays
+
+pub returns-in_err-same-clause-stays : goal.returns-in_err-same-clause-stays
+returns-in_err-same-clause-stays c = stays_on _ _ _ (stays_same _ _ c.index_joins.ensures refl) c.rows_of.ensures.stays
+
+pub returns-clause-stays : goal.returns-clause-stays
+returns-clause-stays c = stays_on _ _ _ (stays_same _ _ c.index_joins.ensures refl) c.rows_of.ensures.stays

@@ -7,3 +7,12 @@ returns-clause-rows c =
     file_added (table_rows c.args.columns.now c.args.bytes.now) (table_fault c.args.columns.now c.args.bytes.now) c.args.coded.now.facts.texts
     c.code_table.new.self.texts c.args.rows.now c.push.new.self c.in_ok-own.own c.in_ok-own.ensures.rows.0 c.code_table.ensures.grown
     c.in_ok-own.ensures.rows.2 c.in_ok-push.ensures.ok
+
+pub returns-in_err-own-clause-kept : goal.returns-in_err-own-clause-kept
+returns-in_err-own-clause-kept c loaded its = record { stand = c.code_table.ensures.facts loaded.facts its.stand; next = its.next }
+
+pub returns-in_err-push-clause-kept : goal.returns-in_err-push-clause-kept
+returns-in_err-push-clause-kept c loaded its = record { stand = c.code_table.ensures.facts loaded.facts its.stand; next = its.next }
+
+pub returns-clause-kept : goal.returns-clause-kept
+returns-clause-kept c loaded its = record { stand = c.code_table.ensures.facts loaded.facts its.stand; next = its.next }

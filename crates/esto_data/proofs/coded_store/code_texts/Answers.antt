@@ -9,3 +9,12 @@ returns-clause-rows c lists before =
     subst (λ (those : List CodedRows). AreCodedLists c.code_rows.new.self.texts those (lists ++ c.args.texts ∷ [])) (sym c.in_ok-push.ensures.ok)
     (lists_more c.args.coded.now.facts.texts c.code_rows.new.self.texts c.args.rows.now c.in_ok-own.own lists c.args.texts c.code_rows.ensures.grown
     c.in_ok-own.ensures.rows.1 before)
+
+pub returns-in_err-own-clause-kept : goal.returns-in_err-own-clause-kept
+returns-in_err-own-clause-kept c loaded its = record { stand = c.code_rows.ensures.facts loaded.facts its.stand; next = its.next }
+
+pub returns-in_err-push-clause-kept : goal.returns-in_err-push-clause-kept
+returns-in_err-push-clause-kept c loaded its = record { stand = c.code_rows.ensures.facts loaded.facts its.stand; next = its.next }
+
+pub returns-clause-kept : goal.returns-clause-kept
+returns-clause-kept c loaded its = record { stand = c.code_rows.ensures.facts loaded.facts its.stand; next = its.next }

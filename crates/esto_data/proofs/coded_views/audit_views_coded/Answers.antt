@@ -1,5 +1,6 @@
 use Rattle.std.proofs.Common.{List, slice_get, length, sym, ap, ◌∙◌, subst, refl, arith}
 use Rattle.std.proofs.lemmas.Option.{slice_get_read}
+use Rattle.esto_columns.proofs.CodingLemmas.{grows_on}
 use Rattle.esto_query.specs.Making.{query_of}
 use Rattle.esto_semantics.specs.Queries.{IsAnswer}
 use Rattle.esto_term.proofs.ListLemmas.{holds_more, map_at}
@@ -41,3 +42,15 @@ pub returns-clause-views : goal.returns-clause-views
 returns-clause-views c loaded its =
     all_texts c.args.catalogue.now.fragments c.items-fragment-items.result.now (database_of loaded.facts) c.items-fragment-items.ensures
     c.fragments.fragment-index c.fragments-test.false (c.fragments.invariant.1 loaded its)
+
+pub returns-in-Err-clause-kept : goal.returns-in-Err-clause-kept
+returns-in-Err-clause-kept c loaded its = c.judge_view.ensures.stays.kept loaded (c.fragments.invariant.0.kept loaded its)
+
+pub returns-in-Err-clause-grown : goal.returns-in-Err-clause-grown
+returns-in-Err-clause-grown c = grows_on _ _ _ c.fragments.invariant.0.grown c.judge_view.ensures.stays.grown
+
+pub returns-clause-kept : goal.returns-clause-kept
+returns-clause-kept c = c.fragments.invariant.0.kept
+
+pub returns-clause-grown : goal.returns-clause-grown
+returns-clause-grown c = c.fragments.invariant.0.grown

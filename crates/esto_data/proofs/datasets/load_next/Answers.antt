@@ -1,9 +1,17 @@
-use Rattle.std.proofs.lemmas.Option.{slice_get_within}
+use Rattle.std.proofs.Common.{ap, sym, ◌∙◌}
+use Rattle.std.proofs.lemmas.Option.{same_Some, slice_get_within}
+use Rattle.esto_mapping.specs.declared.dataset.Dataset.{Dataset}
 use Rattle.esto_course.proofs.Steps.{at_exit}
 use Rattle.esto_status.proofs.AskedSteps.{handed_asks}
 use Rattle.esto_data.specs.Datasets.{IsSourceAt, Source}
 use Rattle.esto_data.proofs.DatasetLemmas.{source_opened, source_opened_asks, source_unfetched, source_unfetched_asks, source_unread, source_unread_asks}
 use Rattle.esto_data.proofs.datasets.load_next.Goals as goal
+
+pub unreachable-requires : goal.unreachable-requires
+unreachable-requires g c =
+    let source = c.requires.source in
+    c.in_default.not-Some source.0.file
+    (ap (λ (it : Dataset). it.file) (same_Some c.item.result.now source.0.dataset (sym c.item.ensures ∙ source.1.there)) ∙ source.1.file_is)
 
 pub returns-in_err-bytes-clause-answer : goal.returns-in_err-bytes-clause-answer
 returns-in_err-bytes-clause-answer g c =

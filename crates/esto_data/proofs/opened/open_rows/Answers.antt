@@ -1,6 +1,10 @@
+use Rattle.std.proofs.Common.{arith}
 use Rattle.esto_run.specs.Fragments.{IsStoredAt, Stored}
 use Rattle.esto_data.proofs.RowLemmas.{rows_by, rows_exit}
 use Rattle.esto_data.proofs.opened.open_rows.Goals as goal
+
+pub item-store-requires : goal.item-store-requires
+item-store-requires g c = omega (arith, c.requires.number, (c.catalogues_are_sound.ensures c.args.catalogue.now).stored)
 
 pub returns-in_err-bytes-clause-answer : goal.returns-in_err-bytes-clause-answer
 returns-in_err-bytes-clause-answer g c =

@@ -2,18 +2,19 @@ use Rattle.esto_query.specs.Making.{query_of}
 use Rattle.esto_semantics.specs.Queries.{IsAnswer, IsAnswerInto}
 use Rattle.std.proofs.Common.{Contains}
 use Rattle.esto_term.specs.declared.term.Term.TheVariants.{Const}
-use Rattle.esto_fill.specs.Databases.{database_of, value_of}
+use Rattle.esto_fill.specs.Databases.{database_of}
 use Rattle.esto_fill.specs.Placing.{IsImageOf}
-use Rattle.esto_fill.proofs.TextLemmas.{gives_same, images_are}
+use Rattle.esto_fill.proofs.TextLemmas.{answers_flat, gives_same, images_are}
+use Rattle.esto_fill.proofs.ValueLemmas.{flat_kept}
 use Rattle.esto_fill.proofs.answering.answer.Goals as goal
 
 pub returns : goal.returns
 returns c =
     let query = query_of c.args.query.now in
     let facts = c.args.loaded.now.facts in
-    let stands = c.facts_stand_as_databases.ensures facts (c.loaded_facts_are_flat.ensures c.args.loaded.now) in
     gives_same (IsImageOf c.in_ok-rows.rows) (IsAnswer query (database_of facts))
     (images_are c.in_ok-rows.rows (IsAnswerInto Const query (Contains facts)) (IsAnswer query (database_of facts))
-    (c.databases_stand_for_facts.ensures.answers facts value_of (database_of facts) query stands (c.queries_are_sound.ensures c.args.query.now).query)
+    (answers_flat c.databases_stand_for_facts.ensures.answers facts (flat_kept facts c.args.loaded.now.sound) query
+    (c.queries_are_sound.ensures c.args.query.now).query)
     c.in_ok-rows.ensures.rows)
     c.texts_of.result c.texts_of.ensures

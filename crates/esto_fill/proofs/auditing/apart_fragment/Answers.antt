@@ -1,10 +1,10 @@
-use Rattle.std.proofs.Common.{◌≤◌, length, sym, ◌∙◌, arith}
+use Rattle.std.proofs.Common.{◌≤◌, length, arith}
 use Rattle.esto_query.specs.Making.{query_of}
 use Rattle.esto_term.proofs.ListLemmas.{Contains-at, map_at}
 use Rattle.esto_views.specs.Fragments.{views_of}
 use Rattle.esto_views.specs.declared.fragments.FragmentDef.{FragmentDef}
 use Rattle.esto_fill.specs.Databases.{database_of}
-use Rattle.esto_fill.proofs.DifferenceLemmas.{all_one, apart_option, one_option}
+use Rattle.esto_fill.proofs.DifferenceLemmas.{all_one, first_apart, one_more}
 use Rattle.esto_fill.proofs.auditing.apart_fragment.Goals as goal
 
 pub apart_of-requires-clause-texts : goal.apart_of-requires-clause-texts
@@ -14,17 +14,17 @@ apart_of-requires-clause-texts c =
     c.requires.texts (query_of fragment.view) (Contains-at (views_of fragments) c.fragments.number (query_of fragment.view)
     (map_at (λ (its : FragmentDef). query_of its.view) fragments c.fragments.number fragment c.item-fragment.ensures))
 
-pub returns-then-is_some : goal.returns-then-is_some
-returns-then-is_some c =
-    apart_option c.args.fragments.now (database_of c.args.facts.now) c.args.rows.now c.fragments.number c.item-fragment.result.now c.item.result.now
-    c.item-fragment.ensures c.item.ensures c.in_ok-outcome.outcome (sym c.is_some.ensures ∙ c.if-is_some.true) c.in_ok-outcome.ensures
-    c.fragments.invariant
+pub returns-in-Some : goal.returns-in-Some
+returns-in-Some c =
+    let judged = rw c.in-Some.is at c.in_ok-difference.ensures in
+    first_apart c.args.fragments.now (database_of c.args.facts.now) c.args.rows.now c.fragments.number c.item-fragment.result.now c.item.result.now
+    c.item-fragment.ensures c.item.ensures c.in-Some.difference judged c.fragments.invariant
 
 pub fragments-preserved : goal.fragments-preserved
 fragments-preserved c =
-    one_option c.args.fragments.now (database_of c.args.facts.now) c.args.rows.now c.fragments.number c.item-fragment.result.now c.item.result.now
-    c.item-fragment.ensures c.item.ensures c.in_ok-outcome.outcome (sym c.is_some.ensures ∙ c.if-is_some.false) c.in_ok-outcome.ensures
-    c.fragments.invariant
+    let judged = rw c.in_default.is at c.in_ok-difference.ensures in
+    one_more c.args.fragments.now (database_of c.args.facts.now) c.args.rows.now c.fragments.number c.item-fragment.result.now c.item.result.now
+    c.item-fragment.ensures c.item.ensures judged c.fragments.invariant
 
 pub returns : goal.returns
 returns c =

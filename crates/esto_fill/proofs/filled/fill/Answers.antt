@@ -1,4 +1,4 @@
-use Rattle.std.proofs.Common.{length, slice_get}
+use Rattle.std.proofs.Common.{arith, length, slice_get}
 use Rattle.esto_docmodel.specs.declared.file.Store.{Store}
 use Rattle.esto_query.specs.Making.{query_of}
 use Rattle.esto_semantics.specs.Queries.{IsAnswer}
@@ -8,6 +8,14 @@ use Rattle.esto_fill.specs.Filled.{IsOpenedAs}
 use Rattle.esto_ports.specs.Marks.{without_mark}
 use Rattle.esto_fill.proofs.FilledLemmas.{both_there, opened_as, rows_wide}
 use Rattle.esto_fill.proofs.filled.fill.Goals as goal
+
+pub item-store-requires : goal.item-store-requires
+item-store-requires c = omega (arith, c.requires, (c.catalogues_are_sound.ensures c.args.catalogue.now).stored)
+
+pub text_of-requires-clause-fits : goal.text_of-requires-clause-fits
+text_of-requires-clause-fits c =
+    (c.catalogues_are_sound.ensures c.args.catalogue.now).shapes c.args.fragment c.item-store.result.now c.item-definition.result.now
+    c.item-store.ensures c.item-definition.ensures
 
 pub text_of-requires-clause-wide : goal.text_of-requires-clause-wide
 text_of-requires-clause-wide c =

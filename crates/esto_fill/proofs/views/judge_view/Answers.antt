@@ -4,9 +4,9 @@ use Rattle.esto_query.specs.Making.{query_of}
 use Rattle.esto_semantics.specs.Queries.{IsAnswer, IsAnswerInto}
 use Rattle.esto_term.specs.declared.term.Term.{Term}
 use Rattle.esto_term.specs.declared.term.Term.TheVariants.{Const}
-use Rattle.esto_fill.specs.Databases.{database_of, value_of}
+use Rattle.esto_fill.specs.Databases.{database_of}
 use Rattle.esto_fill.specs.Placing.{IsImageOf, LeastOpen}
-use Rattle.esto_fill.proofs.TextLemmas.{images_are, judges_same, texts_only, unjudged}
+use Rattle.esto_fill.proofs.TextLemmas.{answers_flat, images_are, judges_same, texts_only, unjudged}
 use Rattle.esto_fill.proofs.views.judge_view.Goals as goal
 
 pub returns-in-Some : goal.returns-in-Some
@@ -15,7 +15,7 @@ returns-in-Some c =
     let facts = c.args.facts.now in
     judges_same (IsImageOf c.in_ok-rows.rows) (IsAnswer query (database_of facts))
     (images_are c.in_ok-rows.rows (IsAnswerInto Const query (Contains facts)) (IsAnswer query (database_of facts))
-    (c.databases_stand_for_facts.ensures.answers facts value_of (database_of facts) query (c.facts_stand_as_databases.ensures facts c.requires)
+    (answers_flat c.databases_stand_for_facts.ensures.answers facts c.requires query
     (c.queries_are_sound.ensures c.args.view.now).query) c.in_ok-rows.ensures.rows)
     (Err c.node_at.result)
     (unjudged c.in_ok-rows.rows c.in-Some.place c.node_at.result c.node_at.ensures
@@ -28,7 +28,7 @@ returns c =
     let facts = c.args.facts.now in
     judges_same (IsImageOf c.in_ok-rows.rows) (IsAnswer query (database_of facts))
     (images_are c.in_ok-rows.rows (IsAnswerInto Const query (Contains facts)) (IsAnswer query (database_of facts))
-    (c.databases_stand_for_facts.ensures.answers facts value_of (database_of facts) query (c.facts_stand_as_databases.ensures facts c.requires)
+    (answers_flat c.databases_stand_for_facts.ensures.answers facts c.requires query
     (c.queries_are_sound.ensures c.args.view.now).query) c.in_ok-rows.ensures.rows)
     (Ok tt)
     (texts_only c.in_ok-rows.rows

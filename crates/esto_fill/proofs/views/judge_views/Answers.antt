@@ -1,44 +1,17 @@
-use Rattle.std.proofs.Common.{List, slice_get, length, sym, ap, ◌∙◌, subst, refl}
-use Rattle.std.specs.Prelude.{Err}
-use Rattle.std.proofs.lemmas.Option.{slice_get_read}
-use Rattle.esto_query.specs.Making.{query_of}
+use Rattle.std.proofs.Common.{List, sym, subst}
 use Rattle.esto_semantics.specs.Maps.{AreFlat}
-use Rattle.esto_semantics.specs.Queries.{IsAnswer}
 use Rattle.esto_semantics.specs.declared.fact.Fact.{Fact}
 use Rattle.esto_term.specs.declared.term.Term.{Term}
-use Rattle.esto_term.proofs.ListLemmas.{holds_more, map_at}
 use Rattle.esto_views.specs.Fragments.{views_of}
-use Rattle.esto_views.specs.declared.fragments.FragmentDef.{FragmentDef}
 use Rattle.esto_fill.specs.Databases.{database_of}
-use Rattle.esto_fill.specs.Texts.{HaveTextsOnly, JudgesRows}
-use Rattle.esto_fill.proofs.TextLemmas.{all_texts, first_view, views_before}
+use Rattle.esto_fill.specs.Texts.{JudgesViews}
+use Rattle.esto_fill.proofs.ValueLemmas.{flat_kept}
 use Rattle.esto_fill.proofs.views.judge_views.Goals as goal
 
-pub judge_view-requires : goal.judge_view-requires
-judge_view-requires c = subst AreFlat (sym c.in_ok-facts.ensures) (c.loaded_facts_are_flat.ensures c.args.loaded.now)
-
-pub returns-in-Err : goal.returns-in-Err
-returns-in-Err c =
-    let fragments = c.args.catalogue.now.fragments in
-    let items = c.items-fragment-items.result.now in
-    let database = database_of c.args.loaded.now.facts in
-    let fragment = c.fragment-item.result in
-    let at = slice_get_read items (length items) c.fragments.fragment-index fragment refl c.fragments-test.true c.fragment-item.is in
-    let there = sym (ap (λ (those : List FragmentDef). slice_get those c.fragments.fragment-index) c.items-fragment-items.ensures) ∙ at in
-    first_view (views_of fragments) database c.fragments.fragment-index (query_of fragment.view) c.in-Err.error
-    (map_at (λ (its : FragmentDef). query_of its.view) fragments c.fragments.fragment-index fragment there)
-    (subst (λ (facts : List (Fact Term)). JudgesRows (IsAnswer (query_of fragment.view) (database_of facts)) (Err c.in-Err.error)) c.in_ok-facts.ensures
-    (subst (JudgesRows (IsAnswer (query_of fragment.view) (database_of c.in_ok-facts.facts))) c.in-Err.is c.judge_view.ensures))
-    (views_before fragments items database c.items-fragment-items.ensures c.fragments.fragment-index c.fragments.invariant)
-
-pub fragments-preserved : goal.fragments-preserved
-fragments-preserved c =
-    holds_more (λ _ (fragment : FragmentDef). HaveTextsOnly (IsAnswer (query_of fragment.view) (database_of c.args.loaded.now.facts)))
-    c.items-fragment-items.result.now c.fragments.fragment-index c.fragment-item.result c.fragments-test.true c.fragment-item.is c.fragments.invariant
-    (subst (λ (facts : List (Fact Term)). HaveTextsOnly (IsAnswer (query_of c.fragment-item.result.view) (database_of facts))) c.in_ok-facts.ensures
-    c.in-Ok.ensures)
+pub judge_each-requires : goal.judge_each-requires
+judge_each-requires c = subst AreFlat (sym c.in_ok-facts.ensures) (flat_kept c.args.loaded.now.facts c.args.loaded.now.sound)
 
 pub returns : goal.returns
 returns c =
-    all_texts c.args.catalogue.now.fragments c.items-fragment-items.result.now (database_of c.args.loaded.now.facts) c.items-fragment-items.ensures
-    c.fragments.fragment-index c.fragments-test.false c.fragments.invariant
+    subst (λ (facts : List (Fact Term)). JudgesViews (views_of c.args.catalogue.now.fragments) (database_of facts) c.judge_each.result) c.in_ok-facts.ensures
+    c.judge_each.ensures

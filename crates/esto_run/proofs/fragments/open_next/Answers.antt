@@ -1,6 +1,10 @@
+use Rattle.std.proofs.Common.{arith}
 use Rattle.esto_run.specs.Opened.{rows_held}
 use Rattle.esto_run.proofs.FragmentLemmas.{next_exit, opens_next_by, stored_at}
 use Rattle.esto_run.proofs.fragments.open_next.Goals as goal
+
+pub item-store-requires : goal.item-store-requires
+item-store-requires g c = omega (arith, c.requires.there, (c.catalogues_are_sound.ensures c.args.catalogue.now).stored)
 
 pub returns-in_err-bytes-clause-answer : goal.returns-in_err-bytes-clause-answer
 returns-in_err-bytes-clause-answer g c =

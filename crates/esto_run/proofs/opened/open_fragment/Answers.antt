@@ -6,6 +6,14 @@ use Rattle.esto_docs.specs.Stores.{IsRowIn}
 use Rattle.esto_run.proofs.OpenedLemmas.{held_many, opened_more, elsewhere, rows_are_set, rows_put}
 use Rattle.esto_run.proofs.opened.open_fragment.Goals as goal
 
+pub item-store-requires : goal.item-store-requires
+item-store-requires c = omega (arith, c.requires.there, (c.catalogues_are_sound.ensures c.args.catalogue.now).stored)
+
+pub put-requires-clause-fits : goal.put-requires-clause-fits
+put-requires-clause-fits c =
+    (c.catalogues_are_sound.ensures c.args.catalogue.now).shapes c.args.number c.item-store.result.now c.item-fragment.result.now
+    c.item-store.ensures c.item-fragment.ensures
+
 pub returns-clause-rows : goal.returns-clause-rows
 returns-clause-rows c =
     let own = c.in_ok-put.ensures.ok in

@@ -7,6 +7,7 @@ use Rattle.esto_views.specs.Plans.{plan_query}
 use Rattle.esto_run.specs.Coded.{IsStoredRow}
 use Rattle.esto_run.specs.Opened.{held_of, rows_held}
 use Rattle.esto_run.proofs.RunLemmas.{shape_seen, codes_of, held_so, codes_have_texts, shapes, fits, answers_same, atoms_among, chosen_among, sources_long}
+use Rattle.esto_run.proofs.RunnableLemmas.{plans_run}
 use Rattle.esto_run.proofs.run.coded_answers.Goals as goal
 
 pub run_plan-requires : goal.run_plan-requires
@@ -15,7 +16,7 @@ run_plan-requires c =
     let fragments = c.args.fragments.now in
     let stored = c.args.stored.now in
     let texts = c.plan_of.new.codes in
-    c.plans_are_runnable.ensures texts (patterns_of fragments) (ordered plan c.args.order.now) c.in_ok-steps.steps
+    plans_run texts (patterns_of fragments) (ordered plan c.args.order.now) c.in_ok-steps.steps
     (map shape_seen stored) c.in_ok-steps.ensures.steps
     (shapes texts fragments (map (held_of c.args.codes.now) stored) stored c.requires.rows
     (held_so c.args.codes.now texts stored c.plan_of.ensures.grown c.requires.texts)

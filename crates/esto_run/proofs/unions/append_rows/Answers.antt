@@ -1,6 +1,6 @@
-use Rattle.std.proofs.Common.{List, ℕ, sym, subst}
+use Rattle.std.proofs.Common.{List, ℕ, arith, sym, subst}
 use Rattle.std.specs.Prelude.{◌≡◌, Some, slice_get}
-use Rattle.esto_run.proofs.UnionLemmas.{rows_more}
+use Rattle.esto_run.proofs.UnionLemmas.{rows_all, rows_more, rows_none}
 use Rattle.esto_run.proofs.unions.append_rows.Goals as goal
 
 pub rows-preserved : goal.rows-preserved
@@ -8,3 +8,10 @@ rows-preserved c =
     rows_more c.args.into.now c.rows.into c.add.new.self c.args.rows.now.rows c.rows.at c.items.result.now
     (subst (λ (it : List ℕ). slice_get c.args.rows.now.rows c.rows.at ≡ Some it) (sym c.items.ensures) c.in_ok-row.ensures)
     c.rows.invariant c.in_ok-add.ensures.ok
+
+pub rows-init : goal.rows-init
+rows-init c = rows_none c.args.into.now
+
+pub returns : goal.returns
+returns c =
+    rows_all c.args.into.now c.rows.into c.args.rows.now.rows c.rows.at (omega (arith, c.rows-test.false, c.len-at-end.ensures)) c.rows.invariant

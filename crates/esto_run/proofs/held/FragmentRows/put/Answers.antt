@@ -1,6 +1,7 @@
-use Rattle.std.proofs.Common.{map, set, sym, subst, ap, ◌∙◌}
+use Rattle.std.proofs.Common.{length, map, refl, set, sym, subst, ap, ◌∙◌}
+use Rattle.esto_docs.specs.Stores.{IsRowIn}
 use Rattle.esto_run.specs.Opened.{HaveTexts, shape_of, held_of}
-use Rattle.esto_run.proofs.HeldLemmas.{at_error, texts_kept, held_kept, texts_put, held_put}
+use Rattle.esto_run.proofs.HeldLemmas.{at_error, fault_handed, texts_kept, held_kept, texts_put, held_put}
 use Rattle.esto_run.proofs.held.FragmentRows.put.Goals as goal
 
 pub invariant_of-self : goal.invariant_of-self
@@ -38,3 +39,9 @@ returns-clause-ok c =
           c.args.fragment.now file.rows c.in_ok-coded.coded c.in_ok-stored.stored file.arity file.are c.in_ok-stored.ensures
           ∙ ap (λ them. set them c.args.number (record { shape = shape_of c.args.fragment.now; rows = file.rows })) c.self.view_is;
     }
+
+pub returns-in_err-coded-clause-fault : goal.returns-in_err-coded-clause-fault
+returns-in_err-coded-clause-fault c = fault_handed (IsRowIn c.args.shape.now c.args.bytes.now) _ (length c.args.fragment.now.view.head) c.code_store.new.codes _ c.from_residual.result c.from_residual.ensures.1 c.in_err-coded.ensures.rows
+
+pub returns-clause-fault : goal.returns-clause-fault
+returns-clause-fault c = (c.in_ok-coded.ensures.rows.0, refl)

@@ -1,0 +1,19 @@
+use Rattle.std.proofs.Common.{◌≡◌, All, length, ap, sym, subst, ◌∙◌}
+use Rattle.esto_columns.specs.Lent.{lent_rows}
+use Rattle.esto_run.specs.Answers.{rows_text}
+use Rattle.esto_run.proofs.RunLemmas.{all_long}
+use Rattle.esto_run.proofs.answers.coded_answers_text.Goals as goal
+
+pub lent_answers_text-requires : goal.lent_answers_text-requires
+lent_answers_text-requires c =
+    let width = length c.args.query.now.head in
+    subst (All (λ row. length row ≡ width)) (sym (ap lent_rows c.as_slice.ensures.value))
+    (all_long width (lent_rows c.in_ok-sorted.sorted.items) (λ row inside. c.requires.wide row ((c.in_ok-sorted.ensures.rows row).0 inside)))
+
+pub returns : goal.returns
+returns c = record {
+  rows = lent_rows c.in_ok-sorted.sorted.items;
+  exact = c.in_ok-sorted.ensures.rows;
+  rising = c.in_ok-sorted.ensures.ascending;
+  printed = c.in_ok-text.ensures ∙ ap (λ them. rows_text c.args.query.now (lent_rows them)) c.as_slice.ensures.value;
+}
