@@ -1,8 +1,8 @@
--- The text of rows of answers of a union.
-use Rattle.std.proofs.Common.{◌≡◌, ℕ, List, [], ◌∷◌, slice_get, Some, sym, ap, ◌∙◌, map}
+-- The text of rows.
+use Rattle.std.proofs.Common.{◌≡◌, ◌↔◌, ℕ, List, [], ◌∷◌, slice_get, Some, sym, ap, ◌∙◌, map}
 use Rattle.std.proofs.lemmas.Option.{same_Some}
 use Rattle.esto_query.specs.declared.query.Query.{Query}
-use Rattle.esto_run.specs.Answers.{rows_text, level_name}
+use Rattle.esto_run.specs.Answers.{IsAnswersText, rows_text, level_name}
 use Rattle.esto_stores.specs.Rows.{Row}
 use Rattle.esto_run.specs.Texts.{union_rows_text}
 use Rattle.esto_stores.specs.TableText.{table_text}
@@ -19,3 +19,13 @@ first_text (first ∷ rest) rows query text at is =
 -- rows have one text under the names of one head
 pub same_rows_text : (query other : Query) → IsSameQuery query other → (rows : List Row) → rows_text query rows ≡ rows_text other rows
 same_rows_text query other same rows = λ i. table_text (map (λ term. level_name (same.names i) (out-Term term)) (same.head i)) rows
+
+-- the text of rows is that of the same rows
+pub same_rows : (query : Query) (Has Other : Row → Type 0) (text : List ℕ) → ((row : Row) → Has row ↔ Other row) → IsAnswersText query Has text
+    → IsAnswersText query Other text
+same_rows query Has Other text same is = record {
+  rows = is.rows;
+  exact = λ row. (λ inside. (same row).0 ((is.exact row).0 inside), λ other. (is.exact row).1 ((same row).1 other));
+  rising = is.rising;
+  printed = is.printed;
+}

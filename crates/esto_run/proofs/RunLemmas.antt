@@ -28,8 +28,6 @@ use Rattle.esto_views.specs.Fragments.{patterns_of}
 use Rattle.esto_views.specs.Plans.{fact_of, plan_query, IsPlanOver}
 use Rattle.esto_views.specs.declared.fragments.FragmentDef.{FragmentDef}
 use Rattle.esto_views.specs.declared.plan.Plan.{Plan}
-use Rattle.esto_query.specs.declared.query.Query.{Query}
-use Rattle.esto_run.specs.Answers.{IsAnswersText}
 use Rattle.esto_run.specs.Coded.{AreCodesOfAll}
 use Rattle.esto_run.specs.Laws.{IsAnswerOfOne, IsAnswerOver}
 use Rattle.esto_run.specs.Opened.{Held, HaveTexts, AreRowsFor, held_of, rows_held, shape_of}
@@ -201,16 +199,6 @@ no_codes texts Holds = record {
 
 pub answers_long : (Holds : Fact (List ℕ) → Type 0) (query : ConjunctiveQuery) (row : Row) → IsAnswerOver Holds query row → length row ≡ length query.head
 answers_long Holds query row (m, keeps, sends, is) = ap length is ∙ length-map query.head m
-
--- the text of these rows is that of others that are the same
-pub shown_as : (query : Query) (Has Other : Row → Type 0) (text : List ℕ) → ((row : Row) → Has row ↔ Other row) → IsAnswersText query Has text
-    → IsAnswersText query Other text
-shown_as query Has Other text same shown = record {
-  rows = shown.rows;
-  exact = λ row. ((λ inside. (same row).0 ((shown.exact row).0 inside)), (λ other. (shown.exact row).1 ((same row).1 other)));
-  rising = shown.rising;
-  printed = shown.printed;
-}
 
 pub all_long : (width : ℕ) (rows : List Row) → ((row : Row) → Contains rows row → length row ≡ width) → All (λ row. length row ≡ width) rows
 all_long width rows long k d below = long (get_or rows k d) (Contains-get_or rows k d below)

@@ -14,6 +14,7 @@ use Rattle.esto_run.specs.Laws.{AnswersAreOverFiles, IsAnswerOver, UsesOnly}
 use Rattle.esto_run.specs.Opened.{AreOpened}
 use Rattle.esto_docs.specs.Stores.{IsFileRow}
 use Rattle.esto_run.specs.Used.{AreUsed}
+use Rattle.esto_run.proofs.RowsTextLemmas.{same_rows}
 use Rattle.esto_steps.specs.Rows.{IsRowOf, held_by}
 use Rattle.esto_semantics.specs.Listed.{candidate}
 use Rattle.esto_semantics.specs.ListedLaws.{ChosenAreNamed}
@@ -56,16 +57,6 @@ uses_only named plan set numbers used atom inside =
     (used.exact atom.relation).1 (found.0, (found.1, (atom, found.2, refl)))
 
 -- ---- the text
-
--- the text of rows is that of the same rows
-pub same_rows : (query : Query) (Has Other : Row → Type 0) (text : List ℕ) → ((row : Row) → Has row ↔ Other row) → IsAnswersText query Has text
-    → IsAnswersText query Other text
-same_rows query Has Other text same is = record {
-  rows = is.rows;
-  exact = λ row. (λ inside. (same row).0 ((is.exact row).0 inside), λ other. (is.exact row).1 ((same row).1 other));
-  rising = is.rising;
-  printed = is.printed;
-}
 
 -- over the rows of the files of all fragments that are used, the text is that of the candidate's answers over the files
 pub text_over_files : AnswersAreOverFiles → ChosenAreNamed → (catalogue : Catalogue) (query : Query) (plan : Plan) (set : List Bool) (numbers : List ℕ)

@@ -52,9 +52,9 @@ use Rattle.esto_top.specs.Laws.{ListingLaws, OpeningLaws}
 use Rattle.esto_top.proofs.HeadlineLemmas.{empty-without}
 use Rattle.esto_status.specs.Calm.{Leads}
 use Rattle.esto_status.proofs.LeadLemmas.{then-leads}
-use Rattle.esto_run.proofs.RowsTextLemmas.{same_rows_text}
+use Rattle.esto_run.proofs.RowsTextLemmas.{same_rows, same_rows_text}
 use Rattle.esto_top.proofs.LeadLemmas.{says-leads}
-use Rattle.esto_top.proofs.RunLemmas.{same_rows, uses_only}
+use Rattle.esto_top.proofs.RunLemmas.{uses_only}
 use Rattle.esto_top.proofs.SayLemmas.{alone_opens, catalogue_leads, catalogue_opens, one_alone, union_leads}
 use Rattle.esto_query.specs.Same.{IsSameQuery}
 use Rattle.esto_rewriting.specs.Alike.{IsSamePlan}

@@ -4,7 +4,8 @@ use Rattle.esto_steps.specs.Rows.{IsRowOf, held_by}
 use Rattle.esto_semantics.specs.Listed.{candidate}
 use Rattle.esto_views.specs.Plans.{plan_query}
 use Rattle.esto_run.specs.Opened.{rows_held}
-use Rattle.esto_run.proofs.RunLemmas.{answers_long, shown_as}
+use Rattle.esto_run.proofs.RowsTextLemmas.{same_rows}
+use Rattle.esto_run.proofs.RunLemmas.{answers_long}
 use Rattle.esto_run.proofs.run.run_text.Goals as goal
 
 pub coded_answers_text-requires-clause-below : goal.coded_answers_text-requires-clause-below
@@ -19,4 +20,4 @@ coded_answers_text-requires-clause-wide c = λ row coded.
 
 pub returns : goal.returns
 returns c = IfOk-weaker c.coded_answers_text.result _ _
-    (λ text shown set is_order. shown_as c.args.query.now _ _ text (c.in_ok-answers.ensures set is_order).exact shown) c.coded_answers_text.ensures
+    (λ text shown set is_order. same_rows c.args.query.now _ _ text (c.in_ok-answers.ensures set is_order).exact shown) c.coded_answers_text.ensures

@@ -2,7 +2,7 @@ use Rattle.std.proofs.Common.{length, sym, ◌∙◌}
 use Rattle.std.proofs.lemmas.Result.{IfOk-weaker}
 use Rattle.esto_steps.specs.Rows.{IsRowOf, held_by}
 use Rattle.esto_run.specs.Opened.{rows_held}
-use Rattle.esto_run.proofs.RunLemmas.{shown_as}
+use Rattle.esto_run.proofs.RowsTextLemmas.{same_rows}
 use Rattle.esto_run.proofs.UnionLemmas.{one_long}
 use Rattle.esto_run.proofs.unions.text_of_picks.Goals as goal
 
@@ -19,4 +19,4 @@ coded_answers_text-requires-clause-wide c = λ row coded.
 
 pub returns : goal.returns
 returns c = IfOk-weaker c.coded_answers_text.result _ _
-    (λ text shown. shown_as c.args.query.now _ _ text c.in_ok-answers.ensures.exact shown) c.coded_answers_text.ensures
+    (λ text shown. same_rows c.args.query.now _ _ text c.in_ok-answers.ensures.exact shown) c.coded_answers_text.ensures
