@@ -53,9 +53,7 @@ fn put_in(lists: &mut Vec<Places>, hash: u64, place: usize) -> Result<(), OutOfM
     ensures long { length lists.new.items ≡ length lists.old.items }
 {
     let at = bucket_of(hash, lists.len());
-    let list = &mut lists[at];
-    list.push(place)?;
-    Ok(())
+    lists[at].push(place)
 }
 
 impl Buckets {

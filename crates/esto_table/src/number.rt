@@ -4,7 +4,7 @@ ghost use Rattle.esto_table.specs.Numbers.{AreInOrder, IsNumber, IsRank, key_of}
 
 use crate::hash::{mixed, term_hash};
 use crate::marks::Marks;
-use esto_term::{OutOfMemory, Replicate, Term};
+use esto_term::{OutOfMemory, Replicate, Term, push};
 use std::alloc::Global;
 
 /// The key of a term's number in a column of a relation.
@@ -44,6 +44,12 @@ pub fn count_marked(marks: &Marks, relation: usize, terms: &[Term]) -> usize {
     count
 }
 
+/// Adds a copy of the term.
+fn add_name(alloc: Global, term: &Term, names: &mut Vec<Term>) -> Result<(), OutOfMemory> {
+    let name = term.copy(alloc)?;
+    push(names, name)
+}
+
 /// Adds copies of those of the terms that stand in a marked column of the relation.
 pub fn add_names(
     alloc: Global,
@@ -54,9 +60,7 @@ pub fn add_names(
 ) -> Result<(), OutOfMemory> {
     'columns: for (column, term) in terms.iter().enumerate() {
         if marks.has(relation, column) {
-            let Ok(()) = names.push(term.copy(alloc)?) else {
-                return Err(OutOfMemory);
-            };
+            add_name(alloc, term, names)?;
         }
     }
     Ok(())
@@ -66,8 +70,10 @@ pub fn add_names(
 pub fn put_in_order(names: &mut Vec<Term>) -> Result<(), OutOfMemory>
     ensures { OnOk result (AreInOrder names.new.items) }
 {
-    names.sort_by(|name, other| name.compare(other))?;
-    Ok(())
+    match names.sort_by(|name, other| name.compare(other)) {
+        Ok(()) => Ok(()),
+        Err(_) => Err(OutOfMemory),
+    }
 }
 
 /// The column of the relation whose term has the key by its hash, or the number of the terms.

@@ -4,5 +4,5 @@ use Rattle.esto_term.proofs.OrderLemmas.{term_cmp_total}
 use Rattle.esto_term.proofs.TotalOrderLemmas.{in_order-sorted}
 use Rattle.esto_table.proofs.number.put_in_order.Goals as goal
 
-pub returns : goal.returns
-returns c = in_order-sorted term_cmp term_cmp_total c.sort_by.new.self.items c.in_ok-sort_by.ensures.sorted (λ a r f' k. search rules)
+pub returns-in-Ok : goal.returns-in-Ok
+returns-in-Ok c = in_order-sorted term_cmp term_cmp_total c.sort_by.new.self.items c.in-Ok.ensures.sorted (λ a r f' k. search rules)
