@@ -158,7 +158,8 @@ impl<T: Replicate + Drop> Replicate for List<T> {
     fn copy(&self, alloc: Global) -> Result<List<T>, OutOfMemory> {
         let mut copied = List::new(alloc);
         'items: for item in self.items() {
-            copied.push(item.copy(alloc)?)?;
+            let copy = item.copy(alloc)?;
+            copied.push(copy)?;
         }
         Ok(copied)
     }

@@ -186,7 +186,8 @@ impl Replicate for Term {
             Term::Made(rule, variable, frontier) => {
                 let mut copied = List::new(alloc);
                 'frontier: for part in frontier.items() {
-                    copied.push(part.copy(alloc)?)?;
+                    let copy = part.copy(alloc)?;
+                    copied.push(copy)?;
                 }
                 Ok(Term::Made(*rule, *variable, copied))
             }
