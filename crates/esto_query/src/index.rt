@@ -3,9 +3,8 @@ ghost use Rattle.std.specs.Prelude.{◌≡◌, ◌<◌, ◌+◌, List, length, s
 ghost use Rattle.esto_term.specs.declared.term.Term.{Term};
 ghost use Rattle.esto_term.specs.declared.term.Term.TheVariants.{Const};
 ghost use Rattle.esto_semantics.specs.Maps.{Keeps};
-ghost use Rattle.esto_semantics.specs.declared.fact.Fact.{Fact};
 ghost use Rattle.esto_table.specs.Buckets.{AreRising};
-ghost use Rattle.esto_semantics.specs.Valuations.{Assignment, Extends};
+ghost use Rattle.esto_semantics.specs.Valuations.{Extends};
 ghost use Rattle.esto_query.specs.Trails.{with_trail};
 ghost use Rattle.esto_table.specs.Numbers.{AreInOrder};
 ghost use Rattle.esto_table.specs.declared.entry.Entry.{Entry};
@@ -15,7 +14,7 @@ use crate::clashes::{clashes, names_of};
 use crate::trail::{Binding, value};
 use esto_semantics::{Atom, Valuation};
 use esto_table::{Buckets, Entry, Marks, Table, count_marked, key_of, number_of, table_of};
-use esto_term::{OutOfMemory, Term};
+use esto_term::{OutOfMemory, Term, push};
 use std::alloc::Global;
 
 /// The most buckets by relations. More relations share them.
@@ -66,10 +65,7 @@ fn add_term(
     }
     let number = number_of(names, fact.terms.item(column));
     let key = key_of(fact.relation, column, number);
-    let Ok(()) = terms.push(Entry { key, place }) else {
-        return Err(OutOfMemory);
-    };
-    Ok(())
+    push(terms, Entry { key, place })
 }
 
 /// Adds the entries of a fact's place by its terms in the columns.
@@ -221,14 +217,6 @@ fn fewer_by<'b, 'c, 'a: 'c>(
         return best;
     }
     found
-}
-
-/// The places of the atom's relation.
-pub fn places_of<'b>(index: &'b Index, atom: &Atom) -> &'b [usize]
-    ensures { (facts : List (Fact Term)) (known : Assignment) → IsIndex facts index.now
-        → AreCandidates facts atom.now known result.now }
-{
-    index.relations.at(atom.relation as u64)
 }
 
 /// The places to which the atom can go: those of its relation, or fewer where the index finds it by a column that is

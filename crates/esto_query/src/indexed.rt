@@ -8,7 +8,7 @@ ghost use Rattle.esto_semantics.specs.Valuations.{Assignment};
 ghost use Rattle.esto_query.specs.Indexes.{AreCandidates};
 
 use crate::columns::Columns;
-use crate::index::{Index, index_of, least_after, places_for, places_of};
+use crate::index::{Index, index_of, least_after, places_for};
 use crate::trail::{Binding, bind_atom};
 use esto_semantics::{Atom, Facts, Valuation};
 use esto_table::Marks;
@@ -89,7 +89,7 @@ pub fn candidates<'b>(
 pub fn all_places<'b>(facts: &'b IndexedFacts, atom: &Atom) -> &'b [usize]
     ensures { (known : Assignment) → AreCandidates facts.now atom.now known result.now }
 {
-    places_of(&facts.index, atom)
+    facts.index.relations.at(atom.relation as u64)
 }
 
 /// How many places are left to the other atom of so many, where the first one goes to the fact.

@@ -98,11 +98,14 @@ fn least_found<'a>(
         found.valuation found.places)) }
 {
     let mut places = Values::new(alloc);
-    if !least_from(alloc, start, rule, rule.body, facts, trail, &mut places)? {
-        return Ok(None);
+    match least_from(alloc, start, rule, rule.body, facts, trail, &mut places) {
+        Ok(true) => {
+            let valuation = extended(alloc, start, trail)?;
+            Ok(Some(Found { valuation, places }))
+        }
+        Ok(false) => Ok(None),
+        Err(error) => Err(error),
     }
-    let valuation = extended(alloc, start, trail)?;
-    Ok(Some(Found { valuation, places }))
 }
 
 impl<'a> IndexedFacts<'a> {

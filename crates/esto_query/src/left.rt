@@ -63,7 +63,9 @@ impl<'b> AtomsLeft<'b> {
     ) -> Result<AtomsLeft<'b>, OutOfMemory>
         ensures { IfOk result (λ it. it ≡ body.now) }
     {
-        let mut atoms = Vec::with_capacity(alloc, body.len())?;
+        let Ok(mut atoms) = Vec::with_capacity(alloc, body.len()) else {
+            return Err(OutOfMemory);
+        };
         'atoms: for atom in body {
             let ways = count_ways(start, facts, trail, atom, body.len());
             let Ok(()) = atoms.push(Waiting { atom, ways }) else {

@@ -41,7 +41,8 @@ pub(crate) fn extended(
 {
     let mut valuation = start.copy(alloc)?;
     for binding in trail {
-        valuation.bind(binding.variable, binding.term.copy(alloc)?)?;
+        let term = binding.term.copy(alloc)?;
+        valuation.bind(binding.variable, term)?;
     }
     Ok(valuation)
 }
@@ -62,11 +63,13 @@ fn least_match(
 {
     let mut trail = Vec::new(alloc);
     let mut places = Values::new(alloc);
-    if search(start, body, facts, from, &mut trail, &mut places)? {
-        let valuation = extended(alloc, start, &trail)?;
-        Ok(Some(Found { valuation, places }))
-    } else {
-        Ok(None)
+    match search(start, body, facts, from, &mut trail, &mut places) {
+        Ok(true) => {
+            let valuation = extended(alloc, start, &trail)?;
+            Ok(Some(Found { valuation, places }))
+        }
+        Ok(false) => Ok(None),
+        Err(error) => Err(error),
     }
 }
 

@@ -51,15 +51,19 @@ pub fn search<'a>(
     let found = candidates(start, facts, trail, atom);
     let left = places_from(found, least_first(from));
     'places: for place in left {
-        let place = *place;
-        if bind_place(start, facts, trail, atom, place)? {
-            places.push(place)?;
-            if search(start, rest, facts, from_after(from, place), trail, places)? {
-                return Ok(true);
-            }
-            places.truncate(depth);
-            trail.truncate(mark);
+        match bind_place(start, facts, trail, atom, *place) {
+            Ok(true) => {}
+            Ok(false) => continue,
+            Err(error) => return Err(error),
         }
+        places.push(*place)?;
+        match search(start, rest, facts, from_after(from, *place), trail, places) {
+            Ok(true) => return Ok(true),
+            Ok(false) => {}
+            Err(error) => return Err(error),
+        }
+        places.truncate(depth);
+        trail.truncate(mark);
     }
     Ok(false)
 }

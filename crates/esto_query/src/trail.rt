@@ -78,9 +78,13 @@ pub fn bind_row<'a>(
     }
     let mark = trail.len();
     for at in 0..terms.len() {
-        if !bind_term(start, trail, &terms[at], &targets[at])? {
-            trail.truncate(mark);
-            return Ok(false);
+        match bind_term(start, trail, &terms[at], &targets[at]) {
+            Ok(true) => {}
+            Ok(false) => {
+                trail.truncate(mark);
+                return Ok(false);
+            }
+            Err(error) => return Err(error),
         }
     }
     Ok(true)

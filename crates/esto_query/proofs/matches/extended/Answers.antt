@@ -10,7 +10,7 @@ loop-binding-init c = c.in_ok-valuation.ensures
 pub loop-binding-preserved : goal.loop-binding-preserved
 loop-binding-preserved c =
     trail_more c.args.start.now c.args.trail.now c.loop-binding.binding-index c.binding-item.result c.loop-binding.valuation _ _ c.loop-binding-test.true
-    c.binding-item.is c.loop-binding.invariant c.in_ok-copy.ensures c.in_ok-bind.ensures.ok
+    c.binding-item.is c.loop-binding.invariant c.in_ok-term.ensures c.in_ok-bind.ensures.ok
 
 pub returns : goal.returns
 returns c =

@@ -7,7 +7,6 @@ use Rattle.esto_query.proofs.TrailLemmas.{undone}
 use Rattle.esto_query.proofs.LeastLemmas.{AreLeft-first, AreLeft-next, AreLeft-low, AreLeft-end, NoneAt-back, NoneAt-skip, Searched-nil, Searched-found}
 use Rattle.esto_query.proofs.LeastLemmas.{Searched-none, flat_first, flat_rest}
 use Rattle.esto_query.proofs.search.+search.Goals as goal
-use Rattle.esto_query.proofs.search.+search.Goals.{then-branch+in_ok-push+in_ok-search+else-branch-2, else-branch}
 
 pub returns-in_default : goal.returns-in_default
 returns-in_default t c =
@@ -39,64 +38,65 @@ search-requires t c = (
       (subst AreFlat c.places.invariant.split c.requires),
 )
 
-pub returns-then-branch-2 : goal.returns-then-branch-2
-returns-then-branch-2 t c =
+pub returns-in-Ok-true-search : goal.returns-in-Ok-true-search
+returns-in-Ok-true-search t c =
     let rising = c.places_from-left.ensures.rising in
+    let place = place_at c.places_from-left.result.now c.places.place-index in
     let low = AreLeft-low c.in-Some.atom.now c.in-Some.rest.now c.args.facts.now
     (with_trail c.args.start.now c.args.trail.now.items) c.args.from.now c.places_from-left.result.now rising c.places.place-index
-    c.places.invariant.left (place_at c.places_from-left.result.now c.places.place-index) c.places-test.true
-    (place_read c.places_from-left.result.now c.places.place-index c.places-test.true) in
-    let after = subst (λ n. n ≤ (place_at c.places_from-left.result.now c.places.place-index)) c.least_first.ensures
-    (c.places_from-left.ensures.within (place_at c.places_from-left.result.now c.places.place-index)
-    (place_inside c.places_from-left.result.now c.places.place-index c.places-test.true)) in
-    let found = rw c.if-branch-2.true at c.in_ok-search.ensures in
-    let tried = rw c.if-branch.true at c.in_ok-bind_place.ensures in
+    c.places.invariant.left place c.places-test.true (place_read c.places_from-left.result.now c.places.place-index c.places-test.true) in
+    let after = subst (λ n. n ≤ place) c.least_first.ensures
+    (c.places_from-left.ensures.within place (place_inside c.places_from-left.result.now c.places.place-index c.places-test.true)) in
+    let found = rw c.in-Ok-true-search.field-0-test at c.in-Ok-true-search.ensures in
+    let tried = rw c.in-Ok-true.field-0-test at c.in-Ok-true.ensures in
     rw c.places.invariant.split
-    (Searched-found c.args.start.now c.in-Some.atom.now c.in-Some.rest.now c.args.facts.now c.args.from.now
-    (place_at c.places_from-left.result.now c.places.place-index)
+    (Searched-found c.args.start.now c.in-Some.atom.now c.in-Some.rest.now c.args.facts.now c.args.from.now place
     c.args.trail.now.items c.places.trail.items c.places.invariant.trail low
     c.bind_place.new.trail.items c.search.new.trail.items c.from_after.result.now c.args.places.now c.places.places c.push.new.self c.search.new.places
     c.places.invariant.places c.from_after.ensures c.in_ok-push.ensures.ok after tried found)
 
+pub places-preserved-in-Ok-false : goal.places-preserved-in-Ok-false
+places-preserved-in-Ok-false t c =
+    let rising = c.places_from-left.ensures.rising in
+    let place = place_at c.places_from-left.result.now c.places.place-index in
+    let read = place_read c.places_from-left.result.now c.places.place-index c.places-test.true in
+    let known = with_trail c.args.start.now c.args.trail.now.items in
+    let low = AreLeft-low c.in-Some.atom.now c.in-Some.rest.now c.args.facts.now known c.args.from.now c.places_from-left.result.now rising
+    c.places.place-index c.places.invariant.left place c.places-test.true read in
+    let tried = rw c.in-Ok-false.field-0-test at c.in-Ok-false.ensures in
+    record {
+      split = c.places.invariant.split;
+      trail = tried.0 ∙ c.places.invariant.trail;
+      places = c.places.invariant.places;
+      left = AreLeft-next c.in-Some.atom.now c.in-Some.rest.now c.args.facts.now known c.args.from.now c.places_from-left.result.now rising
+          c.places.place-index c.places.invariant.left place c.places-test.true read
+          (NoneAt-skip c.args.start.now c.in-Some.atom.now c.in-Some.rest.now c.args.facts.now c.args.from.now place
+          c.args.trail.now.items c.places.trail.items c.places.invariant.trail low c.bind_place.new.trail.items tried);
+    }
+
 pub places-preserved : goal.places-preserved
 places-preserved t c =
     let rising = c.places_from-left.ensures.rising in
-    let next = AreLeft-next c.in-Some.atom.now c.in-Some.rest.now c.args.facts.now
-    (with_trail c.args.start.now c.args.trail.now.items) c.args.from.now c.places_from-left.result.now rising c.places.place-index
-    c.places.invariant.left (place_at c.places_from-left.result.now c.places.place-index) c.places-test.true
-    (place_read c.places_from-left.result.now c.places.place-index c.places-test.true) in
-    let low = AreLeft-low c.in-Some.atom.now c.in-Some.rest.now c.args.facts.now
-    (with_trail c.args.start.now c.args.trail.now.items) c.args.from.now c.places_from-left.result.now rising c.places.place-index
-    c.places.invariant.left (place_at c.places_from-left.result.now c.places.place-index) c.places-test.true
-    (place_read c.places_from-left.result.now c.places.place-index c.places-test.true) in
-    elim c.if-branch.branch [
-      | then-branch+in_ok-push+in_ok-search+else-branch-2 w ↦
-          let missed = rw w.if-branch-2.false at w.in_ok-search.ensures in
-          let tried = rw w.if-branch.true at c.in_ok-bind_place.ensures in
-          record {
-            split = c.places.invariant.split;
-            trail = ap (λ v. v.items) w.trail-is
-                ∙ undone _ _ _ _ _ _ (omega (arith, c.args.trail.now.ok.0, c.len-mark.ensures)) c.places.invariant.trail tried.0 missed.1
-                w.truncate-then-branch.ensures.items;
-            places = w.places-is ∙ undone _ _ _ _ _ _ (omega (arith, c.len-depth.ensures)) c.places.invariant.places
-                ((place_at c.places_from-left.result.now c.places.place-index) ∷ [], w.in_ok-push.ensures.ok) missed.0 w.truncate.ensures;
-            left = next (NoneAt-back c.args.start.now c.in-Some.atom.now c.in-Some.rest.now c.args.facts.now c.args.from.now
-                (place_at c.places_from-left.result.now c.places.place-index)
-                c.args.trail.now.items c.places.trail.items c.places.invariant.trail low
-                c.bind_place.new.trail.items w.search.new.trail.items w.from_after.result.now w.push.new.self w.search.new.places w.from_after.ensures tried
-                missed);
-          }
-      | else-branch w ↦
-          let tried = rw w.if-branch.false at c.in_ok-bind_place.ensures in
-          record {
-            split = c.places.invariant.split;
-            trail = ap (λ v. v.items) w.trail-is ∙ tried.0 ∙ c.places.invariant.trail;
-            places = w.places-is ∙ c.places.invariant.places;
-            left = next (NoneAt-skip c.args.start.now c.in-Some.atom.now c.in-Some.rest.now c.args.facts.now c.args.from.now
-                (place_at c.places_from-left.result.now c.places.place-index)
-                c.args.trail.now.items c.places.trail.items c.places.invariant.trail low c.bind_place.new.trail.items tried);
-          }
-    ]
+    let place = place_at c.places_from-left.result.now c.places.place-index in
+    let read = place_read c.places_from-left.result.now c.places.place-index c.places-test.true in
+    let known = with_trail c.args.start.now c.args.trail.now.items in
+    let low = AreLeft-low c.in-Some.atom.now c.in-Some.rest.now c.args.facts.now known c.args.from.now c.places_from-left.result.now rising
+    c.places.place-index c.places.invariant.left place c.places-test.true read in
+    let missed = rw c.in-Ok-false-search.field-0-test at c.in-Ok-false-search.ensures in
+    let tried = rw c.in-Ok-true.field-0-test at c.in-Ok-true.ensures in
+    record {
+      split = c.places.invariant.split;
+      trail = undone _ _ _ _ _ _ (omega (arith, c.args.trail.now.ok.0, c.len-mark.ensures)) c.places.invariant.trail tried.0 missed.1
+          c.truncate-in-places.ensures.items;
+      places = undone _ _ _ _ _ _ (omega (arith, c.len-depth.ensures)) c.places.invariant.places (place ∷ [], c.in_ok-push.ensures.ok) missed.0
+          c.truncate.ensures;
+      left = AreLeft-next c.in-Some.atom.now c.in-Some.rest.now c.args.facts.now known c.args.from.now c.places_from-left.result.now rising
+          c.places.place-index c.places.invariant.left place c.places-test.true read
+          (NoneAt-back c.args.start.now c.in-Some.atom.now c.in-Some.rest.now c.args.facts.now c.args.from.now place
+          c.args.trail.now.items c.places.trail.items c.places.invariant.trail low
+          c.bind_place.new.trail.items c.search.new.trail.items c.from_after.result.now c.push.new.self c.search.new.places c.from_after.ensures tried
+          missed);
+    }
 
 pub returns : goal.returns
 returns t c =

@@ -8,16 +8,16 @@ bind_term-requires c = c.requires _ (Contains-read _ _ _ c.loop-at-test.true c.i
 
 pub loop-at-preserved : goal.loop-at-preserved
 loop-at-preserved c =
-    let tried = rw c.if-not-branch.false at c.in_ok-bind_term.ensures in
+    let tried = rw c.in-Ok-true.field-0-test at c.in-Ok-true.ensures in
     record {
       grown = Grew-then _ _ _ c.loop-at.invariant.grown tried.0;
       narrowed = Narrows-row c.args.start.now c.args.trail.now.items c.loop-at.trail.items c.args.terms.now c.args.targets.now c.loop-at.at _ _ (omega arith)
           (omega arith) c.index-terms-at.is c.index-targets-at.is c.bind_term.new.trail.items c.loop-at.invariant.narrowed tried.1;
     }
 
-pub returns-then-not-branch : goal.returns-then-not-branch
-returns-then-not-branch c =
-    let tried = rw c.if-not-branch.true at c.in_ok-bind_term.ensures in (
+pub returns-in-Ok-false : goal.returns-in-Ok-false
+returns-in-Ok-false c =
+    let tried = rw c.in-Ok-false.field-0-test at c.in-Ok-false.ensures in (
       c.truncate.ensures.items ∙ ap (take c.len-mark.result) tried.0
           ∙ Grew-take _ _ _ (omega (arith, c.args.trail.now.ok.0, c.len-mark.ensures)) c.loop-at.invariant.grown,
       Excludes-row c.args.start.now c.args.trail.now.items c.loop-at.trail.items c.args.terms.now c.args.targets.now c.loop-at.at _ _ (omega arith)
