@@ -3,7 +3,7 @@ use Rattle.std.proofs.Common.{◌≡◌, ◌≢◌, ◌↔◌, ◌⊎◌, inl, i
 use Rattle.std.proofs.Common.{set, swap, get_or, Contains, AllPairs, slice_get, Some, refl, sym, ap, ◌∙◌, subst, arith, Option, option_map}
 use Rattle.std.specs.List.{filter, flat_map, range_with_len}
 use Rattle.std.specs.List.Sorted.{IsPermutation}
-use Rattle.std.proofs.lemmas.Bool.{cases_order}
+use Rattle.std.proofs.lemmas.Bool.{cases_order, eq-eqb, ne_eqb}
 use Rattle.std.proofs.lemmas.Bool.Decides.{nat_tests}
 use Rattle.std.proofs.lemmas.List.{get_or-map, get_or-set_other, get_or-set_same, length-map, length-set, take_more, take_all, append_assoc}
 use Rattle.std.proofs.lemmas.List.Edits.{length-swap, swap_is}
@@ -323,32 +323,50 @@ module _ {A : Type 0} (R : A → A → Type 0) (turned : (x y : A) → R x y →
     from_place : ℕ → ℕ
     from_place k = cond (k == b) a (cond (k == a) b k)
 
+    from_b : (k : ℕ) → k ≡ b → from_place k ≡ a
+    unfolding from_place
+    from_b k same = ap (λ test. cond test a (cond (k == a) b k)) (eq-eqb k b same)
+
+    from_a : (k : ℕ) → k ≢ b → k ≡ a → from_place k ≡ b
+    unfolding from_place
+    from_a k apart same = ap (λ test. cond test a (cond (k == a) b k)) (ne_eqb k b apart) ∙ ap (λ test. cond test b k) (eq-eqb k a same)
+
+    from_other : (k : ℕ) → k ≢ b → k ≢ a → from_place k ≡ k
+    unfolding from_place
+    from_other k apart away = ap (λ test. cond test a (cond (k == a) b k)) (ne_eqb k b apart) ∙ ap (λ test. cond test b k) (ne_eqb k a away)
+
     from_apart : (i j : ℕ) → i ≢ j → from_place i ≢ from_place j
     unfolding from_place
     from_apart i j apart = grind (arith, nat_tests)
 
     from_within : (k : ℕ) → k < length xs → from_place k < length xs
-    unfolding from_place
-    from_within k within = grind (arith, nat_tests)
+    from_within k within = elim (cases_order k b) [
+      | inl same ↦ subst (λ n. n < length xs) (sym (from_b k same)) within_a
+      | inr order ↦
+          let apart : k ≢ b = elim order [ inl less ↦ omega (arith, less) | inr more ↦ omega (arith, more) ] in
+          elim (cases_order k a) [
+            | inl same ↦ subst (λ n. n < length xs) (sym (from_a k apart same)) within_b
+            | inr other ↦
+                let away : k ≢ a = elim other [ inl less ↦ omega (arith, less) | inr more ↦ omega (arith, more) ] in
+                subst (λ n. n < length xs) (sym (from_other k apart away)) within
+          ]
+    ]
 
     at_from : (k : ℕ) (d : A) → get_or (swap xs a b) k d ≡ get_or xs (from_place k) d
-    unfolding from_place
     at_from k d = ap (λ ys. get_or ys k d) (sym (swap_is xs a b d within_a within_b)) ∙ elim (cases_order k b) [
       | inl same ↦
-          let from : cond (k == b) a (cond (k == a) b k) ≡ a = grind (arith, nat_tests) in
           ap (λ n. get_or (set (set xs a (get_or xs b d)) b (get_or xs a d)) n d) same
           ∙ get_or-set_same (set xs a (get_or xs b d)) b (get_or xs a d) d (subst (λ n. b < n) (sym (length-set xs a (get_or xs b d))) within_b)
-          ∙ ap (λ n. get_or xs n d) (sym from)
+          ∙ ap (λ n. get_or xs n d) (sym (from_b k same))
       | inr order ↦
           let apart : k ≢ b = elim order [ inl less ↦ omega (arith, less) | inr more ↦ omega (arith, more) ] in
           get_or-set_other (set xs a (get_or xs b d)) b k (get_or xs a d) d apart ∙ elim (cases_order k a) [
             | inl same ↦
-                let from : cond (k == b) a (cond (k == a) b k) ≡ b = grind (arith, nat_tests) in
-                ap (λ n. get_or (set xs a (get_or xs b d)) n d) same ∙ get_or-set_same xs a (get_or xs b d) d within_a ∙ ap (λ n. get_or xs n d) (sym from)
+                ap (λ n. get_or (set xs a (get_or xs b d)) n d) same ∙ get_or-set_same xs a (get_or xs b d) d within_a
+                ∙ ap (λ n. get_or xs n d) (sym (from_a k apart same))
             | inr other ↦
                 let away : k ≢ a = elim other [ inl less ↦ omega (arith, less) | inr more ↦ omega (arith, more) ] in
-                let from : cond (k == b) a (cond (k == a) b k) ≡ k = grind (arith, nat_tests) in
-                get_or-set_other xs a k (get_or xs b d) d away ∙ ap (λ n. get_or xs n d) (sym from)
+                get_or-set_other xs a k (get_or xs b d) d away ∙ ap (λ n. get_or xs n d) (sym (from_other k apart away))
           ]
     ]
 
