@@ -2,7 +2,7 @@
 ghost use Rattle.std.specs.Prelude.{◌≡◌, ◌<◌, ◌%◌, length, IfOk, OnOk, OnErr};
 ghost use Rattle.esto_table.specs.Buckets.{places_at, with_place, AreRising};
 
-use esto_term::{OutOfMemory, Places, Values};
+use esto_term::{OutOfMemory, Places, Values, push};
 use std::alloc::Global;
 use std::marker::Model;
 
@@ -30,9 +30,7 @@ fn empty_lists(alloc: Global, count: usize) -> Result<Vec<Places>, OutOfMemory>
 {
     let mut lists = Vec::new(alloc);
     'lists: for _list in 0..count {
-        let Ok(()) = lists.push(Values::new(alloc)) else {
-            return Err(OutOfMemory);
-        };
+        push(&mut lists, Values::new(alloc))?;
     }
     Ok(lists)
 }

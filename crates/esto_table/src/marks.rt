@@ -2,7 +2,7 @@
 ghost use Rattle.std.specs.Prelude.{◌≡◌};
 ghost use Rattle.esto_table.specs.Marks.{is_among, is_marked};
 
-use esto_term::{OutOfMemory, Values};
+use esto_term::{OutOfMemory, Values, push};
 use std::alloc::Global;
 
 /// The number from which on no relation's columns are marked: no schema has so many.
@@ -74,9 +74,7 @@ impl Marks {
             return Ok(());
         }
         'rows: for _row in self.marked.len()..relation + 1 {
-            let Ok(()) = self.marked.push(Values::new(alloc)) else {
-                return Err(OutOfMemory);
-            };
+            push(&mut self.marked, Values::new(alloc))?;
         }
         if relation >= self.marked.len() {
             return Ok(());

@@ -9,7 +9,7 @@ lists-init c = c.new-lists.ensures.items
 
 pub lists-preserved : goal.lists-preserved
 lists-preserved c =
-    c.in-Ok.ensures.items ∙ ap (λ list. c.lists.lists.items ++ list ∷ []) c.new.ensures
+    c.in_ok-push.ensures ∙ ap (λ list. c.lists.lists.items ++ list ∷ []) c.new.ensures
     ∙ ap (λ lists. lists ++ [] ∷ []) c.lists.invariant ∙ replicate_more c.lists._list []
 
 pub returns-clause-long : goal.returns-clause-long
