@@ -1,7 +1,8 @@
 -- The variables of a pattern, and its query.
-use Rattle.std.proofs.Common.{◌≡◌, ◌⊎◌, ◌↔◌, inl, inr, ℕ, suc, ◌+◌, ◌<◌, ◌≤◌, max, List, [], ◌∷◌, length, map, drop, take, get_or, Contains, refl, sym, ap, ◌∙◌}
+use Rattle.std.proofs.Common.{◌≡◌, ◌⊎◌, ◌↔◌, inl, inr, ℕ, suc, ◌+◌, ◌++◌, ◌<◌, ◌≤◌, max, List, [], ◌∷◌, length, map, drop, take, get_or, Contains, refl, sym, ap, ◌∙◌}
 use Rattle.std.proofs.Common.{subst, arith}
 use Rattle.std.proofs.lemmas.List.{drop_all, get_or_default}
+use Rattle.std.proofs.lemmas.List.Elements.{Contains-append_left, Contains-push, Contains-push_cases}
 use Rattle.std.specs.FinMap.{insert}
 use Rattle.std.specs.Prelude.{Result, Ok, Err, OnOk}
 use Rattle.esto_term.proofs.ListLemmas.{Contains-nil, Contains-cases, Contains-map_from, each_more}
@@ -168,6 +169,22 @@ given_end known variables row i {whole} past so_far =
 pub on_ok_then : {T E : Type 0} {P Q : Type 0} (result : Result T E) → (P → Q) → OnOk result P → OnOk result Q
 on_ok_then (Ok value) f known = f known
 on_ok_then (Err error) f known = tt
+
+-- the variable that is put at the end is the term's
+pub variable_put : (old new : List ℕ) (term : Term) (variable : ℕ) → term ≡ Plain variable → new ≡ old ++ variable ∷ []
+    → Adds old new (λ v. term ≡ Plain v)
+variable_put old new term variable is put v = (
+  λ inside. elim (Contains-push_cases old variable v (subst (λ (them : List ℕ). Contains them v) put inside)) [
+    | inl there ↦ inl there
+    | inr same ↦ inr (is ∙ ap Plain same)
+  ],
+  λ either. subst (λ (them : List ℕ). Contains them v) (sym put) (elim either [
+    | inl there ↦ Contains-append_left old (variable ∷ []) v there
+    | inr same ↦ subst (Contains (old ++ variable ∷ [])) (same_variable variable v (sym is ∙ same)) (Contains-push old variable)
+  ]),
+) where
+  same_variable : (a b : ℕ) → Plain a ≡ Plain b → a ≡ b
+  same_variable a b e = cc e
 
 pub variables_all : (first now sorted : List ℕ) (slice entries : List Entry) → first ≡ [] → slice ≡ entries
     → Adds first now (λ v. Mentions (entries_of slice) (Plain v)) → ((v : ℕ) → Contains sorted v ↔ Contains now v) → AreVariables (entries_of entries) sorted

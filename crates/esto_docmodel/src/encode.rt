@@ -8,7 +8,7 @@ ghost use Rattle.esto_docmodel.specs.Shapes.{entries_of};
 
 use crate::pattern::{Entry, Pattern, Step};
 use esto_semantics::{Atoms, Fact, Facts};
-use esto_term::{List, OutOfMemory, Replicate, Term, Text};
+use esto_term::{List, OutOfMemory, Replicate, Term, Terms, Text};
 use std::alloc::Global;
 
 /// The facts of documents, and the first number that is no node's.
@@ -52,6 +52,16 @@ pub fn put_one(
     facts.push(Fact { relation, terms })
 }
 
+// A node and a term, in a list with room for so many.
+fn two_terms(alloc: Global, room: usize, node: u64, term: Term) -> Result<Terms, OutOfMemory>
+    ensures { IfOk result (λ it. it ≡ Plain node ∷ term ∷ []) }
+{
+    let mut terms = List::with_room(alloc, room)?;
+    terms.push(Term::Plain(node))?;
+    terms.push(term)?;
+    Ok(terms)
+}
+
 /// Puts a fact over a node and a term.
 pub fn put_two(
     alloc: Global,
@@ -63,9 +73,7 @@ pub fn put_two(
     ensures { OnOk result (facts.new ≡ facts.old
         ++ fact_over relation (Plain node ∷ term ∷ []) ∷ []) }
 {
-    let mut terms = List::with_room(alloc, 2)?;
-    terms.push(Term::Plain(node))?;
-    terms.push(term)?;
+    let terms = two_terms(alloc, 2, node, term)?;
     facts.push(Fact { relation, terms })
 }
 
@@ -81,9 +89,8 @@ pub fn put_named(
     ensures { OnOk result (facts.new ≡ facts.old
         ++ fact_over relation (Plain node ∷ Const name.now ∷ Plain other ∷ []) ∷ []) }
 {
-    let mut terms = List::with_room(alloc, 3)?;
-    terms.push(Term::Plain(node))?;
-    terms.push(Term::Const(Text::from_str(alloc, name)?))?;
+    let name = Text::from_str(alloc, name)?;
+    let mut terms = two_terms(alloc, 3, node, Term::Const(name))?;
     terms.push(Term::Plain(other))?;
     facts.push(Fact { relation, terms })
 }
@@ -132,6 +139,22 @@ fn put_path(
     Ok((node, next))
 }
 
+// Puts the atom of a value.
+fn put_term(
+    alloc: Global,
+    body: &mut Atoms,
+    base: usize,
+    node: u64,
+    term: &Term,
+) -> Result<(), OutOfMemory>
+    requires { base + 4 ≤ 18446744073709551615 }
+    ensures { OnOk result (body.new ≡ body.old
+        ++ fact_over (base + 3) (Plain node ∷ term.now ∷ []) ∷ []) }
+{
+    let term = term.copy(alloc)?;
+    put_two(alloc, body, base + 3, node, term)
+}
+
 /// Puts the atoms of an entry.
 #[cycle(entry)]
 fn put_entry(
@@ -150,7 +173,7 @@ fn put_entry(
     match entry {
         Entry::Value(path, term) => {
             let (end, next) = put_path(alloc, body, base, path.items(), node, next)?;
-            put_two(alloc, body, base + 3, end, term.copy(alloc)?)?;
+            put_term(alloc, body, base, end, term)?;
             Ok(next)
         }
         Entry::Group(path, entries) => {

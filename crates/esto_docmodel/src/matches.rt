@@ -19,7 +19,7 @@ use crate::pattern::{Entry, Pattern};
 use crate::tree::Tree;
 use esto_query::{Name, Names, Query, answers};
 use esto_semantics::{Atom, Valuation};
-use esto_term::{List, OutOfMemory, Replicate, Term, TermRows, Terms, Text};
+use esto_term::{List, OutOfMemory, Replicate, Term, TermRows, Terms, Text, push};
 use std::alloc::Global;
 
 /// A list of valuations.
@@ -43,10 +43,7 @@ fn put_variable(variables: &mut Vec<u64>, term: &Term) -> Result<(), OutOfMemory
     let Term::Plain(variable) = term else {
         return Ok(());
     };
-    let Ok(()) = variables.push(*variable) else {
-        return Err(OutOfMemory);
-    };
-    Ok(())
+    push(variables, *variable)
 }
 
 /// Puts the variables that stand after `:` in the entry.
@@ -141,7 +138,8 @@ fn query_of(alloc: Global, pattern: &Pattern, variables: &[u64]) -> Result<Query
     ensures body { IfOk result (λ query. IsEncoding (entries_of pattern.now.entries) query.body) }
 {
     let root = greater(variables)?;
-    let encoded = encode_pattern(alloc, 0, pattern, root, after(root)?)?;
+    let next = after(root)?;
+    let encoded = encode_pattern(alloc, 0, pattern, root, next)?;
     let names = hidden(alloc, encoded.next)?;
     let head = head_of(alloc, variables)?;
     Ok(Query {
@@ -220,7 +218,8 @@ fn valuation_of(alloc: Global, variables: &[u64], row: &[Term]) -> Result<Valuat
 {
     let mut valuation = Valuation::new(alloc);
     'variables: for (place, variable) in variables.iter().enumerate() {
-        valuation.bind(*variable, row[place + 1].copy(alloc)?)?;
+        let term = row[place + 1].copy(alloc)?;
+        valuation.bind(*variable, term)?;
     }
     Ok(valuation)
 }
@@ -236,7 +235,8 @@ fn valuations_of(
 {
     let mut valuations = List::new(alloc);
     'rows: for row in rows {
-        valuations.push(valuation_of(alloc, variables, row.items())?)?;
+        let valuation = valuation_of(alloc, variables, row.items())?;
+        valuations.push(valuation)?;
     }
     Ok(valuations)
 }
@@ -258,8 +258,7 @@ pub fn match_asked(
     ensures ascending { IfOk result (AllPairs ComesBefore) }
 {
     let rows = rows_of(alloc, pattern, asked, tree)?;
-    let valuations = valuations_of(alloc, asked.variables.as_slice(), rows.items())?;
-    Ok(valuations)
+    valuations_of(alloc, asked.variables.as_slice(), rows.items())
 }
 
 /// The matches of a pattern in a tree by the pattern's own meaning: each once, as a valuation that gives a text to each

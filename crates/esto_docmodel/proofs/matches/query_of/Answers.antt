@@ -8,8 +8,8 @@ invariant_of-result c =
     let entries = entries_of c.args.pattern.now.entries in
     let above = c.in_ok-root.ensures in
     record {
-      sound = ∣ sound_query entries c.args.variables.now c.in_ok-root.root c.in_ok-after.field-0 c.requires.flat c.requires.variables above
-          c.in_ok-after.ensures
+      sound = ∣ sound_query entries c.args.variables.now c.in_ok-root.root c.in_ok-next.next c.requires.flat c.requires.variables above
+          c.in_ok-next.ensures
           c.in_ok-head.head c.in_ok-encoded.encoded.atoms c.in_ok-names.names c.in_ok-head.ensures c.in_ok-encoded.ensures.atoms
           (c.in_ok-names.ensures ∙ c.in_ok-encoded.ensures.next) ∣₁;
     }
@@ -18,7 +18,7 @@ pub returns-clause-body : goal.returns-clause-body
 returns-clause-body c =
     let entries = entries_of c.args.pattern.now.entries in (
       c.in_ok-root.root,
-      c.in_ok-after.field-0,
-      fresh_numbers entries c.args.variables.now c.in_ok-root.root c.in_ok-after.field-0 c.requires.variables c.in_ok-root.ensures c.in_ok-after.ensures,
+      c.in_ok-next.next,
+      fresh_numbers entries c.args.variables.now c.in_ok-root.root c.in_ok-next.next c.requires.variables c.in_ok-root.ensures c.in_ok-next.ensures,
       c.in_ok-encoded.ensures.atoms,
     )

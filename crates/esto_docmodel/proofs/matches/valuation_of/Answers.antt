@@ -10,7 +10,7 @@ variables-preserved c =
     given_turn c.variables.valuation c.bind.new.self c.args.variables.now c.args.row.now c.variables.place (get_or c.args.variables.now c.variables.place 0) _
     c.variables-test.true (omega (arith, c.variables-test.true, c.requires))
     (get_or_default c.args.variables.now c.variables.place 0 _ c.variables-test.true) c.index-row-place.is
-    (c.in_ok-bind.ensures.ok ∙ ap (λ (term : Term). insert c.variables.valuation (get_or c.args.variables.now c.variables.place 0) term) c.in_ok-copy.ensures)
+    (c.in_ok-bind.ensures.ok ∙ ap (λ (term : Term). insert c.variables.valuation (get_or c.args.variables.now c.variables.place 0) term) c.in_ok-term.ensures)
     c.variables.invariant
 
 pub returns : goal.returns

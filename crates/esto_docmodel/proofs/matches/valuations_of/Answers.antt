@@ -15,7 +15,7 @@ rows-preserved c =
     map_more (valuation_of c.args.variables.now) c.args.rows.now c.rows.row-index c.row-item.result c.rows.valuations c.push.new.self c.rows-test.true
     c.row-item.is
     (c.in_ok-push.ensures.ok ∙ ap (λ it. c.rows.valuations ++ it ∷ [])
-    (c.in_ok-valuation_of.ensures ∙ ap (valuation_of c.args.variables.now) c.items.ensures)) c.rows.invariant
+    (c.in_ok-valuation.ensures ∙ ap (valuation_of c.args.variables.now) c.items.ensures)) c.rows.invariant
 
 pub returns : goal.returns
 returns c = c.rows.invariant ∙ ap (map (valuation_of c.args.variables.now)) (take_all c.rows.row-index c.args.rows.now c.rows-test.false)
