@@ -22,7 +22,8 @@ pub fn constants(alloc: Global, cells: &[Text]) -> Result<Terms, OutOfMemory>
 {
     let mut terms = List::with_room(alloc, cells.len())?;
     'cells: for cell in cells {
-        terms.push(constant(alloc, cell)?)?;
+        let term = constant(alloc, cell)?;
+        terms.push(term)?;
     }
     Ok(terms)
 }
@@ -52,8 +53,7 @@ fn put_row<'a>(
         return Ok(());
     }
     let fact = fact_of(alloc, relation, row)?;
-    facts.push(fact)?;
-    Ok(())
+    facts.push(fact)
 }
 
 /// The facts of a table's rows: each row as a fact of the relation over its cells as constants, a repeated row once, in
@@ -103,8 +103,7 @@ fn put_moved(
     ensures { OnOk result (facts.new ≡ facts.old ++ row_fact relation row ∷ []) }
 {
     let terms = moved_constants(alloc, row)?;
-    facts.push(Fact { relation, terms })?;
-    Ok(())
+    facts.push(Fact { relation, terms })
 }
 
 // The rows as facts, whose cells are moved and not copied.
