@@ -14,6 +14,5 @@ pub fn pair_facts(alloc: Global, relation: usize, rows: &TextRows) -> Result<Fac
     ensures pairs { IfOk result (λ it. AreRowFacts relation rows.now it) }
     ensures columns { IfOk result (λ it. All (λ fact. length fact.terms ≡ 3) it) }
 {
-    let facts = table_facts(alloc, relation, rows)?;
-    Ok(facts)
+    table_facts(alloc, relation, rows)
 }
