@@ -94,8 +94,7 @@ impl Entries {
             → (atom : ℕ) → Has entry.product atom ↔ Contains (leaves_of why) atom) }
     {
         entries_are_reasoned(self);
-        let why = why_of(alloc, self.entries.items(), at)?;
-        Ok(why)
+        why_of(alloc, self.entries.items(), at)
     }
 
     /// The minimal products of the entries with that claim, where an equality of two terms is one claim in either order.
@@ -106,8 +105,7 @@ impl Entries {
             → Contains products.sets set ↔ IsMinimal (IsProductOf self.now claim.now) set) }
     {
         entries_are_reasoned(self);
-        let products = products_among(alloc, self.entries.items(), claim)?;
-        Ok(products)
+        products_among(alloc, self.entries.items(), claim)
     }
 }
 

@@ -16,7 +16,8 @@ pub fn terms_of(alloc: Global, atoms: &[Atom]) -> Result<Terms, OutOfMemory>
 {
     let mut terms = List::new(alloc);
     'atoms: for atom in atoms {
-        terms.append(atom.terms.copy(alloc)?)?;
+        let own = atom.terms.copy(alloc)?;
+        terms.append(own)?;
     }
     Ok(terms)
 }
@@ -26,7 +27,8 @@ pub fn followed(alloc: Global, terms: &Terms, others: &Terms) -> Result<Terms, O
     ensures { IfOk result (λ it. it ≡ terms.now ++ others.now) }
 {
     let mut all = terms.copy(alloc)?;
-    all.append(others.copy(alloc)?)?;
+    let others = others.copy(alloc)?;
+    all.append(others)?;
     Ok(all)
 }
 
@@ -67,7 +69,8 @@ pub fn taken_terms(
 {
     let mut taken = List::new(alloc);
     'terms: for term in terms {
-        taken.push(taken_term(from, to, term).copy(alloc)?)?;
+        let met = taken_term(from, to, term).copy(alloc)?;
+        taken.push(met)?;
     }
     Ok(taken)
 }
@@ -113,7 +116,8 @@ pub fn made_fact(
 {
     let mut terms = List::new(alloc);
     'terms: for term in atom.terms.items() {
-        terms.push(made_term(alloc, number, from, to, values, term)?)?;
+        let made = made_term(alloc, number, from, to, values, term)?;
+        terms.push(made)?;
     }
     Ok(Atom {
         relation: atom.relation,

@@ -30,14 +30,16 @@ impl Replicate for Why {
             Why::Step(number, parts) => {
                 let mut copied = List::new(alloc);
                 'parts: for part in parts.items() {
-                    copied.push(part.copy(alloc)?)?;
+                    let part = part.copy(alloc)?;
+                    copied.push(part)?;
                 }
                 Ok(Why::Step(*number, copied))
             }
             Why::Same(parts) => {
                 let mut copied = List::new(alloc);
                 'same: for part in parts.items() {
-                    copied.push(part.copy(alloc)?)?;
+                    let part = part.copy(alloc)?;
+                    copied.push(part)?;
                 }
                 Ok(Why::Same(copied))
             }
@@ -80,7 +82,8 @@ fn whys_of(
 {
     let mut whys = List::new(alloc);
     'places: for place in places {
-        whys.push(why_of(alloc, entries, *place)?)?;
+        let why = why_of(alloc, entries, *place)?;
+        whys.push(why)?;
     }
     Ok(whys)
 }

@@ -6,7 +6,7 @@ use Rattle.esto_prov.proofs.taking.made_fact.Goals as goal
 pub terms-preserved : goal.terms-preserved
 terms-preserved c =
     let becomes = made_of c.args.number c.args.from.now c.args.to.now c.args.values.now in
-    c.in_ok-push.ensures.ok ∙ (λ i. c.terms.invariant i ++ (c.in_ok-made_term.ensures ∙ ap becomes c.term-item.is) i ∷ [])
+    c.in_ok-push.ensures.ok ∙ (λ i. c.terms.invariant i ++ (c.in_ok-made.ensures ∙ ap becomes c.term-item.is) i ∷ [])
     ∙ sym (map_more becomes c.items-term-items.result.now c.terms.term-index c.term-item.result c.terms-test.true)
 
 pub returns : goal.returns

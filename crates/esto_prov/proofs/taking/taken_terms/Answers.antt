@@ -6,7 +6,7 @@ use Rattle.esto_prov.proofs.taking.taken_terms.Goals as goal
 pub terms-preserved : goal.terms-preserved
 terms-preserved c =
     let becomes = taken c.args.from.now c.args.to.now in
-    c.in_ok-push.ensures.ok ∙ (λ i. c.terms.invariant i ++ (c.in_ok-copy.ensures ∙ c.taken_term.ensures ∙ ap becomes c.term-item.is) i ∷ [])
+    c.in_ok-push.ensures.ok ∙ (λ i. c.terms.invariant i ++ (c.in_ok-met.ensures ∙ c.taken_term.ensures ∙ ap becomes c.term-item.is) i ∷ [])
     ∙ sym (map_more becomes c.args.terms.now c.terms.term-index c.term-item.result c.terms-test.true)
 
 pub returns : goal.returns

@@ -56,5 +56,5 @@ whys_of-why_of-requires t c =
 
 pub whys_of-places-preserved : goal.whys_of-places-preserved
 whys_of-places-preserved t c =
-    whys_more c.args.entries.now c.args.places.now c.places.whys c.push.new.self c.places.place-index c.in_ok-why_of.field-0 c.places-test.true
-    c.places.invariant c.in_ok-why_of.ensures c.in_ok-push.ensures.ok
+    whys_more c.args.entries.now c.args.places.now c.places.whys c.push.new.self c.places.place-index c.in_ok-why.why c.places-test.true
+    c.places.invariant c.in_ok-why.ensures c.in_ok-push.ensures.ok

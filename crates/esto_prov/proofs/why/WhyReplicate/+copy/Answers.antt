@@ -6,12 +6,12 @@ use Rattle.esto_prov.proofs.why.WhyReplicate.+copy.Goals as goal
 
 pub parts-preserved : goal.parts-preserved
 parts-preserved t c =
-    c.in_ok-push-in-Step.ensures.ok ∙ (λ i. c.parts.invariant i ++ c.in_ok-copy-in-Step.ensures i ∷ [])
+    c.in_ok-push-in-Step.ensures.ok ∙ (λ i. c.parts.invariant i ++ c.in_ok-part-in-Step.ensures i ∷ [])
     ∙ sym (take-item _ _ c.part-item.result c.parts-test.true c.part-item.is)
 
 pub same-preserved : goal.same-preserved
 same-preserved t c =
-    c.in_ok-push-in-Same.ensures.ok ∙ (λ i. c.same.invariant i ++ c.in_ok-copy-in-Same.ensures i ∷ [])
+    c.in_ok-push-in-Same.ensures.ok ∙ (λ i. c.same.invariant i ++ c.in_ok-part-in-Same.ensures i ∷ [])
     ∙ sym (take-item _ _ c.part-item-in-same.result c.same-test.true c.part-item-in-same.is)
 
 pub returns-after-parts : goal.returns-after-parts
