@@ -140,15 +140,15 @@ pub row_long : (rows : CodedRows) (at : ℕ) (row given : List ℕ) → slice_ge
     → length given ≡ rows.arity
 row_long rows at row given is same fits = ap length same ∙ fits row (Contains-at rows.rows at row is)
 
-pub push_row_more : (start into new : CodedRows) (rows : List (List ℕ)) (count : ℕ) (row given : List ℕ) → count < length rows
-    → slice_get rows count ≡ Some row → given ≡ row → into ≡ record { arity = start.arity; rows = start.rows ++ take count rows }
-    → new ≡ record { arity = into.arity; rows = into.rows ++ given ∷ [] }
+pub push_row_more : (start into new : CodedRows) (rows : List (List ℕ)) (count : ℕ) → count < length rows
+    → into ≡ record { arity = start.arity; rows = start.rows ++ take count rows }
+    → new ≡ record { arity = into.arity; rows = into.rows ++ get_or rows count [] ∷ [] }
     → new ≡ record { arity = start.arity; rows = start.rows ++ take (count + 1) rows }
-push_row_more start into new rows count row given below at same so_far is =
-    is ∙ ap (λ (it : CodedRows). record { arity = it.arity; rows = it.rows ++ given ∷ [] }) so_far
+push_row_more start into new rows count below so_far is =
+    is ∙ ap (λ (it : CodedRows). record { arity = it.arity; rows = it.rows ++ get_or rows count [] ∷ [] }) so_far
     ∙ ap (λ them. record { arity = start.arity; rows = them })
-    (append_assoc start.rows (take count rows) (given ∷ []) ∙ ap (λ them. start.rows ++ them)
-    (sym (take_more rows count row below ∙ ap (λ it. take count rows ++ it ∷ []) (get_or_from_slice_get rows count row row at ∙ sym same))))
+    (append_assoc start.rows (take count rows) (get_or rows count [] ∷ [])
+    ∙ ap (λ them. start.rows ++ them) (sym (take_more rows count [] below)))
 
 pub inputs_turn : (links items : List Link) (codes : List ℕ) (inputs new : List Input) (count : ℕ) (default : Link) → items ≡ links
     → length codes ≡ length links → count < length items → inputs ≡ inputs_with (take count items) codes

@@ -21,6 +21,10 @@ row_pushed cells head old new row given named same grown it = (
   ]),
 )
 
+pub row_unnamed : (cells : List ℕ) (head : List Source) (old : List (List ℕ)) → ((codes : List ℕ) × NamesCodes cells head codes → ⊥)
+    → GainsOnly old old (NamesCodes cells head)
+row_unnamed cells head old none it = (λ has. inl has, λ has. elim has [ inl before ↦ before | inr named ↦ absurd (none (it, named)) ])
+
 pub put_gains : (old new : List (List ℕ)) (row : List ℕ) → new ≡ old ++ row ∷ [] → GainsOnly old new (λ it. row ≡ it)
 put_gains old new row grown it = (
   λ has. Contains-push_cases old row it (subst (λ them. Contains them it) grown has),

@@ -1,11 +1,11 @@
 //! The rows of a fragment that rows so far ask for.
-ghost use Rattle.std.specs.Prelude.{◌≡◌, ◌++◌, ◌⊎◌, ◌<◌, [], List, ℕ, length, map, slice_index_or, Contains, IfOk, OnOk};
+ghost use Rattle.std.specs.Prelude.{◌≡◌, ◌++◌, ◌∷◌, ◌⊎◌, ◌<◌, [], List, ℕ, length, map, slice_index_or, Contains, IfOk, OnOk};
 ghost use Rattle.std.specs.List.{filter};
 ghost use Rattle.esto_columns.specs.Asked.{IsAllowed, holds_all};
 ghost use Rattle.esto_steps.specs.Meaning.{Follows};
 ghost use Rattle.esto_steps.specs.Inputs.{inputs_with, AreAnswered};
 
-use crate::codes::codes_at;
+use crate::codes::name_codes;
 use crate::links::sources_of;
 use crate::seen::Seen;
 use crate::steps::{Get, Links, Sources};
@@ -28,6 +28,25 @@ fn inputs_of(alloc: Global, links: &Links, codes: &[u64]) -> Result<Inputs, OutO
     Ok(inputs)
 }
 
+/// Puts the row at the place at the end of the others. It is read into the list.
+pub(crate) fn push_row(
+    rows: &Rows,
+    at: usize,
+    row: &mut Values<u64>,
+    into: &mut Rows,
+) -> Result<(), OutOfMemory>
+    requires there { at < length rows.now.rows }
+    requires arity { into.old.arity ≡ rows.now.arity }
+    ensures { OnOk result (into.new ≡ record {
+      arity = into.old.arity;
+      rows = into.old.rows ++ slice_index_or rows.now.rows at [] ∷ [];
+    }) }
+{
+    let _arity = rows.arity();
+    rows.read_row(at, row)?;
+    into.add(row.items())
+}
+
 /// Puts the rows at the end, one by one.
 fn push_rows(alloc: Global, rows: &Rows, into: &mut Rows) -> Result<(), OutOfMemory>
     requires { into.old.arity ≡ rows.now.arity }
@@ -36,11 +55,9 @@ fn push_rows(alloc: Global, rows: &Rows, into: &mut Rows) -> Result<(), OutOfMem
       rows = into.old.rows ++ rows.now.rows;
     }) }
 {
-    let _arity = rows.arity();
     let mut row = Values::new(alloc);
     'rows: for at in 0..rows.len() {
-        rows.read_row(at, &mut row)?;
-        into.add(row.items())?;
+        push_row(rows, at, &mut row, into)?;
     }
     Ok(())
 }
@@ -68,6 +85,7 @@ fn push_asked<F: Fragment>(
 }
 
 /// Asks the fragment for the rows that have the inputs of the row so far at the place, if they are not asked for yet.
+/// The inputs are read into the list.
 fn ask<F: Fragment>(
     alloc: Global,
     get: &Get,
@@ -75,6 +93,7 @@ fn ask<F: Fragment>(
     so_far: &Rows,
     at: usize,
     sources: &Sources,
+    key: &mut Values<u64>,
     seen: &mut Seen,
     asked: &mut Rows,
 ) -> Result<(), OutOfMemory>
@@ -97,9 +116,9 @@ fn ask<F: Fragment>(
         → (row : List ℕ) → Contains (F.rows fragment.now) row
         → Follows get.now (slice_index_or so_far.now.rows at []) row → Contains asked.new.rows row) }
 {
-    let Some(key) = codes_at(alloc, so_far, at, sources)? else {
+    if !name_codes(&[], so_far, at, sources, key)? {
         return Ok(());
-    };
+    }
     if seen.has(key.items()) {
         return Ok(());
     }
@@ -127,8 +146,11 @@ fn ask_each<F: Fragment>(
         → Contains so_far.now.rows cells → Contains (F.rows fragment.now) row
         → Follows get.now cells row → Contains asked.new.rows row) }
 {
+    let mut key = Values::new(alloc);
     'rows: for at in 0..so_far.len() {
-        ask(alloc, get, fragment, so_far, at, sources, seen, asked)?;
+        ask(
+            alloc, get, fragment, so_far, at, sources, &mut key, seen, asked,
+        )?;
     }
     Ok(())
 }

@@ -1,13 +1,12 @@
 //! Codes that sources name in a row so far and in a row of a fragment, and links that rows meet.
-ghost use Rattle.std.specs.Prelude.{◌≡◌, ◌↔◌, ◌++◌, ◌<◌, [], List, ℕ, Some, length, slice_get, slice_index_or, Contains, IfOk, IsTrue, MatchOption};
+ghost use Rattle.std.specs.Prelude.{◌≡◌, ◌↔◌, ◌++◌, ◌<◌, [], List, ℕ, Some, length, slice_get, slice_index_or, Contains, IfOk, IsTrue};
 ghost use Rattle.esto_steps.specs.declared.steps.Link.{Link};
 ghost use Rattle.esto_steps.specs.Meaning.{code_at, IsMet};
-ghost use Rattle.esto_steps.specs.Named.{NamesCodes, Names};
+ghost use Rattle.esto_steps.specs.Named.{Names};
 
 use crate::steps::{Links, Source, Sources};
 use esto_columns::Rows;
 use esto_term::{OutOfMemory, Values};
-use std::alloc::Global;
 
 /// The code that the source names in the cells of a row.
 pub(crate) fn code_at(cells: &[u64], source: &Source) -> Option<u64>
@@ -58,25 +57,6 @@ pub(crate) fn name_codes(
         codes.push(code)?;
     }
     Ok(true)
-}
-
-/// The codes that the sources name in the row at the place, where each names one.
-pub(crate) fn codes_at(
-    alloc: Global,
-    rows: &Rows,
-    place: usize,
-    sources: &Sources,
-) -> Result<Option<Values<u64>>, OutOfMemory>
-    requires { place < length rows.now.rows }
-    ensures { IfOk result (λ it. MatchOption it
-        (¬ ((codes : List ℕ) × NamesCodes (slice_index_or rows.now.rows place []) sources.now codes))
-        (NamesCodes (slice_index_or rows.now.rows place []) sources.now)) }
-{
-    let mut codes = Values::new(alloc);
-    if !name_codes(&[], rows, place, sources, &mut codes)? {
-        return Ok(None);
-    }
-    Ok(Some(codes))
 }
 
 /// Whether the row at the place has the code in the column, where it is one.

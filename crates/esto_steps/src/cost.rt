@@ -87,6 +87,18 @@ fn cheapest(
     Ok(best)
 }
 
+/// The link of the number alone, or none past the end.
+fn link_alone(alloc: Global, links: &Links, number: usize) -> Result<Links, OutOfMemory>
+    ensures { IfOk result (λ it. (link : Link) → Contains it link → Contains links.now link) }
+{
+    let mut alone = List::new(alloc);
+    if number >= links.len() {
+        return Ok(alone);
+    }
+    alone.push(*links.item(number))?;
+    Ok(alone)
+}
+
 /// The one of the links by which the rows are found with about the fewest looks, as some of the rows so far tell, where
 /// they have an index by its column and it seems cheap; else none.
 pub(crate) fn cheap_links(
@@ -98,11 +110,7 @@ pub(crate) fn cheap_links(
     ensures { IfOk result (λ it. (link : Link) → Contains it link → Contains links.now link) }
 {
     let best = cheapest(alloc, so_far, rows, links)?;
-    let mut cheap = List::new(alloc);
-    if best < links.len() {
-        cheap.push(*links.item(best))?;
-    }
-    Ok(cheap)
+    link_alone(alloc, links, best)
 }
 
 /// How many places are on the key's chain; one more than so many where there are more.

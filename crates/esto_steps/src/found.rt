@@ -1,4 +1,6 @@
-//! How many of a table's rows have one of some keys. Nothing rests on it but speed, so nothing here has a contract.
+//! How many of a table's rows have one of some keys. Nothing rests on it but speed, so nothing here says what it gives.
+ghost use Rattle.std.specs.Prelude.{◌<◌, length};
+
 use crate::links::columns_of;
 use crate::sample::{place_in, read_key, scaled};
 use crate::seen::Seen;
@@ -16,12 +18,14 @@ const MOST: usize = 65_536;
 /// How many of the places that an index gives for a key are looked at.
 const PER_KEY: usize = 512;
 
-/// How many rows were counted, how many places were found for their keys, and a key that is read anew for each.
+/// How many rows were counted, how many places were found for their keys, and two keys that are read anew: the one that
+/// is looked for, and that of a row.
 #[derive(Drop)]
 struct Counts {
     rows: usize,
     places: usize,
     key: Values<u64>,
+    own: Values<u64>,
 }
 
 impl Counts {
@@ -31,6 +35,7 @@ impl Counts {
             rows: 0,
             places: 0,
             key: Values::new(alloc),
+            own: Values::new(alloc),
         }
     }
 }
@@ -84,41 +89,61 @@ fn count_key(
     Ok(scaled(count, looked, places.len()))
 }
 
-/// The places that the index by the column gives for the code of the number in the key, if there are such ones.
+/// The places that the index by the column gives for the code of the number in the key at the place, if there are such
+/// ones. The key is read into the list.
 fn places_of(
     alloc: Global,
     rows: &Rows,
     column: usize,
     number: usize,
-    key: &[u64],
-) -> Result<Option<Vec<usize>>, OutOfMemory> {
-    let Some(code) = key.get(number) else {
+    keys: &Rows,
+    at: usize,
+    key: &mut Values<u64>,
+) -> Result<Option<Vec<usize>>, OutOfMemory>
+    requires { at < length keys.now.rows }
+{
+    keys.read_row(at, key)?;
+    let Some(code) = key.items().get(number) else {
         return Ok(None);
     };
     rows.places(alloc, &[column], &[*code])
 }
 
-/// Counts the rows that have the key in the columns, by the index by the one of the number, and the places that it
-/// gives for the key. Tells whether it serves so far: too many places are not looked at.
+/// Counts those of the rows at the places that have the key in the columns, and the places. Tells whether so many
+/// serve so far: too many are not looked at.
+fn count_places(
+    rows: &Rows,
+    places: &[usize],
+    columns: &Sources,
+    counts: &mut Counts,
+) -> Result<bool, OutOfMemory> {
+    counts.places = counts.places.saturating_add(places.len());
+    if counts.places > MOST {
+        return Ok(false);
+    }
+    let count = count_key(rows, places, columns, counts.key.items(), &mut counts.own)?;
+    counts.rows = counts.rows.saturating_add(count);
+    Ok(true)
+}
+
+/// Counts the rows that have the key at the place in the columns, by the index by the one of the number, and the places
+/// that it gives for the key. Tells whether it serves so far.
 fn count_key_by(
     alloc: Global,
     rows: &Rows,
     column: usize,
     number: usize,
     columns: &Sources,
-    key: &[u64],
+    keys: &Rows,
+    at: usize,
     counts: &mut Counts,
-) -> Result<bool, OutOfMemory> {
-    let Some(places) = places_of(alloc, rows, column, number, key)? else {
-        return Ok(false);
-    };
-    counts.places = counts.places.saturating_add(places.len());
-    if counts.places > MOST {
-        return Ok(false);
+) -> Result<bool, OutOfMemory>
+    requires { at < length keys.now.rows }
+{
+    match places_of(alloc, rows, column, number, keys, at, &mut counts.key)? {
+        Some(places) => count_places(rows, places.as_slice(), columns, counts),
+        None => Ok(false),
     }
-    let count = count_key(rows, places.as_slice(), columns, key, &mut counts.key)?;
-    counts.rows = counts.rows.saturating_add(count);
-    Ok(true)
 }
 
 /// How many of the rows have one of the keys in the columns, by the index by the one of the number; none where it gives
@@ -132,18 +157,8 @@ fn count_by(
     keys: &Rows,
 ) -> Result<Option<usize>, OutOfMemory> {
     let mut counts = Counts::new(alloc);
-    let mut key = Values::new(alloc);
     'keys: for at in 0..keys.len() {
-        keys.read_row(at, &mut key)?;
-        if !count_key_by(
-            alloc,
-            rows,
-            column,
-            number,
-            columns,
-            key.items(),
-            &mut counts,
-        )? {
+        if !count_key_by(alloc, rows, column, number, columns, keys, at, &mut counts)? {
             return Ok(None);
         }
     }
@@ -161,8 +176,8 @@ fn first_count(
     if keys.len() == 0 {
         return Ok(0);
     }
-    let key = keys.row(alloc, 0)?;
-    match places_of(alloc, rows, column, number, key.items())? {
+    let mut key = Values::new(alloc);
+    match places_of(alloc, rows, column, number, keys, 0, &mut key)? {
         Some(places) => Ok(places.len()),
         None => Ok(usize::MAX),
     }
@@ -183,6 +198,24 @@ fn best_link(alloc: Global, links: &Links, rows: &Rows, keys: &Rows) -> Result<u
     Ok(best)
 }
 
+/// How many of the table's rows have one of the keys in the columns, which are those of the links, about.
+fn count_in(
+    alloc: Global,
+    links: &Links,
+    table: &Rows,
+    columns: &Sources,
+    keys: &Seen,
+) -> Result<usize, OutOfMemory> {
+    let best = best_link(alloc, links, table, keys.rows())?;
+    if best < links.len() {
+        let column = links.item(best).column;
+        if let Some(count) = count_by(alloc, table, column, best, columns, keys.rows())? {
+            return Ok(count);
+        }
+    }
+    count_some(alloc, table, columns, keys)
+}
+
 /// How many of the table's rows have one of the keys in the columns of the links, about: by an index by one of these
 /// where it serves, and else by a look at some of the rows.
 pub(crate) fn count_found(
@@ -192,12 +225,5 @@ pub(crate) fn count_found(
     keys: &Seen,
 ) -> Result<usize, OutOfMemory> {
     let columns = columns_of(alloc, links)?;
-    let best = best_link(alloc, links, table, keys.rows())?;
-    if best < links.len() {
-        let column = links.item(best).column;
-        if let Some(count) = count_by(alloc, table, column, best, &columns, keys.rows())? {
-            return Ok(count);
-        }
-    }
-    count_some(alloc, table, &columns, keys)
+    count_in(alloc, links, table, &columns, keys)
 }

@@ -1,31 +1,30 @@
 //! How many rows there are about once a get is joined. Nothing rests on it but speed, so nothing here has a contract.
-use crate::codes::codes_at;
 use crate::found::count_found;
 use crate::links::sources_of;
+use crate::sample::read_key;
 use crate::seen::Seen;
 use crate::steps::{Links, Sources};
 use esto_columns::Rows;
-use esto_term::OutOfMemory;
+use esto_term::{OutOfMemory, Values};
 use std::alloc::Global;
 
 /// How many of the rows so far a guess looks at.
 const SAMPLE: usize = 64;
 
-/// Puts the codes that the sources name in the row at the place, if there is one, after the keys, if they are new.
+/// Puts the codes that the sources name in the row at the place, if there is one, after the keys, if they are new. They
+/// are read into the list.
 fn put_key(
     alloc: Global,
     rows: &Rows,
     at: usize,
     sources: &Sources,
+    key: &mut Values<u64>,
     keys: &mut Seen,
 ) -> Result<(), OutOfMemory> {
-    if at >= rows.len() {
+    if !read_key(rows, at, sources, key)? {
         return Ok(());
     }
-    match codes_at(alloc, rows, at, sources)? {
-        Some(key) => keys.put_new(alloc, key.items()),
-        None => Ok(()),
-    }
+    keys.put_new(alloc, key.items())
 }
 
 /// Puts the codes that the links name in some of the rows, which are spread evenly over all, after the keys.
@@ -37,10 +36,38 @@ fn put_some_keys(
 ) -> Result<(), OutOfMemory> {
     let step = rows.len() / SAMPLE + 1;
     let sources = sources_of(alloc, links)?;
+    let mut key = Values::new(alloc);
     'sample: for turn in 0..SAMPLE {
-        put_key(alloc, rows, step.saturating_mul(turn), &sources, keys)?;
+        put_key(
+            alloc,
+            rows,
+            step.saturating_mul(turn),
+            &sources,
+            &mut key,
+            keys,
+        )?;
     }
     Ok(())
+}
+
+/// The codes that the links name in some of the rows, each list of codes once.
+fn some_keys(alloc: Global, rows: &Rows, links: &Links) -> Result<Seen, OutOfMemory> {
+    let mut keys = Seen::new(alloc, links.len(), SAMPLE)?;
+    put_some_keys(alloc, rows, links, &mut keys)?;
+    Ok(keys)
+}
+
+/// How many rows there are about once the table's rows are joined by the links with so many rows, some of which have
+/// the keys.
+fn count_joined(
+    alloc: Global,
+    links: &Links,
+    table: &Rows,
+    keys: &Seen,
+    many: usize,
+) -> Result<usize, OutOfMemory> {
+    let found = count_found(alloc, links, table, keys)?;
+    Ok(found.saturating_mul(many) / keys.len().max(1))
 }
 
 /// How many rows there are about once the table's rows are joined by the links: each of the rows so far is taken to
@@ -55,8 +82,6 @@ pub fn guessed_count(
     if links.is_empty() {
         return Ok(so_far.len().saturating_mul(table.len()));
     }
-    let mut keys = Seen::new(alloc, links.len(), SAMPLE)?;
-    put_some_keys(alloc, so_far, links, &mut keys)?;
-    let found = count_found(alloc, links, table, &keys)?;
-    Ok(found.saturating_mul(so_far.len()) / keys.len().max(1))
+    let keys = some_keys(alloc, so_far, links)?;
+    count_joined(alloc, links, table, &keys, so_far.len())
 }

@@ -12,7 +12,7 @@ ghost use Rattle.esto_steps.specs.Named.{NamesCodes};
 
 use crate::codes::{each_met, each_passed, name_codes};
 use crate::index::index_of;
-use crate::links::{columns_of, early_links, sources_of};
+use crate::links::{columns_of, sources_of};
 use crate::seen::{Seen, put_unseen};
 use crate::steps::{Get, Links, Sources};
 use esto_columns::{Index, Rows};
@@ -181,8 +181,7 @@ pub(crate) fn index_by(alloc: Global, rows: &Rows, links: &Links) -> Result<Inde
         (FindsRows rows.now.rows (map (λ link. Cell link.column) links.now)) }
 {
     let columns = columns_of(alloc, links)?;
-    let index = index_of(alloc, rows, &columns)?;
-    Ok(index)
+    index_of(alloc, rows, &columns)
 }
 
 /// Puts what is kept of each of the rows so far with every one of the rows that follows it at the end, by an index of
@@ -209,61 +208,8 @@ fn push_by_index(
     push_each_joined(alloc, join, so_far, rows, &sources, index, into)
 }
 
-/// The same, where the index is made for it.
-fn push_joined_by(
-    alloc: Global,
-    join: &Join,
-    so_far: &Rows,
-    rows: &Rows,
-    links: &Links,
-    into: &mut Seen,
-) -> Result<(), OutOfMemory>
-    requires none { into.old.rows ≡ [] }
-    requires arity { into.old.arity ≡ length join.now.kept.now }
-    requires early { (cells row : List ℕ) → Contains so_far.now.rows cells
-        → Follows join.now.get.now cells row
-        → (link : Link) → Contains links.now link → IsMet cells row link }
-    ensures { OnOk result ((row : List ℕ) → Contains into.new.rows row
-        ↔ IsKept join.now.kept.now (IsJoin join.now.get.now so_far.now.rows rows.now.rows) row) }
-{
-    let index = index_by(alloc, rows, links)?;
-    push_by_index(alloc, join, so_far, rows, links, &index, into)
-}
-
-/// Puts what is kept of each of the rows so far with every one of the rows that follows it at the end.
-fn push_all_joined(
-    alloc: Global,
-    join: &Join,
-    so_far: &Rows,
-    rows: &Rows,
-    into: &mut Seen,
-) -> Result<(), OutOfMemory>
-    requires none { into.old.rows ≡ [] }
-    requires arity { into.old.arity ≡ length join.now.kept.now }
-    ensures { OnOk result ((row : List ℕ) → Contains into.new.rows row
-        ↔ IsKept join.now.kept.now (IsJoin join.now.get.now so_far.now.rows rows.now.rows) row) }
-{
-    let width = so_far.arity();
-    let links = early_links(alloc, join.get, width)?;
-    push_joined_by(alloc, join, so_far, rows, &links, into)
-}
-
-/// What is kept of the rows so far, each with every one of the rows that follows it after it.
-pub(crate) fn joined(
-    alloc: Global,
-    join: &Join,
-    so_far: &Rows,
-    rows: &Rows,
-) -> Result<Rows, OutOfMemory>
-    ensures { IfOk result (λ it. (row : List ℕ) → Contains it.rows row
-        ↔ IsKept join.now.kept.now (IsJoin join.now.get.now so_far.now.rows rows.now.rows) row) }
-{
-    let mut joined = Seen::new(alloc, join.kept.len(), so_far.len())?;
-    push_all_joined(alloc, join, so_far, rows, &mut joined)?;
-    Ok(joined.into_rows())
-}
-
-/// The same by an index of the rows by the columns of the links, which each row meets that follows one so far.
+/// What is kept of the rows so far, each with every one of the rows that follows it after it, by an index of the rows
+/// by the columns of the links, which each row meets that follows one so far.
 pub(crate) fn joined_over(
     alloc: Global,
     join: &Join,
@@ -282,4 +228,22 @@ pub(crate) fn joined_over(
     let mut joined = Seen::new(alloc, join.kept.len(), so_far.len())?;
     push_by_index(alloc, join, so_far, rows, links, index, &mut joined)?;
     Ok(joined.into_rows())
+}
+
+/// The same, where the index is made for it.
+pub(crate) fn joined_linked(
+    alloc: Global,
+    join: &Join,
+    so_far: &Rows,
+    rows: &Rows,
+    links: &Links,
+) -> Result<Rows, OutOfMemory>
+    requires { (cells row : List ℕ) → Contains so_far.now.rows cells
+        → Follows join.now.get.now cells row
+        → (link : Link) → Contains links.now link → IsMet cells row link }
+    ensures { IfOk result (λ it. (row : List ℕ) → Contains it.rows row
+        ↔ IsKept join.now.kept.now (IsJoin join.now.get.now so_far.now.rows rows.now.rows) row) }
+{
+    let index = index_by(alloc, rows, links)?;
+    joined_over(alloc, join, so_far, rows, links, &index)
 }

@@ -4,17 +4,19 @@ ghost use Rattle.std.specs.Prelude.{Contains, IfOk, OnOk, MatchOption};
 ghost use Rattle.esto_steps.specs.declared.steps.Source.TheVariants.{Cell};
 ghost use Rattle.esto_steps.specs.Reads.{own_cells, filter_cells, read_cells, StandFor, AreStood};
 ghost use Rattle.esto_steps.specs.declared.steps.Link.{Link};
+ghost use Rattle.esto_steps.specs.Indexed.{FindsRows};
 ghost use Rattle.esto_steps.specs.Joined.{IsJoin, IsKept};
 ghost use Rattle.esto_steps.specs.Meaning.{IsMet, Follows};
 
+use crate::asked::push_row;
 use crate::codes::name_codes;
 use crate::cost::{are_short, cheap_links, most_looks};
-use crate::join::{Join, index_by, joined, joined_over};
+use crate::join::{Join, index_by, joined_linked, joined_over};
 use crate::links::early_links;
 use crate::probe::joined_reached;
 use crate::seen::Seen;
 use crate::steps::{Link, Links, Source, Sources};
-use esto_columns::Rows;
+use esto_columns::{Index, Rows};
 use esto_term::{List, OutOfMemory, Values};
 use std::alloc::Global;
 
@@ -129,17 +131,14 @@ fn push_first(
     ensures stand { OnOk result (AreStood cells.now (take at rows.now.rows) seen.old.rows few.old.rows
         → AreStood cells.now (take (at + 1) rows.now.rows) seen.new.rows few.new.rows) }
 {
-    let _arity = rows.arity();
     if !name_codes(&[], rows, at, cells, &mut buffers.key)? {
-        rows.read_row(at, &mut buffers.row)?;
-        return few.add(buffers.row.items());
+        return push_row(rows, at, &mut buffers.row, few);
     }
     if seen.has(buffers.key.items()) {
         return Ok(());
     }
     seen.put(alloc, buffers.key.items())?;
-    rows.read_row(at, &mut buffers.row)?;
-    few.add(buffers.row.items())
+    push_row(rows, at, &mut buffers.row, few)
 }
 
 /// Puts the first of the rows for each list of codes in the cells after the few.
@@ -182,25 +181,55 @@ fn firsts(alloc: Global, rows: &Rows, cells: &Sources) -> Result<Rows, OutOfMemo
     Ok(few)
 }
 
-/// The same as `joined`, where the cells are those of the rows that the join reads.
+/// What is kept of the rows so far, each with every one of the rows that follows it after it, where few of the rows are
+/// made to stand for all. Each row that follows one so far meets the links, and the cells are those of the rows that the
+/// join reads.
 fn joined_by(
     alloc: Global,
     join: &Join,
     so_far: &Rows,
     rows: &Rows,
+    links: &Links,
     cells: &Sources,
 ) -> Result<Rows, OutOfMemory>
-    requires { cells.now ≡ read_cells so_far.now.arity join.now.get.now join.now.kept.now }
+    requires cells { cells.now ≡ read_cells so_far.now.arity join.now.get.now join.now.kept.now }
+    requires early { (cells row : List ℕ) → Contains so_far.now.rows cells
+        → Follows join.now.get.now cells row
+        → (link : Link) → Contains links.now link → IsMet cells row link }
     ensures { IfOk result (λ it. (row : List ℕ) → Contains it.rows row
         ↔ IsKept join.now.kept.now (IsJoin join.now.get.now so_far.now.rows rows.now.rows) row) }
 {
     let _arity = so_far.arity();
     let few = firsts(alloc, rows, cells)?;
-    joined(alloc, join, so_far, &few)
+    joined_linked(alloc, join, so_far, &few, links)
 }
 
-/// The same by an index of the rows, where they are read whole or few of them are in the buckets that the rows so far
-/// name; else none. Each row that follows one so far meets the links.
+/// The same by an index of the rows by the columns of the links, where they are read whole or few of them are in the
+/// buckets that the rows so far name; else none. Each row that follows one so far meets the links.
+fn joined_short(
+    alloc: Global,
+    join: &Join,
+    so_far: &Rows,
+    rows: &Rows,
+    links: &Links,
+    index: &Index,
+    whole: bool,
+) -> Result<Option<Rows>, OutOfMemory>
+    requires own { FindsRows rows.now.rows (map (λ link. Cell link.column) links.now) index.now }
+    requires early { (cells row : List ℕ) → Contains so_far.now.rows cells
+        → Follows join.now.get.now cells row
+        → (link : Link) → Contains links.now link → IsMet cells row link }
+    ensures { IfOk result (λ found. MatchOption found Unit (λ it. (row : List ℕ) → Contains it.rows row
+        ↔ IsKept join.now.kept.now (IsJoin join.now.get.now so_far.now.rows rows.now.rows) row)) }
+{
+    if !whole && !are_short(alloc, so_far, rows, links, index)? {
+        return Ok(None);
+    }
+    let joined = joined_over(alloc, join, so_far, rows, links, index)?;
+    Ok(Some(joined))
+}
+
+/// The same, where the index is made for it.
 fn joined_indexed(
     alloc: Global,
     join: &Join,
@@ -216,11 +245,7 @@ fn joined_indexed(
         ↔ IsKept join.now.kept.now (IsJoin join.now.get.now so_far.now.rows rows.now.rows) row)) }
 {
     let index = index_by(alloc, rows, links)?;
-    if !whole && !are_short(alloc, so_far, rows, links, &index)? {
-        return Ok(None);
-    }
-    let joined = joined_over(alloc, join, so_far, rows, links, &index)?;
-    Ok(Some(joined))
+    joined_short(alloc, join, so_far, rows, links, &index, whole)
 }
 
 /// The same by an index of the rows where it serves; else few of the rows are made to stand for all. Each row that
@@ -242,12 +267,12 @@ fn joined_read(
 {
     let whole = has_all(cells, rows.arity());
     if links.is_empty() && !whole {
-        return joined_by(alloc, join, so_far, rows, cells);
+        return joined_by(alloc, join, so_far, rows, links, cells);
     }
     if let Some(joined) = joined_indexed(alloc, join, so_far, rows, links, whole)? {
         return Ok(joined);
     }
-    joined_by(alloc, join, so_far, rows, cells)
+    joined_by(alloc, join, so_far, rows, links, cells)
 }
 
 /// The same, where the rows have no indexes that serve.

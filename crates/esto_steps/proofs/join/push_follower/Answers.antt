@@ -1,10 +1,10 @@
-use Rattle.std.proofs.Common.{◌<◌, [], ◌++◌, get_or, sym, subst, ap, ◌∙◌, arith}
+use Rattle.std.proofs.Common.{◌<◌, [], ◌++◌, get_or, length, refl, sym, subst, ap, ◌∙◌, arith}
 use Rattle.std.proofs.lemmas.Bool.{false≢true}
 use Rattle.std.proofs.lemmas.Option.{slice_get-get_or}
 use Rattle.std.proofs.lemmas.Result.{on_ok_weaker}
 use Rattle.esto_steps.specs.Meaning.{Follows}
 use Rattle.esto_steps.specs.Named.{NamesCodes}
-use Rattle.esto_steps.proofs.NamedLemmas.{names_true, names_false}
+use Rattle.esto_steps.proofs.NamedLemmas.{names_true, names_false, length-named}
 use Rattle.esto_steps.proofs.JoinLemmas.{follower_kept, gains_past, gains_unless, gains_unnamed}
 use Rattle.esto_steps.proofs.join.push_follower.Goals as goal
 
@@ -43,3 +43,35 @@ returns-clause-rows c =
     (subst (NamesCodes both c.args.join.now.kept.now) (sym c.items.ensures)
     (names_true both c.args.join.now.kept.now c.name_codes.new.codes c.in_ok-name_codes.field-0 c.in_ok-name_codes.ensures c.if-not-branch.false)))
     c.put_unseen.ensures.rows
+
+pub returns-then-place-len-clause-cells : goal.returns-then-place-len-clause-cells
+returns-then-place-len-clause-cells c = refl
+
+pub returns-then-place-len-clause-arity : goal.returns-then-place-len-clause-arity
+returns-then-place-len-clause-arity c = refl
+
+pub returns-then-not-follows-clause-cells : goal.returns-then-not-follows-clause-cells
+returns-then-not-follows-clause-cells c = refl
+
+pub returns-then-not-follows-clause-arity : goal.returns-then-not-follows-clause-arity
+returns-then-not-follows-clause-arity c = refl
+
+pub returns-then-not-branch-clause-cells : goal.returns-then-not-branch-clause-cells
+returns-then-not-branch-clause-cells c = refl
+
+pub returns-then-not-branch-clause-arity : goal.returns-then-not-branch-clause-arity
+returns-then-not-branch-clause-arity c = refl
+
+pub put_unseen-requires : goal.put_unseen-requires
+put_unseen-requires c =
+    let both = c.items-cells.result.now ++ get_or c.args.rows.now.rows c.args.place [] in
+    ap length c.items.ensures
+    ∙ length-named both c.args.join.now.kept.now c.name_codes.new.codes
+    (names_true both c.args.join.now.kept.now c.name_codes.new.codes c.in_ok-name_codes.field-0 c.in_ok-name_codes.ensures c.if-not-branch.false)
+    ∙ sym c.requires
+
+pub returns-clause-cells : goal.returns-clause-cells
+returns-clause-cells c = refl
+
+pub returns-clause-arity : goal.returns-clause-arity
+returns-clause-arity c = c.put_unseen.ensures.arity

@@ -1,9 +1,7 @@
 use Rattle.std.proofs.Common.{inl, inr, [], length, get_or, Contains, refl, sym, subst, ap, ◌∙◌}
 use Rattle.std.proofs.lemmas.List.{get_or_default}
 use Rattle.std.proofs.lemmas.List.Elements.{Contains-push_cases}
-use Rattle.std.proofs.lemmas.Option.{get_or_from_slice_get}
 use Rattle.std.proofs.lemmas.Result.{on_ok_weaker}
-use Rattle.esto_term.proofs.ListLemmas.{Contains-at}
 use Rattle.esto_columns.specs.CodedRows.{CodedRows}
 use Rattle.esto_steps.specs.Named.{NamesCodes}
 use Rattle.esto_steps.proofs.NamedLemmas.{names_true, length-named}
@@ -11,12 +9,14 @@ use Rattle.esto_steps.proofs.ReadLemmas.{stood_seen, stood_pushed}
 use Rattle.esto_steps.proofs.reads.push_first.Goals as goal
 
 pub returns-then-not-branch-clause-stand : goal.returns-then-not-branch-clause-stand
-returns-then-not-branch-clause-stand c = on_ok_weaker c.add.result
-    (λ grown before. stood_pushed c.args.cells.now c.args.rows.now.rows c.args.at c.read_row.new.codes c.requires.there
-    (sym (get_or_from_slice_get c.args.rows.now.rows c.args.at c.read_row.new.codes c.read_row.new.codes c.in_ok-read_row.ensures))
-    c.args.seen.now.rows c.args.few.now.rows before c.items.result.now c.args.seen.now.rows c.add.new.self.rows
-    c.items.ensures (ap (λ (it : CodedRows). it.rows) grown) (λ key inside. inl inside))
-    c.add.ensures.ok
+returns-then-not-branch-clause-stand c =
+    let row = get_or c.args.rows.now.rows c.args.at [] in
+    on_ok_weaker c.push_row.result
+    (λ grown before. stood_pushed c.args.cells.now c.args.rows.now.rows c.args.at row c.requires.there
+    (get_or_default c.args.rows.now.rows c.args.at [] row c.requires.there)
+    c.args.seen.now.rows c.args.few.now.rows before row c.args.seen.now.rows c.push_row.new.into.rows
+    refl (ap (λ (it : CodedRows). it.rows) grown) (λ key inside. inl inside))
+    c.push_row.ensures
 
 pub returns-then-has-clause-stand : goal.returns-then-has-clause-stand
 returns-then-has-clause-stand c = λ before.
@@ -25,49 +25,36 @@ returns-then-has-clause-stand c = λ before.
     (get_or_default c.args.rows.now.rows c.args.at [] row c.requires.there)
     c.args.seen.now.rows c.args.few.now.rows before c.name_codes.new.codes
     (names_true row c.args.cells.now c.name_codes.new.codes c.in_ok-name_codes.field-0 c.in_ok-name_codes.ensures c.if-not-branch.false)
-    (subst (Contains c.args.seen.now.rows) c.items-2.ensures (c.has.ensures c.if-has.true))
+    (subst (Contains c.args.seen.now.rows) c.items.ensures (c.has.ensures c.if-has.true))
 
 pub put-requires : goal.put-requires
-put-requires c = ap length c.items-3.ensures
+put-requires c = ap length c.items-2.ensures
     ∙ length-named (get_or c.args.rows.now.rows c.args.at []) c.args.cells.now c.name_codes.new.codes
     (names_true (get_or c.args.rows.now.rows c.args.at []) c.args.cells.now c.name_codes.new.codes c.in_ok-name_codes.field-0 c.in_ok-name_codes.ensures
     c.if-not-branch.false)
     ∙ sym c.requires.width
 
-pub add-requires : goal.add-requires
-add-requires c = ap length c.items.ensures
-    ∙ c.arity-arity.ensures.fits c.read_row.new.codes
-    (Contains-at c.args.rows.now.rows c.args.at c.read_row.new.codes c.in_ok-read_row.ensures) ∙ sym c.requires.arity
-
-pub add-requires-2 : goal.add-requires-2
-add-requires-2 c = ap length c.items-4.ensures
-    ∙ c.arity-arity.ensures.fits c.read_row-2.new.codes
-    (Contains-at c.args.rows.now.rows c.args.at c.read_row-2.new.codes c.in_ok-read_row-2.ensures) ∙ sym c.requires.arity
-
 pub returns-clause-stand : goal.returns-clause-stand
 returns-clause-stand c =
-    let row = c.read_row-2.new.codes in
-    on_ok_weaker c.add-2.result
+    let row = get_or c.args.rows.now.rows c.args.at [] in
+    on_ok_weaker c.push_row-2.result
     (λ grown before. stood_pushed c.args.cells.now c.args.rows.now.rows c.args.at row c.requires.there
-    (sym (get_or_from_slice_get c.args.rows.now.rows c.args.at row row c.in_ok-read_row-2.ensures))
-    c.args.seen.now.rows c.args.few.now.rows before c.items-4.result.now c.put.new.self.rows c.add-2.new.self.rows
-    c.items-4.ensures (ap (λ (it : CodedRows). it.rows) grown)
-    (λ key inside. elim (Contains-push_cases c.args.seen.now.rows c.items-3.result.now key
+    (get_or_default c.args.rows.now.rows c.args.at [] row c.requires.there)
+    c.args.seen.now.rows c.args.few.now.rows before row c.put.new.self.rows c.push_row-2.new.into.rows
+    refl (ap (λ (it : CodedRows). it.rows) grown)
+    (λ key inside. elim (Contains-push_cases c.args.seen.now.rows c.items-2.result.now key
     (subst (λ (them : CodedRows). Contains them.rows key) c.in_ok-put.ensures inside)) [
       | inl old ↦ inl old
-      | inr same ↦ inr (subst (NamesCodes row c.args.cells.now) (sym c.items-3.ensures ∙ same)
-          (subst (λ it. NamesCodes it c.args.cells.now c.name_codes.new.codes)
-          (get_or_from_slice_get c.args.rows.now.rows c.args.at row [] c.in_ok-read_row-2.ensures)
-          (names_true (get_or c.args.rows.now.rows c.args.at []) c.args.cells.now c.name_codes.new.codes c.in_ok-name_codes.field-0 c.in_ok-name_codes.ensures
-          c.if-not-branch.false)))
+      | inr same ↦ inr (subst (NamesCodes row c.args.cells.now) (sym c.items-2.ensures ∙ same)
+          (names_true row c.args.cells.now c.name_codes.new.codes c.in_ok-name_codes.field-0 c.in_ok-name_codes.ensures c.if-not-branch.false))
     ]))
-    c.add-2.ensures.ok
+    c.push_row-2.ensures
 
 pub returns-then-not-branch-clause-arity : goal.returns-then-not-branch-clause-arity
-returns-then-not-branch-clause-arity c = on_ok_weaker c.add.result (λ grown. ap (λ (it : CodedRows). it.arity) grown) c.add.ensures.ok
+returns-then-not-branch-clause-arity c = on_ok_weaker c.push_row.result (λ grown. ap (λ (it : CodedRows). it.arity) grown) c.push_row.ensures
 
 pub returns-then-not-branch-clause-width : goal.returns-then-not-branch-clause-width
-returns-then-not-branch-clause-width c = on_ok_weaker c.add.result (λ _. refl) c.add.ensures.ok
+returns-then-not-branch-clause-width c = on_ok_weaker c.push_row.result (λ _. refl) c.push_row.ensures
 
 pub returns-then-has-clause-arity : goal.returns-then-has-clause-arity
 returns-then-has-clause-arity c = refl
@@ -76,7 +63,7 @@ pub returns-then-has-clause-width : goal.returns-then-has-clause-width
 returns-then-has-clause-width c = refl
 
 pub returns-clause-arity : goal.returns-clause-arity
-returns-clause-arity c = on_ok_weaker c.add-2.result (λ grown. ap (λ (it : CodedRows). it.arity) grown) c.add-2.ensures.ok
+returns-clause-arity c = on_ok_weaker c.push_row-2.result (λ grown. ap (λ (it : CodedRows). it.arity) grown) c.push_row-2.ensures
 
 pub returns-clause-width : goal.returns-clause-width
-returns-clause-width c = on_ok_weaker c.add-2.result (λ _. ap (λ (it : CodedRows). it.arity) c.in_ok-put.ensures) c.add-2.ensures.ok
+returns-clause-width c = on_ok_weaker c.push_row-2.result (λ _. ap (λ (it : CodedRows). it.arity) c.in_ok-put.ensures) c.push_row-2.ensures

@@ -1,0 +1,16 @@
+use Rattle.std.proofs.Common.{[], ◌∷◌, ◌++◌, get_or, map, sym, ap, ◌∙◌}
+use Rattle.std.proofs.lemmas.List.{map_more, take_all}
+use Rattle.esto_steps.specs.declared.steps.Link.{Link}
+use Rattle.esto_steps.specs.declared.steps.Source.TheVariants.{Code}
+use Rattle.esto_steps.proofs.links.sources_of.Goals as goal
+
+pub links-preserved : goal.links-preserved
+links-preserved c =
+    let items = c.items-link-items.result.now in
+    c.in_ok-push.ensures.ok
+    ∙ ap (λ them. them ++ (get_or items c.links.link-index (record { column = 0; source = Code 0 })).source ∷ []) c.links.invariant
+    ∙ sym (map_more (λ (link : Link). link.source) items c.links.link-index (record { column = 0; source = Code 0 }) c.links-test.true)
+
+pub returns : goal.returns
+returns c = c.links.invariant ∙ ap (map (λ (link : Link). link.source))
+    (take_all c.links.link-index c.items-link-items.result.now c.links-test.false ∙ c.items-link-items.ensures)
