@@ -16,6 +16,7 @@ ghost use Rattle.esto_coded.specs.Mirrored.{IsMirrored};
 use crate::coded::CodedFacts;
 use crate::mirrored::{are_mirrored, are_told, with_first};
 use crate::same::is_part;
+use crate::steps::push_copy;
 use esto_columns::Rows;
 use esto_constraint::{Constraint, frontier_of};
 use esto_semantics::Atom;
@@ -27,8 +28,8 @@ fn both_of(alloc: Global, left: &Term, right: &Term) -> Result<Terms, OutOfMemor
     ensures { IfOk result (λ it. it ≡ left.now ∷ right.now ∷ []) }
 {
     let mut both = List::new(alloc);
-    both.push(left.copy(alloc)?)?;
-    both.push(right.copy(alloc)?)?;
+    push_copy(alloc, left, &mut both)?;
+    push_copy(alloc, right, &mut both)?;
     Ok(both)
 }
 
@@ -37,7 +38,8 @@ fn put_atoms(alloc: Global, atoms: &[Atom], into: &mut List<Atom>) -> Result<(),
     ensures { OnOk result (into.new ≡ into.old ++ atoms.now) }
 {
     'atoms: for atom in atoms {
-        into.push(atom.copy(alloc)?)?;
+        let own = atom.copy(alloc)?;
+        into.push(own)?;
     }
     Ok(())
 }

@@ -123,8 +123,7 @@ pub(crate) fn are_mirrored(
 {
     let from = frontier_of(alloc, first, first)?;
     let to = frontier_of(alloc, second, second)?;
-    let all = go_over(first, second, left, right, shared, &from, &to);
-    Ok(all)
+    Ok(go_over(first, second, left, right, shared, &from, &to))
 }
 
 /// The term, and then the others.
@@ -132,7 +131,8 @@ pub(crate) fn with_first(alloc: Global, term: &Term, others: &Terms) -> Result<T
     ensures { IfOk result (λ it. it ≡ term.now ∷ others.now) }
 {
     let mut all = others.copy(alloc)?;
-    all.insert(0, term.copy(alloc)?)?;
+    let own = term.copy(alloc)?;
+    all.insert(0, own)?;
     Ok(all)
 }
 
@@ -239,6 +239,5 @@ pub(crate) fn are_told(alloc: Global, rows: &Rows) -> Result<bool, OutOfMemory>
     ensures { IfOk result (λ it. IsTrue it ↔ AreTold rows.now.rows) }
 {
     let mut index = Index::new(alloc, rows.len())?;
-    let told = are_told_by(alloc, rows, &mut index)?;
-    Ok(told)
+    are_told_by(alloc, rows, &mut index)
 }

@@ -22,7 +22,8 @@ pub(crate) fn no_relations(alloc: Global, arities: &[usize]) -> Result<Vec<Store
 {
     let mut relations = Vec::new(alloc);
     'arities: for arity in arities {
-        let Ok(()) = relations.push(no_rows(alloc, *arity)?) else {
+        let relation = no_rows(alloc, *arity)?;
+        let Ok(()) = relations.push(relation) else {
             return Err(OutOfMemory);
         };
     }

@@ -28,8 +28,7 @@ fn is_part_by_index(alloc: Global, one: &Rows, other: &Rows) -> Result<bool, Out
         ↔ ((row : List ℕ) → Contains one.now.rows row → Contains other.now.rows row)) }
 {
     let index = other.own_index(alloc, other.len())?;
-    let all = are_among(alloc, one, other, &index)?;
-    Ok(all)
+    are_among(alloc, one, other, &index)
 }
 
 /// So many places, none of which is marked.
@@ -134,18 +133,49 @@ fn are_marked(
     Ok(true)
 }
 
-/// Whether each row of one of the two is a row of the other, by an index of the one and marks of its rows.
+/// Whether each row of one of the two is a row of the other, by an index of the one and marks of its rows, none of which
+/// is marked before.
+fn are_one_by(
+    alloc: Global,
+    one: &Rows,
+    other: &Rows,
+    index: &Index,
+    marks: &mut Values<bool>,
+) -> Result<bool, OutOfMemory>
+    requires own { IsIndexOf index.now one.now.rows }
+    requires long { length marks.old ≡ length one.now.rows }
+    requires none { AreMarked one.now.rows [] marks.old }
+    ensures { IfOk result (λ it. IsTrue it
+        ↔ ((row : List ℕ) → Contains one.now.rows row ↔ Contains other.now.rows row)) }
+{
+    if !mark_each(alloc, one, index, other, marks)? {
+        return Ok(false);
+    }
+    are_marked(alloc, one, index, marks)
+}
+
+/// The same by an index of the one, where marks are made for it.
+fn are_one_marked(
+    alloc: Global,
+    one: &Rows,
+    other: &Rows,
+    index: &Index,
+) -> Result<bool, OutOfMemory>
+    requires { IsIndexOf index.now one.now.rows }
+    ensures { IfOk result (λ it. IsTrue it
+        ↔ ((row : List ℕ) → Contains one.now.rows row ↔ Contains other.now.rows row)) }
+{
+    let mut marks = no_marks(alloc, one.len())?;
+    are_one_by(alloc, one, other, index, &mut marks)
+}
+
+/// Whether each row of one of the two is a row of the other.
 fn are_one_set(alloc: Global, one: &Rows, other: &Rows) -> Result<bool, OutOfMemory>
     ensures { IfOk result (λ it. IsTrue it
         ↔ ((row : List ℕ) → Contains one.now.rows row ↔ Contains other.now.rows row)) }
 {
     let index = one.own_index(alloc, one.len())?;
-    let mut marks = no_marks(alloc, one.len())?;
-    if !mark_each(alloc, one, &index, other, &mut marks)? {
-        return Ok(false);
-    }
-    let back = are_marked(alloc, one, &index, &marks)?;
-    Ok(back)
+    are_one_marked(alloc, one, other, &index)
 }
 
 /// Whether both are the same list. It needs no index, and ends at the first place where they differ.

@@ -52,7 +52,15 @@ fn push_link(
     links.push(Link { column, source })
 }
 
-/// The same, and puts the term after the bound ones.
+/// Puts a copy of the term at the end.
+pub(crate) fn push_copy(alloc: Global, term: &Term, terms: &mut Terms) -> Result<(), OutOfMemory>
+    ensures { OnOk result (terms.new ≡ terms.old ++ term.now ∷ []) }
+{
+    let own = term.copy(alloc)?;
+    terms.push(own)
+}
+
+/// Puts the link of the column at the end, if its term is a constant or one of the bound ones, and the term after these.
 fn push_column(
     alloc: Global,
     term: &Term,
@@ -67,7 +75,7 @@ fn push_column(
     ensures grown { Grows codes.old codes.new }
 {
     push_link(term, column, bound.items(), links, codes)?;
-    bound.push(term.copy(alloc)?)
+    push_copy(alloc, term, bound)
 }
 
 /// The filters of an atom's terms after the bound ones, which the terms are put after.
