@@ -73,6 +73,5 @@ pub fn reached(
         (IsAccessiblePart (patterns_of fragments.now) (plan_query plan.now).body set.now) }
 {
     let order = greedy_order(alloc, set, plan, fragments)?;
-    let part = RowBits::of(alloc, plan.atoms.len(), order.items())?;
-    Ok(part)
+    RowBits::of(alloc, plan.atoms.len(), order.items())
 }

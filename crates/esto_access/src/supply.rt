@@ -42,7 +42,8 @@ fn next_supplies(
 {
     let mut next = List::new(alloc);
     'numbers: for number in 0..plan.atoms.len() {
-        next.push(next_products(alloc, plan, fragments, supplies, number)?)?;
+        let products = next_products(alloc, plan, fragments, supplies, number)?;
+        next.push(products)?;
     }
     Ok(next)
 }

@@ -8,12 +8,12 @@ use Rattle.esto_access.proofs.supply.next_supplies.Goals as goal
 pub numbers-preserved : goal.numbers-preserved
 numbers-preserved c =
     made_grows (patterns_of c.args.fragments.now) (plan_query c.args.plan.now).body c.args.supplies.now c.numbers.number c.numbers.next c.push.new.self
-    c.in_ok-next_products.field-0 c.in_ok-push.ensures.ok
+    c.in_ok-products.products c.in_ok-push.ensures.ok
     (record {
-      count = c.in_ok-next_products.ensures.count ∙ sym (length-map c.args.plan.now.atoms fact_of);
-      over = c.in_ok-next_products.ensures.kept.0;
-      antichain = c.in_ok-next_products.ensures.kept.1;
-      covers = c.in_ok-next_products.ensures.covers;
+      count = c.in_ok-products.ensures.count ∙ sym (length-map c.args.plan.now.atoms fact_of);
+      over = c.in_ok-products.ensures.kept.0;
+      antichain = c.in_ok-products.ensures.kept.1;
+      covers = c.in_ok-products.ensures.covers;
     }) c.numbers.invariant
 
 all_made : (c : goal.After-numbers)
