@@ -35,7 +35,8 @@ fn head_names(alloc: Global, query: &Query) -> Result<TextRow, OutOfMemory>
 {
     let mut names = List::new(alloc);
     'terms: for term in query.head.items() {
-        names.push(name_of(alloc, &query.names, term)?)?;
+        let name = name_of(alloc, &query.names, term)?;
+        names.push(name)?;
     }
     Ok(names)
 }
@@ -47,8 +48,7 @@ pub fn answers_text(alloc: Global, query: &Query, rows: &TextRows) -> Result<Byt
     ensures { IfOk result (λ it. it ≡ rows_text query.now rows.now) }
 {
     let names = head_names(alloc, query)?;
-    let text = write_records(alloc, &names, rows)?;
-    Ok(text)
+    write_records(alloc, &names, rows)
 }
 
 // The text of rows of answers of the query, whose cells are lent.
@@ -61,8 +61,7 @@ fn lent_answers_text(
     ensures { IfOk result (λ it. it ≡ rows_text query.now (lent_rows rows.now)) }
 {
     let names = head_names(alloc, query)?;
-    let text = write_lent_records(alloc, &names, rows)?;
-    Ok(text)
+    write_lent_records(alloc, &names, rows)
 }
 
 /// The text of the rows of codes, each once, in rising order, cell by cell by bytes, under the names of the query's head.
@@ -79,6 +78,5 @@ pub(crate) fn coded_answers_text(
     ensures { IfOk result (IsAnswersText query.now (IsCodedRow codes.now rows.now.rows)) }
 {
     let sorted = sorted_rows(alloc, rows, codes)?;
-    let text = lent_answers_text(alloc, query, sorted.as_slice())?;
-    Ok(text)
+    lent_answers_text(alloc, query, sorted.as_slice())
 }

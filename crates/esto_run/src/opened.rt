@@ -26,7 +26,8 @@ pub fn no_rows(alloc: Global, fragments: &FragmentDefs) -> Result<FragmentRows, 
     let mut stored = List::new(alloc);
     'fragments: for fragment in fragments.items() {
         let rows = Rows::new(alloc, fragment.view.head.len())?;
-        stored.push(stored_rows(alloc, fragment, rows)?)?;
+        let none = stored_rows(alloc, fragment, rows)?;
+        stored.push(none)?;
     }
     Ok(FragmentRows::of_none(alloc, stored))
 }
@@ -57,6 +58,5 @@ pub fn open_fragment(
     catalogues_are_sound();
     let fragment = catalogue.fragments.item(number);
     let store = catalogue.stores.item(number);
-    opened.put(alloc, number, fragment, &store.shape, bytes)?;
-    Ok(())
+    opened.put(alloc, number, fragment, &store.shape, bytes)
 }

@@ -56,8 +56,7 @@ pub(crate) fn coded_answers(
     let steps = plan_of(alloc, order, plan, fragments, codes)?;
     // the count is read so that the texts are known to be distinct
     let _count = codes.len();
-    let rows = run_plan(alloc, &steps, stored)?;
-    Ok(rows)
+    run_plan(alloc, &steps, stored)
 }
 
 /// The answers of the candidate of a set of the plan's atoms over the rows of the fragments, as rows of codes.

@@ -18,6 +18,5 @@ pub(crate) fn stored_rows(
         ≡ record { rows = rows; ways = map inputs_of fragment.now.access }) }
 {
     let ways = ways_of(alloc, &fragment.access)?;
-    let stored = StoredRows::new(alloc, rows, ways)?;
-    Ok(stored)
+    StoredRows::new(alloc, rows, ways)
 }

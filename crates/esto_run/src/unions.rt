@@ -58,8 +58,7 @@ fn add_answers(
         (queries ++ candidate_of pick.now ∷ []))) }
 {
     let own = coded_answers(alloc, pick.order, pick.plan, fragments, stored, codes)?;
-    append_rows(alloc, &own, rows)?;
-    Ok(())
+    append_rows(alloc, &own, rows)
 }
 
 /// The answers of the picks' candidates over the stored rows, as rows of so many codes.

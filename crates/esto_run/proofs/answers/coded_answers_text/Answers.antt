@@ -1,4 +1,5 @@
 use Rattle.std.proofs.Common.{◌≡◌, All, length, ap, sym, subst, ◌∙◌}
+use Rattle.std.proofs.lemmas.Result.{IfOk-weaker}
 use Rattle.esto_columns.specs.Lent.{lent_rows}
 use Rattle.esto_run.specs.Answers.{rows_text}
 use Rattle.esto_run.proofs.RunLemmas.{all_long}
@@ -11,9 +12,9 @@ lent_answers_text-requires c =
     (all_long width (lent_rows c.in_ok-sorted.sorted.items) (λ row inside. c.requires.wide row ((c.in_ok-sorted.ensures.rows row).0 inside)))
 
 pub returns : goal.returns
-returns c = record {
+returns c = IfOk-weaker c.lent_answers_text.result _ _ (λ text is. record {
   rows = lent_rows c.in_ok-sorted.sorted.items;
   exact = c.in_ok-sorted.ensures.rows;
   rising = c.in_ok-sorted.ensures.ascending;
-  printed = c.in_ok-text.ensures ∙ ap (λ them. rows_text c.args.query.now (lent_rows them)) c.as_slice.ensures.value;
-}
+  printed = is ∙ ap (λ them. rows_text c.args.query.now (lent_rows them)) c.as_slice.ensures.value;
+}) c.lent_answers_text.ensures

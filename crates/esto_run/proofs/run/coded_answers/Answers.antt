@@ -1,4 +1,5 @@
 use Rattle.std.proofs.Common.{map, sym, ◌∙◌}
+use Rattle.std.proofs.lemmas.Result.{IfOk-weaker}
 use Rattle.esto_steps.specs.Planned.{ordered, atoms_of}
 use Rattle.esto_steps.specs.Rows.{held_by}
 use Rattle.esto_semantics.specs.Listed.{candidate}
@@ -25,11 +26,12 @@ run_plan-requires c =
 pub returns-clause-arity : goal.returns-clause-arity
 returns-clause-arity c =
     let plan = plan_query c.args.plan.now in
-    c.in_ok-rows.ensures.arity ∙ sym (sources_long c.plan_of.new.codes (patterns_of c.args.fragments.now) plan.head c.in_ok-steps.steps.head _ _
-    c.in_ok-steps.steps.gets c.in_ok-steps.ensures.steps)
+    IfOk-weaker c.run_plan.result _ _ (λ rows long. long
+    ∙ sym (sources_long c.plan_of.new.codes (patterns_of c.args.fragments.now) plan.head c.in_ok-steps.steps.head _ _
+    c.in_ok-steps.steps.gets c.in_ok-steps.ensures.steps)) c.run_plan.ensures.arity
 
 pub returns-clause-answers : goal.returns-clause-answers
-returns-clause-answers c = λ set is_order.
+returns-clause-answers c = IfOk-weaker c.run_plan.result _ _ (λ rows ran set is_order.
     let plan = plan_query c.args.plan.now in
     let fragments = c.args.fragments.now in
     let patterns = patterns_of fragments in
@@ -46,13 +48,13 @@ returns-clause-answers c = λ set is_order.
     (chosen_among c.chosen_atoms_are_named.ensures own.0 plan.body)) in record {
       below = λ row inside. c.results_have_texts.ensures texts patterns (ordered plan c.args.order.now) c.in_ok-steps.steps
           (held_by (map codes_of stored)) c.in_ok-steps.ensures.steps (codes_have_texts texts fragments opened stored c.requires.rows are)
-          row ((c.in_ok-rows.ensures.rows row).0 inside);
+          row ((ran row).0 inside);
       exact = λ row. (
         (λ (codes, inside, codes_are).
             answers_same c.chosen_atoms_are_named.ensures patterns plan set own.0 c.args.order.now is_order own.1 Holds row
-            ((law row).0 (codes, (c.in_ok-rows.ensures.rows codes).0 inside, codes_are))),
+            ((law row).0 (codes, (ran codes).0 inside, codes_are))),
         (λ answer. let found = (law row).1 (answers_same c.chosen_atoms_are_named.ensures patterns plan own.0 set c.args.order.now own.1 is_order
             Holds row answer) in
-            (found.0, (c.in_ok-rows.ensures.rows found.0).1 found.1, found.2)),
+            (found.0, (ran found.0).1 found.1, found.2)),
       );
-    }
+    }) c.run_plan.ensures.rows

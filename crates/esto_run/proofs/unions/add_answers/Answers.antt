@@ -1,4 +1,5 @@
-use Rattle.std.proofs.Common.{◌++◌, ◌∷◌, [], sym, subst, ◌∙◌}
+use Rattle.std.proofs.Common.{◌++◌, ◌∷◌, [], ap, sym, subst, ◌∙◌}
+use Rattle.std.proofs.lemmas.Result.{on_ok_weaker}
 use Rattle.esto_columns.specs.CodedRows.{CodedRows}
 use Rattle.esto_run.specs.Coded.{AreCodesOfAll, IsStoredRow}
 use Rattle.esto_run.specs.Laws.{IsAnswerOfOne}
@@ -13,10 +14,14 @@ pub append_rows-requires : goal.append_rows-requires
 append_rows-requires c = c.in_ok-own.ensures.arity ∙ c.requires.arity
 
 pub returns-clause-rows : goal.returns-clause-rows
-returns-clause-rows c = λ queries are.
+returns-clause-rows c = on_ok_weaker c.append_rows.result (λ is queries are.
     let pick = c.args.pick.now in
     let Holds = IsStoredRow c.args.codes.now c.args.stored.now in
     subst (λ (them : CodedRows). AreCodesOfAll c.coded_answers.new.codes them.rows (IsAnswerOfOne Holds (queries ++ candidate_of pick ∷ [])))
-    (sym c.in_ok-append_rows.ensures)
+    (sym is)
     (answers_more c.args.codes.now c.coded_answers.new.codes c.coded_answers.ensures.grown Holds c.args.rows.now.rows c.in_ok-own.own.rows queries
-    (candidate_of pick) are (c.in_ok-own.ensures.answers pick.set.now c.requires.runnable.order))
+    (candidate_of pick) are (c.in_ok-own.ensures.answers pick.set.now c.requires.runnable.order)))
+    c.append_rows.ensures
+
+pub returns-clause-arity : goal.returns-clause-arity
+returns-clause-arity c = on_ok_weaker c.append_rows.result (λ is. ap (λ (them : CodedRows). them.arity) is) c.append_rows.ensures

@@ -1,4 +1,6 @@
-use Rattle.std.proofs.Common.{length, map, refl, set, sym, subst, ap, ◌∙◌}
+use Rattle.std.proofs.Common.{◌<◌, length, map, refl, set, sym, subst, ap, ◌∙◌}
+use Rattle.std.proofs.lemmas.List.{length-map}
+use Rattle.esto_ports.specs.declared.file_fault.FileError.TheVariants.{OutOfMemory}
 use Rattle.esto_docs.specs.Stores.{IsRowIn}
 use Rattle.esto_run.specs.Opened.{HaveTexts, shape_of, held_of}
 use Rattle.esto_run.proofs.HeldLemmas.{at_error, fault_handed, texts_kept, held_kept, texts_put, held_put}
@@ -45,3 +47,11 @@ returns-in_err-coded-clause-fault c = fault_handed (IsRowIn c.args.shape.now c.a
 
 pub returns-clause-fault : goal.returns-clause-fault
 returns-clause-fault c = (c.in_ok-coded.ensures.rows.0, refl)
+
+pub returns-in_err-stored-clause-fault : goal.returns-in_err-stored-clause-fault
+returns-in_err-stored-clause-fault c = fault_handed (IsRowIn c.args.shape.now c.args.bytes.now) _ (length c.args.fragment.now.view.head)
+    c.code_store.new.codes OutOfMemory c.from_residual-in_err-stored.result c.from_residual-in_err-stored.ensures.1 tt
+
+pub set-requires : goal.set-requires
+set-requires c =
+    subst (λ count. c.args.number < count) (ap length (sym c.self.view_is) ∙ length-map c.self.inside.stored (held_of c.self.inside.codes)) c.requires.there
