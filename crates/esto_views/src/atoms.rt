@@ -13,9 +13,10 @@ pub fn plan_facts(alloc: Global, atoms: &PlanAtoms) -> Result<Facts, OutOfMemory
 {
     let mut facts = List::new(alloc);
     'atoms: for atom in atoms.items() {
+        let terms = atom.terms.copy(alloc)?;
         facts.push(Atom {
             relation: atom.fragment,
-            terms: atom.terms.copy(alloc)?,
+            terms,
         })?;
     }
     Ok(facts)

@@ -13,7 +13,8 @@ use std::alloc::Global;
 fn append_copy(alloc: Global, row: &Terms, terms: &mut Terms) -> Result<(), OutOfMemory>
     ensures { OnOk result (terms.new ≡ terms.old ++ row.now) }
 {
-    terms.append(row.copy(alloc)?)
+    let copy = row.copy(alloc)?;
+    terms.append(copy)
 }
 
 /// The terms of the rows, in order, and then those of the head.
@@ -58,7 +59,8 @@ fn read_term(
     if !is_new(terms, place, term) {
         return Ok(());
     }
-    seen.push(term.copy(alloc)?)
+    let copy = term.copy(alloc)?;
+    seen.push(copy)
 }
 
 /// Those of the terms that are no constants, each once, by first occurrence.

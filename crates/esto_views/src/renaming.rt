@@ -24,7 +24,8 @@ pub fn rename_row(alloc: Global, seen: &IndexedTerms, row: &[Term]) -> Result<Te
 {
     let mut renamed = List::new(alloc);
     'terms: for term in row {
-        renamed.push(rename_term(alloc, seen, term)?)?;
+        let other = rename_term(alloc, seen, term)?;
+        renamed.push(other)?;
     }
     Ok(renamed)
 }
@@ -71,7 +72,8 @@ pub fn names_of(alloc: Global, names: &Names, terms: &[Term]) -> Result<Names, O
 {
     let mut found = List::new(alloc);
     'terms: for term in terms {
-        found.push(name_of(alloc, names, term)?)?;
+        let name = name_of(alloc, names, term)?;
+        found.push(name)?;
     }
     Ok(found)
 }

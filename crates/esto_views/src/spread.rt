@@ -114,7 +114,8 @@ impl Spread {
         ensures { OnOk result (terms.new
             ≡ terms.old ++ substituted self.now.from self.now.to term.now ∷ []) }
     {
-        terms.push(self.term(alloc, term)?)
+        let target = self.term(alloc, term)?;
+        terms.push(target)
     }
 
     /// The atom with what each of its terms stands for.

@@ -11,7 +11,7 @@ pub atoms-preserved : goal.atoms-preserved
 atoms-preserved c =
     map_more fact_of c.args.atoms.now c.atoms.atom-index c.atom-item.result c.atoms.facts c.push.new.self
     (rw c.items-atom-items.ensures at c.atoms-test.true) (rw c.items-atom-items.ensures at c.atom-item.is)
-    (c.in_ok-push.ensures.ok ∙ ap (λ it. c.atoms.facts ++ record { relation = c.atom-item.result.fragment; terms = it } ∷ []) c.in_ok-copy.ensures)
+    (c.in_ok-push.ensures.ok ∙ ap (λ it. c.atoms.facts ++ record { relation = c.atom-item.result.fragment; terms = it } ∷ []) c.in_ok-terms.ensures)
     c.atoms.invariant
 
 pub returns : goal.returns
