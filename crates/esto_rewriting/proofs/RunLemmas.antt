@@ -1,17 +1,17 @@
 -- The run of the sets that are chosen for the members of a union.
-use Rattle.std.proofs.Common.{◌≡◌, ◌↔◌, ◌<◌, ℕ, Bool, List, length, get_or, map, filter, Contains, slice_get, Option, Some, None, refl, sym, ap, subst, ◌∙◌}
+use Rattle.std.proofs.Common.{◌≡◌, ◌↔◌, ◌<◌, ℕ, Bool, List, length, get_or, map, filter, Contains, slice_get, Option, Some, None, Result, refl, sym, ap, subst, ◌∙◌}
 use Rattle.std.proofs.lemmas.Option.{slice_get_within, slice_get_read}
 use Rattle.esto_mapping.specs.declared.catalogue.Catalogue.{Catalogue}
 use Rattle.esto_chase_laws.specs.declared.clash.Clash.{Clash}
 use Rattle.esto_course.specs.Course.{Stops, judges, gives, and_then}
 use Rattle.esto_course.proofs.Steps.{first_stops, then_goes, then_stops}
 use Rattle.esto_list.specs.declared.listing.Listed.{Listed}
-use Rattle.esto_status.specs.Answers.{IsCaused, IsWant}
+use Rattle.esto_status.specs.Answers.{Answers, IsCaused, IsWant}
 use Rattle.esto_run.specs.Fragments.{opens_fragments}
 use Rattle.esto_status.specs.declared.reply.Reply.{Reply}
 use Rattle.esto_status.specs.declared.reply.Reply.TheVariants.{Done}
 use Rattle.esto_status.specs.declared.status.Status.{Status}
-use Rattle.esto_status.proofs.Steps.{still_stops}
+use Rattle.esto_status.proofs.Steps.{next_answers, still_stops}
 use Rattle.esto_steps.specs.Rows.{IsRowOf, held_by}
 use Rattle.esto_rewriting.specs.PlannedLaws.{PlanHasForm, PlanIsOver}
 use Rattle.esto_ports.specs.Files.{Files}
@@ -38,10 +38,9 @@ use Rattle.esto_views.specs.Fragments.{patterns_of}
 use Rattle.esto_views.specs.Plans.{IsPlanOver, fact_of, plan_query}
 use Rattle.esto_views.specs.declared.fragments.FragmentDef.{FragmentDef}
 use Rattle.esto_views.specs.declared.plan.Plan.{Plan}
-use Rattle.esto_rewriting.specs.List.{makes_members}
 use Rattle.esto_rewriting.specs.Members.{AreMembersOf, ClashAt, HavePlan, IsMemberOf, has_plan}
 use Rattle.esto_rewriting.specs.Picking.{ArePicksOf, IsPickFrom, IsPickOf}
-use Rattle.esto_rewriting.specs.Run.{AreChosen, IsNoRows, IsUnionRunText, chooses_each, ends_members, runs_chosen, runs_end, runs_members, runs_union}
+use Rattle.esto_rewriting.specs.Run.{AreChosen, IsNoRows, IsUnionRunText, chooses_each, ends_members, runs_chosen, runs_end, runs_members}
 use Rattle.esto_rewriting.specs.declared.members.Member.{Member}
 use Rattle.esto_rewriting.specs.declared.members.Member.TheVariants.{Planned, Clashed}
 
@@ -174,27 +173,8 @@ module _ (files : Option Files) (catalogue : Catalogue) (queries : List Query) (
 
     module _ (others : List ConjunctiveQuery) (chosen : AreChosen number members others) where
       -- those that are chosen are run
-      pub picks_stop : {rose : Type 0} {refusal : Status} → Stops IsWant (IsCaused rose) (runs_chosen files catalogue queries others) refusal
-          → Stops IsWant (IsCaused rose) (runs_members files catalogue queries number members) refusal
+      pub picks_answer : (rose : Type 0) (result : Result Reply Status) → Answers (runs_chosen files catalogue queries others) rose result
+          → Answers (runs_members files catalogue queries number members) rose result
       unfolding judges
-      picks_stop stops = then_stops (ends_members members) (runs_end files catalogue queries number members) None some
-          (then_stops (chooses_each members number) (runs_chosen files catalogue queries) others chosen stops)
-
-      pub picks_go : (reply : Reply) → (runs_chosen files catalogue queries others).goes reply
-          → (runs_members files catalogue queries number members).goes reply
-      unfolding judges
-      picks_go reply goes = then_goes (ends_members members) (runs_end files catalogue queries number members) None reply some
-          (then_goes (chooses_each members number) (runs_chosen files catalogue queries) others reply chosen goes)
-
--- ---- the course of a union
-
-module _ (files : Option Files) (catalogue : Catalogue) (queries : List Query) (number : Option ℕ) (members : List Member)
-    (are : AreMembersOf catalogue queries members) where
-  pub union_stops : {rose : Type 0} {refusal : Status} → Stops IsWant (IsCaused rose) (runs_members files catalogue queries number members) refusal
-      → Stops IsWant (IsCaused rose) (runs_union files catalogue queries number) refusal
-  unfolding judges
-  union_stops stops = then_stops (makes_members catalogue queries) (runs_members files catalogue queries number) members are stops
-
-  pub union_goes : (reply : Reply) → (runs_members files catalogue queries number members).goes reply → (runs_union files catalogue queries number).goes reply
-  unfolding judges
-  union_goes reply goes = then_goes (makes_members catalogue queries) (runs_members files catalogue queries number) members reply are goes
+      picks_answer rose result answer = next_answers (ends_members members) (runs_end files catalogue queries number members) rose None result some
+          (next_answers (chooses_each members number) (runs_chosen files catalogue queries) rose others result chosen answer)

@@ -75,6 +75,5 @@ pub fn explain_query(
     ensures { Answers (explains_query number catalogue.now query.now) ⊥ result }
 {
     let plan = plan_of(alloc, query, catalogue)?;
-    let text = explain_plan(alloc, query, catalogue, &plan, number)?;
-    Ok(text)
+    explain_plan(alloc, query, catalogue, &plan, number)
 }

@@ -45,7 +45,11 @@ pub fn copy_clash(alloc: Global, clash: &Clash) -> Result<Clash, OutOfMemory>
     ensures { IfOk result (λ it. it ≡ clash.now) }
 {
     match clash {
-        Clash::Equal(one, other) => Ok(Clash::Equal(one.copy(alloc)?, other.copy(alloc)?)),
+        Clash::Equal(one, other) => {
+            let one = one.copy(alloc)?;
+            let other = other.copy(alloc)?;
+            Ok(Clash::Equal(one, other))
+        }
         Clash::Denied(rule) => Ok(Clash::Denied(*rule)),
     }
 }
@@ -65,8 +69,7 @@ fn listing_in(
     planned_plans_have_their_form();
     printed_plans_are_over_fragments();
     let sets = union_sets(alloc, plan, queries, catalogue)?;
-    let listing = Listing::of(alloc, &sets, plan, &catalogue.fragments)?;
-    Ok(listing)
+    Listing::of(alloc, &sets, plan, &catalogue.fragments)
 }
 
 // The query with its end in the union.
@@ -123,7 +126,10 @@ pub fn clash_of(alloc: Global, members: &Members) -> Result<Option<Clash>, OutOf
         return Ok(None);
     }
     match members.item(0) {
-        Member::Clashed(clash) => Ok(Some(copy_clash(alloc, clash)?)),
+        Member::Clashed(clash) => {
+            let copy = copy_clash(alloc, clash)?;
+            Ok(Some(copy))
+        }
         Member::Planned(_, _) => unreachable!(),
     }
 }

@@ -145,6 +145,5 @@ pub(crate) fn pick_each<'a>(
         (Stops IsWant (IsCaused ⊥) (chooses_each members.now number)) }
 {
     judge_choice(members, number)?;
-    let picks = picks_of(alloc, members, number)?;
-    Ok(picks)
+    picks_of(alloc, members, number)
 }

@@ -42,8 +42,7 @@ fn printed_of(alloc: Global, core: bool, plan: Plan) -> Result<Plan, OutOfMemory
     if !core {
         return Ok(plan);
     }
-    let cored = core_of(alloc, &plan)?;
-    Ok(cored)
+    core_of(alloc, &plan)
 }
 
 /// The printed plan of the query, or the clash at which its run ends.
@@ -103,8 +102,7 @@ pub fn printed_plan(
     printed_plans_are_universal();
     printed_plans_tell_satisfiable_queries();
     plans_tell_satisfiable_queries();
-    let outcome = plan_or_clash(alloc, query, catalogue)?;
-    Ok(outcome)
+    plan_or_clash(alloc, query, catalogue)
 }
 
 /// A law: a query has one printed plan, or its runs have a clash, and never both.

@@ -87,8 +87,7 @@ fn run_members<S: Shelf>(
         return Ok(reply);
     }
     let picks = pick_each(alloc, members.items(), number)?;
-    let reply = run_picks(alloc, shelf, queries, catalogue, picks.items())?;
-    Ok(reply)
+    run_picks(alloc, shelf, queries, catalogue, picks.items())
 }
 
 /// What `run` answers to a union: it takes of each satisfiable query the pick of its plan's list in the union, or the set of
@@ -111,6 +110,5 @@ pub fn run_union<S: Shelf>(
     ensures later { S.faults shelf.old ≤ S.faults shelf.new }
 {
     let members = members_of(alloc, queries, catalogue)?;
-    let reply = run_members(alloc, shelf, queries, catalogue, &members, number)?;
-    Ok(reply)
+    run_members(alloc, shelf, queries, catalogue, &members, number)
 }

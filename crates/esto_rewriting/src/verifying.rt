@@ -94,8 +94,7 @@ fn verify_set<S: Shelf>(
     ensures later { S.faults shelf.old ≤ S.faults shelf.new }
 {
     let bytes = fetch(alloc, shelf, file, DATA_LIMIT)?;
-    let text = judged(alloc, &bytes, set, plan, query, catalogue)?;
-    Ok(text)
+    judged(alloc, &bytes, set, plan, query, catalogue)
 }
 
 /// Makes the query's printed plan and the set of its atoms of these numbers, and verifies the certificate for the set.
@@ -117,6 +116,5 @@ pub fn verify_query<S: Shelf>(
 {
     let plan = plan_of(alloc, query, catalogue)?;
     let set = named_set(alloc, numbers, &plan)?;
-    let text = verify_set(alloc, shelf, &set, &plan, query, catalogue, file)?;
-    Ok(text)
+    verify_set(alloc, shelf, &set, &plan, query, catalogue, file)
 }

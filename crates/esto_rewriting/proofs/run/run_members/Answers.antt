@@ -13,7 +13,7 @@ use Rattle.esto_rewriting.specs.Run.{chooses_each}
 use Rattle.esto_rewriting.specs.declared.members.Member.{Member}
 use Rattle.esto_rewriting.proofs.PickingLemmas.{are_chosen}
 use Rattle.esto_rewriting.proofs.RunAskedLemmas.{choice_asks, clash_asks, clash_wants, end_wants, picks_ask}
-use Rattle.esto_rewriting.proofs.RunLemmas.{choice_stops, clash_goes, of_member, picks_go, picks_stop}
+use Rattle.esto_rewriting.proofs.RunLemmas.{choice_stops, clash_goes, of_member, picks_answer}
 use Rattle.esto_rewriting.proofs.ZipLemmas.{zip_some}
 use Rattle.esto_rewriting.proofs.run.run_members.Goals as goal
 
@@ -81,32 +81,14 @@ run_picks-requires-clause-same_length g c = λ pick query inside in_union.
     (subst (λ (them : List Pick). Contains them pick) c.items-2.ensures inside) in
     found.3 ∙ c.requires.union.lengths found.0 query found.1 in_union
 
-pub returns-in_err-reply-2-clause-answer : goal.returns-in_err-reply-2-clause-answer
-returns-in_err-reply-2-clause-answer g c =
-    let some = subst (λ (it : Option Clash). MatchOption it (HavePlan c.args.members.now) (ClashAt c.args.members.now)) c.in_default.is c.in_ok-clash.ensures in
-    let picked = subst (λ (them : List Member). ArePicksOf c.args.number them c.items-2.result.now) c.items.ensures
-    (subst (λ (them : List Pick). ArePicksOf c.args.number c.items.result.now them) (sym c.items-2.ensures) c.in_ok-picks.ensures.picks) in
-    at_exit _ _ c.from_residual-in_err-reply-2.result c.from_residual-in_err-reply-2.ensures.1
-    (picks_stop (g.S.Shelf.files c.args.shelf.now) c.args.catalogue.now c.args.queries.now c.args.number c.args.members.now some
-    (map candidate_of c.items-2.result.now) (are_chosen c.args.number c.args.members.now c.items-2.result.now picked) c.in_err-reply-2.ensures.answer)
-
-pub returns-in_err-reply-2-clause-asked : goal.returns-in_err-reply-2-clause-asked
-returns-in_err-reply-2-clause-asked g c =
-    let some = subst (λ (it : Option Clash). MatchOption it (HavePlan c.args.members.now) (ClashAt c.args.members.now)) c.in_default.is c.in_ok-clash.ensures in
-    let picked = subst (λ (them : List Member). ArePicksOf c.args.number them c.items-2.result.now) c.items.ensures
-    (subst (λ (them : List Pick). ArePicksOf c.args.number c.items.result.now them) (sym c.items-2.ensures) c.in_ok-picks.ensures.picks) in
-    handed_asks _ _ _ c.from_residual-in_err-reply-2.ensures.1
-    (picks_ask (g.S.Shelf.files c.args.shelf.now) c.args.catalogue.now c.args.queries.now c.args.number c.args.members.now some
-    (map candidate_of c.items-2.result.now) (are_chosen c.args.number c.args.members.now c.items-2.result.now picked) _ c.in_err-reply-2.ensures.asked)
-
 pub returns-clause-answer : goal.returns-clause-answer
 returns-clause-answer g c =
     let some = subst (λ (it : Option Clash). MatchOption it (HavePlan c.args.members.now) (ClashAt c.args.members.now)) c.in_default.is c.in_ok-clash.ensures in
     let picked = subst (λ (them : List Member). ArePicksOf c.args.number them c.items-2.result.now) c.items.ensures
     (subst (λ (them : List Pick). ArePicksOf c.args.number c.items.result.now them) (sym c.items-2.ensures) c.in_ok-picks.ensures.picks) in
-    picks_go (g.S.Shelf.files c.args.shelf.now) c.args.catalogue.now c.args.queries.now c.args.number c.args.members.now some
-    (map candidate_of c.items-2.result.now) (are_chosen c.args.number c.args.members.now c.items-2.result.now picked) c.in_ok-reply-2.reply
-    c.in_ok-reply-2.ensures.answer
+    picks_answer (g.S.Shelf.files c.args.shelf.now) c.args.catalogue.now c.args.queries.now c.args.number c.args.members.now some
+    (map candidate_of c.items-2.result.now) (are_chosen c.args.number c.args.members.now c.items-2.result.now picked) _ c.run_picks.result
+    c.run_picks.ensures.answer
 
 pub returns-clause-asked : goal.returns-clause-asked
 returns-clause-asked g c =
@@ -114,4 +96,4 @@ returns-clause-asked g c =
     let picked = subst (λ (them : List Member). ArePicksOf c.args.number them c.items-2.result.now) c.items.ensures
     (subst (λ (them : List Pick). ArePicksOf c.args.number c.items.result.now them) (sym c.items-2.ensures) c.in_ok-picks.ensures.picks) in
     picks_ask (g.S.Shelf.files c.args.shelf.now) c.args.catalogue.now c.args.queries.now c.args.number c.args.members.now some
-    (map candidate_of c.items-2.result.now) (are_chosen c.args.number c.args.members.now c.items-2.result.now picked) _ c.in_ok-reply-2.ensures.asked
+    (map candidate_of c.items-2.result.now) (are_chosen c.args.number c.args.members.now c.items-2.result.now picked) _ c.run_picks.ensures.asked
