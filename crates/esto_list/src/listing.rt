@@ -83,7 +83,8 @@ fn items_of(
 {
     let mut items = List::new(alloc);
     'sets: for set in sets {
-        items.push(item_of(alloc, set, plan, fragments)?)?;
+        let item = item_of(alloc, set, plan, fragments)?;
+        items.push(item)?;
     }
     Ok(items)
 }

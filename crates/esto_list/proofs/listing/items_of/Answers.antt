@@ -26,19 +26,19 @@ sets-init c = record {
 
 pub sets-preserved : goal.sets-preserved
 sets-preserved c = record {
-  sets = sets_more c.sets.items c.push.new.self c.in_ok-item_of.field-0 c.args.sets.now c.sets.set-index c.set-item.result c.sets-test.true
-      c.set-item.is c.in_ok-item_of.ensures.set c.in_ok-push.ensures.ok
+  sets = sets_more c.sets.items c.push.new.self c.in_ok-item.item c.args.sets.now c.sets.set-index c.set-item.result c.sets-test.true
+      c.set-item.is c.in_ok-item.ensures.set c.in_ok-push.ensures.ok
       c.sets.invariant.sets;
   orders = subst (HaveOrders c.args.plan.now c.args.fragments.now) (sym c.in_ok-push.ensures.ok)
       (All-push (λ (item : Listed). IsStatedOrder (patterns_of c.args.fragments.now)
-      (plan_query c.args.plan.now).body item.set item.order) c.sets.items c.in_ok-item_of.field-0 c.sets.invariant.orders c.in_ok-item_of.ensures.order);
+      (plan_query c.args.plan.now).body item.set item.order) c.sets.items c.in_ok-item.item c.sets.invariant.orders c.in_ok-item.ensures.order);
   sums = subst (HaveSums c.args.plan.now c.args.fragments.now) (sym c.in_ok-push.ensures.ok)
       (All-push (λ (item : Listed). item.weight ≡ set_weight (weights_of c.args.fragments.now)
-      (plan_query c.args.plan.now).body item.set) c.sets.items c.in_ok-item_of.field-0 c.sets.invariant.sums c.in_ok-item_of.ensures.sum);
+      (plan_query c.args.plan.now).body item.set) c.sets.items c.in_ok-item.item c.sets.invariant.sums c.in_ok-item.ensures.sum);
   weights = λ distinct. subst (HaveWeights c.args.plan.now c.args.fragments.now) (sym c.in_ok-push.ensures.ok)
       (All-push (λ (item : Listed). IsWeight (weights_of c.args.fragments.now)
-      (chosen item.set (plan_query c.args.plan.now).body) item.weight) c.sets.items c.in_ok-item_of.field-0 (c.sets.invariant.weights distinct)
-      (c.in_ok-item_of.ensures.weight distinct));
+      (chosen item.set (plan_query c.args.plan.now).body) item.weight) c.sets.items c.in_ok-item.item (c.sets.invariant.weights distinct)
+      (c.in_ok-item.ensures.weight distinct));
 }
 
 pub returns-clause-sets : goal.returns-clause-sets
