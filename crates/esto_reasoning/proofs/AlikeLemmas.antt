@@ -70,18 +70,11 @@ pub compared_alike : ToldIsOne → RenamedPlanIsOne → (catalogue other : Catal
     → query_of right ≡ query_of same_right
     → AgreeCalmly ◌≡◌ (compares catalogue left right) (compares other same_left same_right)
 compared_alike told_one renamed_one catalogue other left same_left right same_right are_rules same lefts names rights =
-    subst (λ it. AgreeCalmly ◌≡◌ (compares catalogue left right)
-    (compares_by (rules_of other.rules) (names_of other.schema) same_left.names (query_of same_left) it)) rights
-    (subst (λ it. AgreeCalmly ◌≡◌ (compares catalogue left right)
-    (compares_by (rules_of other.rules) (names_of other.schema) same_left.names it (query_of right))) lefts
-    (subst (λ it. AgreeCalmly ◌≡◌ (compares catalogue left right)
-    (compares_by (rules_of other.rules) (names_of other.schema) it (query_of left) (query_of right))) names
-    (subst (λ it. AgreeCalmly ◌≡◌ (compares catalogue left right)
-    (compares_by (rules_of other.rules) (names_of it) left.names (query_of left) (query_of right))) same.schema
-    (subst (λ it. AgreeCalmly ◌≡◌ (compares catalogue left right)
-    (compares_by it (names_of catalogue.schema) left.names (query_of left) (query_of right))) same.rules
+    let one : compares catalogue left right ≡ compares other same_left same_right =
+    λ i. compares_by (same.rules i) (names_of (same.schema i)) (names i) (lefts i) (rights i) in
+    subst (AgreeCalmly ◌≡◌ (compares catalogue left right)) one
     (calmly (compares catalogue left right)
-    (compared_once told_one renamed_one (rules_of catalogue.rules) (names_of catalogue.schema) left.names (query_of left) (query_of right) are_rules))))))
+    (compared_once told_one renamed_one (rules_of catalogue.rules) (names_of catalogue.schema) left.names (query_of left) (query_of right) are_rules))
 
 -- ---- what a query is minimised to
 
@@ -134,9 +127,7 @@ module _ (minimised_one : MinimisedIsOne) (clash_one : ClashOfRunIsOne)
       → AreSame catalogue other → query_of query ≡ query_of again → query.names ≡ again.names
       → AgreeCalmly ◌≡◌ (minimises catalogue query) (minimises other again)
   minimised_alike catalogue other query again are_rules is_query same queries names =
-      subst (λ it. AgreeCalmly ◌≡◌ (minimises catalogue query) (minimises_by (rules_of other.rules) (names_of other.schema) again.names it)) queries
-      (subst (λ it. AgreeCalmly ◌≡◌ (minimises catalogue query) (minimises_by (rules_of other.rules) (names_of other.schema) it (query_of query))) names
-      (subst (λ it. AgreeCalmly ◌≡◌ (minimises catalogue query) (minimises_by (rules_of other.rules) (names_of it) query.names (query_of query)))
-      same.schema
-      (subst (λ it. AgreeCalmly ◌≡◌ (minimises catalogue query) (minimises_by it (names_of catalogue.schema) query.names (query_of query))) same.rules
-      (minimised_once (rules_of catalogue.rules) (names_of catalogue.schema) query.names (query_of query) are_rules is_query))))
+      let one : minimises catalogue query ≡ minimises other again =
+      λ i. minimises_by (same.rules i) (names_of (same.schema i)) (names i) (queries i) in
+      subst (AgreeCalmly ◌≡◌ (minimises catalogue query)) one
+      (minimised_once (rules_of catalogue.rules) (names_of catalogue.schema) query.names (query_of query) are_rules is_query)

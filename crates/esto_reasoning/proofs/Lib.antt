@@ -1,4 +1,3 @@
-pub mod Steps
 pub mod ShownLemmas
 pub mod CourseLemmas
 pub mod AlikeLemmas

@@ -56,14 +56,13 @@ fn shown_text(
 {
     let plan = renamed_plan(alloc, facts, row, &left.names)?;
     let renamed = plan_facts(alloc, &plan.atoms)?;
-    let text = no_text(
+    no_text(
         alloc,
         &catalogue.schema,
         &plan.names,
         plan.head.items(),
         renamed.items(),
-    )?;
-    Ok(text)
+    )
 }
 
 // The text of what is told.
@@ -97,7 +96,6 @@ fn text_of(
 }
 
 /// What the command prints of two queries, or the status of two lengths.
-#[tactic(auto, using(crate::proofs::Steps::steps))]
 pub fn compared(
     alloc: Global,
     left: &Query,
@@ -108,6 +106,5 @@ pub fn compared(
 {
     one_length(left, right)?;
     let told = tell(alloc, left, right, catalogue)?;
-    let text = text_of(alloc, &told, left, catalogue)?;
-    Ok(text)
+    text_of(alloc, &told, left, catalogue)
 }

@@ -38,15 +38,14 @@ fn listed_text(
         (names_of catalogue.now.schema) (query_of query.now) minimal.now) }
 {
     let sets = minimal.sets.sorted(alloc)?;
-    let text = minimal_text(
+    minimal_text(
         alloc,
         &catalogue.schema,
         &minimal.names,
         minimal.facts.items(),
         minimal.head.items(),
         &sets,
-    )?;
-    Ok(text)
+    )
 }
 
 // The text that the command prints of minimal equivalent parts.
@@ -64,11 +63,9 @@ fn text_of(
 }
 
 /// What the command prints of a query, or the status of the clash at which its run ends.
-#[tactic(auto, using(crate::proofs::Steps::steps))]
 pub fn minimised(alloc: Global, query: &Query, catalogue: &Catalogue) -> Result<Bytes, Status>
     ensures { Answers (minimises catalogue.now query.now) ⊥ result }
 {
     let minimal = minimal_of(alloc, query, catalogue)?;
-    let text = text_of(alloc, &minimal, query, catalogue)?;
-    Ok(text)
+    text_of(alloc, &minimal, query, catalogue)
 }

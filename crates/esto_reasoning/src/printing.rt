@@ -1,7 +1,8 @@
 //! The texts that `contains` and `minimise` print.
-ghost use Rattle.std.specs.Prelude.{◌≡◌, ◌++◌, [], slice_get, IfOk, OnOk};
+ghost use Rattle.std.specs.Prelude.{◌≡◌, ◌+◌, ◌++◌, [], codes, length, slice_get, IfOk, OnOk};
+ghost use Rattle.std.specs.Fmt.{decimal};
 ghost use Rattle.esto_views.specs.Names.{met_terms};
-ghost use Rattle.esto_views.specs.Printing.{each_from};
+ghost use Rattle.esto_views.specs.Printing.{count_line, each_from, numbers_text};
 ghost use Rattle.esto_query.specs.Schemas.{names_of};
 ghost use Rattle.esto_reasoning.specs.Texts.{fact_line, fact_text, facts_lines, head_line, met_facts, minimal_text, no_text, numbered_line, relation_name};
 ghost use Rattle.esto_reasoning.specs.Texts.{set_line};
@@ -136,15 +137,28 @@ fn put_head(
     text.append(b"\n")
 }
 
+// Puts the line of the numbers of a set at the end.
+fn put_set_numbers(
+    alloc: Global,
+    text: &mut Bytes,
+    place: usize,
+    numbers: &[usize],
+) -> Result<(), OutOfMemory>
+    ensures { OnOk result (text.new ≡ text.old ++ (decimal (place + 1) ++ codes " {"
+        ++ numbers_text numbers.now ++ codes "}\n")) }
+{
+    put_number(alloc, text, place as u128 + 1)?;
+    text.append(b" {")?;
+    put_numbers(alloc, text, numbers)?;
+    text.append(b"}\n")
+}
+
 // Puts the line of a set of numbers at the end.
 fn put_set(alloc: Global, text: &mut Bytes, place: usize, set: &RowBits) -> Result<(), OutOfMemory>
     ensures { OnOk result (text.new ≡ text.old ++ set_line place set.now) }
 {
     let numbers = set.numbers(alloc)?;
-    put_number(alloc, text, place as u128 + 1)?;
-    text.append(b" {")?;
-    put_numbers(alloc, text, numbers.items())?;
-    text.append(b"}\n")
+    put_set_numbers(alloc, text, place, numbers.items())
 }
 
 // Puts the lines of sets of numbers at the end.
@@ -155,6 +169,32 @@ fn put_sets(alloc: Global, text: &mut Bytes, sets: &[RowBits]) -> Result<(), Out
         put_set(alloc, text, place, set)?;
     }
     Ok(())
+}
+
+// Puts the count of facts at the end, and their lines.
+fn put_counted_facts(
+    alloc: Global,
+    text: &mut Bytes,
+    schema: &Schema,
+    names: &Names,
+    nameless: &[u64],
+    facts: &[Atom],
+) -> Result<(), OutOfMemory>
+    ensures { OnOk result (text.new ≡ text.old
+        ++ (count_line (codes "facts ") (length facts.now)
+        ++ each_from (numbered_line (names_of schema.now) names.now nameless.now) 0 facts.now)) }
+{
+    put_count(alloc, text, b"facts ", facts.len() as u128)?;
+    put_numbered_lines(alloc, text, schema, names, nameless, facts)
+}
+
+// Puts the count of sets at the end, and their lines.
+fn put_counted_sets(alloc: Global, text: &mut Bytes, sets: &[RowBits]) -> Result<(), OutOfMemory>
+    ensures { OnOk result (text.new ≡ text.old
+        ++ (count_line (codes "minimal ") (length sets.now) ++ each_from set_line 0 sets.now)) }
+{
+    put_count(alloc, text, b"minimal ", sets.len() as u128)?;
+    put_sets(alloc, text, sets)
 }
 
 // The variables without a name, in the order in which they first occur in the row and then in the
@@ -225,10 +265,8 @@ pub(crate) fn minimal_text(
     let met = nameless_from_facts(alloc, names, facts, head)?;
     let nameless = met.items();
     let mut text = Bytes::new(alloc);
-    put_count(alloc, &mut text, b"facts ", facts.len() as u128)?;
-    put_numbered_lines(alloc, &mut text, schema, names, nameless, facts)?;
+    put_counted_facts(alloc, &mut text, schema, names, nameless, facts)?;
     put_head(alloc, &mut text, b"head ", names, nameless, head)?;
-    put_count(alloc, &mut text, b"minimal ", sets.len() as u128)?;
-    put_sets(alloc, &mut text, sets.items())?;
+    put_counted_sets(alloc, &mut text, sets.items())?;
     Ok(text)
 }
