@@ -3,7 +3,6 @@ pub mod PlanMovedLemmas
 pub mod ChoiceLemmas
 pub mod PlanAlikeLemmas
 pub mod PrintedLemmas
-mod Steps
 mod NamingLemmas
 mod JudgeLemmas
 mod AskedLemmas

@@ -65,7 +65,6 @@ fn explain_plan(
 }
 
 /// Makes the query's printed plan, and writes a certificate for the set of the number.
-#[tactic(auto, using(crate::proofs::Steps::steps))]
 pub fn explain_query(
     alloc: Global,
     query: &Query,

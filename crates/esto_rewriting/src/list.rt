@@ -3,25 +3,14 @@ ghost use Rattle.std.specs.Prelude.{◌≡◌, ◌<◌, ◌++◌, ℕ, List, len
 ghost use Rattle.esto_rewriting.specs.List.{IsMemberText, IsUnionText, disjunct_text, lists_union, prints_members};
 ghost use Rattle.esto_query.specs.Unions.{FormUnion};
 ghost use Rattle.esto_status.specs.Answers.{Answers};
-ghost use Rattle.esto_status.specs.Line.{line_of};
-ghost use Rattle.esto_status.specs.declared.status.Status.TheVariants.{Unsatisfiable};
 
 use crate::members::{Member, Members, clash_of, copy_clash, members_of};
-use esto_chase_laws::Clash;
 use esto_mapping::Catalogue;
 use esto_query::Query;
 use esto_status::{Status, status_line};
 use esto_term::{Bytes, OutOfMemory};
 use esto_views::put_count;
 use std::alloc::Global;
-
-// The line of a clash.
-fn clash_line(alloc: Global, clash: Clash) -> Result<Bytes, OutOfMemory>
-    ensures { IfOk result (λ text. text ≡ line_of (Unsatisfiable clash)) }
-{
-    let status = Status::Unsatisfiable(clash);
-    status_line(alloc, &status)
-}
 
 // The text of a member: that of its plan and of its list, or the line of its clash.
 fn member_text(alloc: Global, member: &Member, catalogue: &Catalogue) -> Result<Bytes, OutOfMemory>
@@ -30,8 +19,8 @@ fn member_text(alloc: Global, member: &Member, catalogue: &Catalogue) -> Result<
     match member {
         Member::Planned(plan, listing) => listing.text(alloc, plan, &catalogue.fragments),
         Member::Clashed(clash) => {
-            let copy = copy_clash(alloc, clash)?;
-            clash_line(alloc, copy)
+            let status = Status::Unsatisfiable(copy_clash(alloc, clash)?);
+            status_line(alloc, &status)
         }
     }
 }

@@ -74,7 +74,6 @@ fn judged(
 }
 
 // Fetches the certificate for a set of the plan's atoms, and judges it.
-#[tactic(auto, using(crate::proofs::Steps::steps, crate::proofs::Steps::asked_steps))]
 fn verify_set<S: Shelf>(
     alloc: Global,
     shelf: &mut S,
@@ -98,7 +97,6 @@ fn verify_set<S: Shelf>(
 }
 
 /// Makes the query's printed plan and the set of its atoms of these numbers, and verifies the certificate for the set.
-#[tactic(auto, using(crate::proofs::Steps::run_steps, crate::proofs::Steps::asked_steps))]
 pub fn verify_query<S: Shelf>(
     alloc: Global,
     shelf: &mut S,

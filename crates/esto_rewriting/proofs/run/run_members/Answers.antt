@@ -1,7 +1,8 @@
-use Rattle.std.proofs.Common.{List, Option, map, sym, subst, ◌∙◌}
+use Rattle.std.proofs.Common.{List, Option, map, refl, sym, subst, ◌∙◌}
 use Rattle.std.specs.Prelude.{Contains, MatchOption}
 use Rattle.esto_chase_laws.specs.declared.clash.Clash.{Clash}
 use Rattle.esto_course.specs.Course.{Stops}
+use Rattle.esto_course.specs.Course.Stops.{is_free}
 use Rattle.esto_course.proofs.Steps.{at_exit}
 use Rattle.esto_status.specs.Answers.{IsCaused, IsWant}
 use Rattle.esto_status.proofs.AskedSteps.{handed_asks}
@@ -97,3 +98,9 @@ returns-clause-asked g c =
     (subst (λ (them : List Pick). ArePicksOf c.args.number c.items.result.now them) (sym c.items-2.ensures) c.in_ok-picks.ensures.picks) in
     picks_ask (g.S.Shelf.files c.args.shelf.now) c.args.catalogue.now c.args.queries.now c.args.number c.args.members.now some
     (map candidate_of c.items-2.result.now) (are_chosen c.args.number c.args.members.now c.items-2.result.now picked) _ c.run_picks.ensures.asked
+
+pub returns-in_err-clash-clause-answer : goal.returns-in_err-clash-clause-answer
+returns-in_err-clash-clause-answer g c = at_exit _ _ c.from_residual.result c.from_residual.ensures.1 (is_free refl)
+
+pub returns-in_err-reply-clause-answer : goal.returns-in_err-reply-clause-answer
+returns-in_err-reply-clause-answer g c = at_exit _ _ c.from_residual-in_err-reply.result c.from_residual-in_err-reply.ensures.1 (is_free refl)

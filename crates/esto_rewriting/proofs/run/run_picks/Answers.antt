@@ -1,4 +1,6 @@
-use Rattle.std.proofs.Common.{map}
+use Rattle.std.proofs.Common.{map, refl}
+use Rattle.esto_course.specs.Course.Stops.{is_free}
+use Rattle.esto_term.proofs.ListLemmas.{Contains-at}
 use Rattle.esto_course.proofs.Steps.{at_exit}
 use Rattle.esto_status.proofs.AskedSteps.{handed_asks}
 use Rattle.esto_run.specs.Opened.{rows_held}
@@ -56,3 +58,17 @@ returns-clause-asked g c =
     (text_over_files c.answers_are_over_files.ensures c.args.catalogue.now c.args.queries.now c.index-queries-0.result
     (first_of c.args.queries.now c.index-queries-0.result c.requires.some c.index-queries-0.is) others c.in_ok-numbers.numbers opened.0
     (rows_held c.in_ok-opened.opened) c.in_ok-text.text c.in_ok-numbers.ensures.used opened.2 c.in_ok-text.ensures)
+
+pub returns-in_err-numbers-clause-answer : goal.returns-in_err-numbers-clause-answer
+returns-in_err-numbers-clause-answer g c = at_exit _ _ c.from_residual.result c.from_residual.ensures.1 (is_free refl)
+
+pub returns-in_err-text-clause-answer : goal.returns-in_err-text-clause-answer
+returns-in_err-text-clause-answer g c = at_exit _ _ c.from_residual-in_err-text.result c.from_residual-in_err-text.ensures.1 (is_free refl)
+
+pub text_of_picks-requires-clause-runnable : goal.text_of_picks-requires-clause-runnable
+text_of_picks-requires-clause-runnable g c = c.requires.runnable
+
+pub text_of_picks-requires-clause-same_length : goal.text_of_picks-requires-clause-same_length
+text_of_picks-requires-clause-same_length g c = λ pick inside.
+    c.requires.same_length pick c.index-queries-0.result inside (Contains-at c.args.queries.now 0 c.index-queries-0.result
+    (first_of c.args.queries.now c.index-queries-0.result c.requires.some c.index-queries-0.is))
