@@ -1,5 +1,6 @@
 //! Tokens.
-use esto_term::List;
+use esto_term::{List, OutOfMemory, Replicate};
+use std::alloc::Global;
 
 /// What a token is.
 #[derive(Clone, Copy, PartialEq, Eq)]
@@ -54,3 +55,9 @@ pub struct Token {
 
 /// A list of tokens.
 pub type Tokens = List<Token>;
+
+impl Replicate for Token {
+    fn copy(&self, _alloc: Global) -> Result<Token, OutOfMemory> {
+        Ok(*self)
+    }
+}
