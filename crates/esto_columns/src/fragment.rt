@@ -6,7 +6,7 @@ ghost use Rattle.esto_columns.specs.Asked.{Shape, IsAllowed, holds_all};
 ghost use Rattle.esto_columns.specs.Columns.{HaveLength};
 
 use crate::rows::Rows;
-use esto_term::{List, OutOfMemory, Places};
+use esto_term::{List, OutOfMemory, Places, Replicate};
 use std::alloc::Global;
 
 /// A column of a fragment, and the code that it has to hold.
@@ -18,6 +18,12 @@ pub struct Input {
 
 /// A list of inputs.
 pub type Inputs = List<Input>;
+
+impl Replicate for Input {
+    fn copy(&self, _alloc: Global) -> Result<Input, OutOfMemory> {
+        Ok(*self)
+    }
+}
 
 /// The ways in which a fragment can be asked: for each, the columns that have to be given.
 pub type Ways = List<Places>;
