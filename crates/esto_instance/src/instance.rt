@@ -27,6 +27,23 @@ pub enum ChaseStep {
 /// The steps of a run, in order.
 pub type Trace = List<ChaseStep>;
 
+impl Replicate for ChaseStep {
+    fn copy(&self, alloc: Global) -> Result<ChaseStep, OutOfMemory> {
+        match self {
+            ChaseStep::Added(rule, found) => {
+                let found = found.copy(alloc)?;
+                Ok(ChaseStep::Added(*rule, found))
+            }
+            ChaseStep::Merged(rule, found, from, to) => {
+                let found = found.copy(alloc)?;
+                let from = from.copy(alloc)?;
+                let to = to.copy(alloc)?;
+                Ok(ChaseStep::Merged(*rule, found, from, to))
+            }
+        }
+    }
+}
+
 /// Facts over terms with a head, and the trace of the steps that made them.
 #[derive(Drop)]
 pub struct Instance {
