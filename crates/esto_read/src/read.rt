@@ -20,7 +20,7 @@ use crate::term::terms;
 use esto_docmodel::Vocabulary;
 use esto_query::{Names, Query, Schema};
 use esto_semantics::{Atom, Atoms};
-use esto_term::{List, Term, Terms, Text};
+use esto_term::{List, OutOfMemory, Replicate, Term, Terms, Text};
 use esto_text::{
     QuerySyntax, ReadError, TextFault, TextKind, Token, read_query_tree, trees_are_determined,
 };
@@ -31,6 +31,14 @@ use std::alloc::Global;
 pub struct NamedQuery {
     pub name: Text,
     pub query: Query,
+}
+
+impl Replicate for NamedQuery {
+    fn copy(&self, alloc: Global) -> Result<NamedQuery, OutOfMemory> {
+        let name = self.name.copy(alloc)?;
+        let query = self.query.copy(alloc)?;
+        Ok(NamedQuery { name, query })
+    }
 }
 
 /// What a text is to be.
