@@ -14,7 +14,7 @@ use esto_ports::{FileError, FileFault};
 use esto_relmodel::facts_of_rows;
 use esto_semantics::Facts;
 use esto_stores::{open_keys, open_table};
-use esto_term::{Bytes, List, OutOfMemory};
+use esto_term::{Bytes, List, OutOfMemory, Replicate};
 use std::alloc::Global;
 
 /// How many cells a line of a dataset of keys has: a key, a field and a value.
@@ -29,6 +29,16 @@ pub struct DatasetBytes {
 
 /// The files of some of a catalogue's datasets.
 pub type LoadList = List<DatasetBytes>;
+
+impl Replicate for DatasetBytes {
+    fn copy(&self, alloc: Global) -> Result<DatasetBytes, OutOfMemory> {
+        let bytes = self.bytes.copy(alloc)?;
+        Ok(DatasetBytes {
+            dataset: self.dataset,
+            bytes,
+        })
+    }
+}
 
 /// Why the facts of datasets' files are not loaded.
 #[derive(Drop)]
