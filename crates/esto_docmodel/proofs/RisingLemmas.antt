@@ -14,7 +14,7 @@ use Rattle.esto_docmodel.specs.Shapes.{shape, row, named_row, shaped_field}
 use Rattle.std.specs.Prelude.{IsTrue}
 use Rattle.esto_docmodel.specs.declared.field.FieldOf.{FieldOf}
 use Rattle.esto_docmodel.specs.declared.tree.Tree.{Tree}
-use Rattle.std.proofs.Common.{Bool, false, cond, [], ◌∷◌, ◌≤◌, length, drop, map, refl}
+use Rattle.std.proofs.Common.{Bool, false, cond, zero, suc, [], ◌∷◌, ◌≤◌, length, drop, take, map, refl}
 use Rattle.std.specs.Ordering.{is_lt}
 use Rattle.std.specs.declared.cmp.Ordering.{Ordering}
 use Rattle.std.specs.declared.cmp.Ordering.TheVariants.{Equal}
@@ -79,3 +79,20 @@ field_end items fields i past is rise known =
 pub item_end : (items : List Tree) (i : ℕ) → length items ≤ i → (AreInside (row (map shape (drop i items))) → AreInside (row (map shape items)))
     → IsRising (row (map shape items))
 item_end items i past known = rising_items items (known (subst (λ (w : List Tree). AreInside (row (map shape w))) (sym (drop_all i items past)) tt))
+
+-- ---- the first of rising fields
+
+less_in : (o : Ordering) (b : Bool) → o ≡ Less → IsTrue b → IsTrue (cond (is_lt o) b false)
+less_in o b is h = subst (λ (w : Ordering). IsTrue (cond (is_lt w) b false)) (sym is) h
+
+rise_from_taken : {X : Type 0} (c : List ℕ) (n : ℕ) (fs : List (FieldOf X)) → IsTrue (rise_from c (names_of fs)) → IsTrue (rise_from c (names_of (take n fs)))
+rise_from_taken c zero fs rise = refl
+rise_from_taken c (suc n) [] rise = refl
+rise_from_taken c (suc n) (f ∷ fs) rise =
+    let both = less_of (slice_cmp nat_cmp c f.name) (rise_from f.name (names_of fs)) rise in
+    less_in (slice_cmp nat_cmp c f.name) (rise_from f.name (names_of (take n fs))) both.0 (rise_from_taken f.name n fs both.1)
+
+pub rise_taken : {X : Type 0} (n : ℕ) (fs : List (FieldOf X)) → Rise fs → Rise (take n fs)
+rise_taken zero fs rise = refl
+rise_taken (suc n) [] rise = refl
+rise_taken (suc n) (f ∷ fs) rise = rise_from_taken f.name n fs rise

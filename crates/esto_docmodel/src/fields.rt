@@ -1,9 +1,9 @@
 //! Lists of fields, in rising order of their names.
-ghost use Rattle.std.specs.Prelude.{◌≡◌, [], ◌∷◌, ◌++◌, OnOk, OnErr};
+ghost use Rattle.std.specs.Prelude.{◌≡◌, [], ◌∷◌, ◌++◌, ◌<◌, length, slice_get, OnOk, OnErr};
 ghost use Rattle.esto_docmodel.specs.Names.{Rise};
 
 use crate::field::FieldOf;
-use esto_term::{List, OutOfMemory};
+use esto_term::{List, OutOfMemory, Replicate};
 use std::alloc::Global;
 use std::marker::Model;
 
@@ -38,6 +38,21 @@ impl<T> Fields<T> {
         }
     }
 
+    /// How many fields there are.
+    pub fn len(&self) -> usize
+        ensures { result ≡ length self.now }
+    {
+        self.fields.len()
+    }
+
+    /// The field at a place, counted from 0.
+    pub fn item(&self, at: usize) -> &FieldOf<T>
+        requires { at < length self.now }
+        ensures { slice_get self.now at ≡ Some result.now }
+    {
+        self.fields.item(at)
+    }
+
     /// All fields, in order.
     pub fn items(&self) -> &[FieldOf<T>]
         ensures value { result.now ≡ self.now }
@@ -55,5 +70,12 @@ impl<T: Drop> Fields<T> {
         ensures err { OnErr result (self.new ≡ self.old) }
     {
         self.fields.push(field)
+    }
+}
+
+impl<T: Replicate + Drop> Replicate for Fields<T> {
+    fn copy(&self, alloc: Global) -> Result<Fields<T>, OutOfMemory> {
+        let fields = self.fields.copy(alloc)?;
+        Ok(Fields { fields })
     }
 }

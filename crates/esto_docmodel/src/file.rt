@@ -1,6 +1,7 @@
 //! How documents stand in a file, and how the rows of fragments are stored.
 use crate::pattern::Pattern;
-use esto_term::{List, Text, TextRow};
+use esto_term::{List, OutOfMemory, Replicate, Text, TextRow};
+use std::alloc::Global;
 
 /// How documents stand in a file.
 #[derive(Clone, Copy, PartialEq, Eq)]
@@ -32,3 +33,27 @@ pub struct Store {
 
 /// The stores of a catalogue's fragments, in order.
 pub type Stores = List<Store>;
+
+impl Replicate for Shape {
+    fn copy(&self, alloc: Global) -> Result<Shape, OutOfMemory> {
+        match self {
+            Shape::Table(columns) => {
+                let columns = columns.copy(alloc)?;
+                Ok(Shape::Table(columns))
+            }
+            Shape::Documents(layout, pattern) => {
+                let pattern = pattern.copy(alloc)?;
+                Ok(Shape::Documents(*layout, pattern))
+            }
+            Shape::Keys => Ok(Shape::Keys),
+        }
+    }
+}
+
+impl Replicate for Store {
+    fn copy(&self, alloc: Global) -> Result<Store, OutOfMemory> {
+        let shape = self.shape.copy(alloc)?;
+        let file = self.file.copy(alloc)?;
+        Ok(Store { shape, file })
+    }
+}

@@ -1,5 +1,6 @@
 //! Patterns of trees.
-use esto_term::{List, Term, Text};
+use esto_term::{List, OutOfMemory, Replicate, Term, Text};
+use std::alloc::Global;
 
 /// A step of a path, from a node of a tree.
 #[derive(Drop)]
@@ -31,4 +32,45 @@ pub type Entries = List<Entry>;
 #[derive(Drop)]
 pub struct Pattern {
     pub entries: Entries,
+}
+
+impl Replicate for Step {
+    fn copy(&self, alloc: Global) -> Result<Step, OutOfMemory> {
+        match self {
+            Step::Name(name) => {
+                let name = name.copy(alloc)?;
+                Ok(Step::Name(name))
+            }
+            Step::Item => Ok(Step::Item),
+            Step::Below => Ok(Step::Below),
+        }
+    }
+}
+
+impl Replicate for Entry {
+    fn copy(&self, alloc: Global) -> Result<Entry, OutOfMemory> {
+        match self {
+            Entry::Value(path, term) => {
+                let path = path.copy(alloc)?;
+                let term = term.copy(alloc)?;
+                Ok(Entry::Value(path, term))
+            }
+            Entry::Group(path, entries) => {
+                let path = path.copy(alloc)?;
+                let mut copied = List::new(alloc);
+                'entries: for entry in entries.items() {
+                    let entry = entry.copy(alloc)?;
+                    copied.push(entry)?;
+                }
+                Ok(Entry::Group(path, copied))
+            }
+        }
+    }
+}
+
+impl Replicate for Pattern {
+    fn copy(&self, alloc: Global) -> Result<Pattern, OutOfMemory> {
+        let entries = self.entries.copy(alloc)?;
+        Ok(Pattern { entries })
+    }
 }

@@ -1,7 +1,8 @@
 //! Trees of documents.
 use crate::field::FieldOf;
 use crate::fields;
-use esto_term::{List, Text};
+use esto_term::{List, OutOfMemory, Replicate, Text};
+use std::alloc::Global;
 
 /// A document, or a part of one.
 #[derive(Drop)]
@@ -24,3 +25,32 @@ pub type Fields = fields::Fields<Tree>;
 
 /// A list of documents or of items.
 pub type Trees = List<Tree>;
+
+impl Replicate for Tree {
+    fn copy(&self, alloc: Global) -> Result<Tree, OutOfMemory> {
+        match self {
+            Tree::Value(text) => {
+                let text = text.copy(alloc)?;
+                Ok(Tree::Value(text))
+            }
+            Tree::Nothing => Ok(Tree::Nothing),
+            Tree::Fields(fields) => {
+                let mut copied = fields::Fields::new(alloc);
+                'fields: for field in fields.items() {
+                    let name = field.name.copy(alloc)?;
+                    let tree = field.tree.copy(alloc)?;
+                    copied.push(FieldOf { name, tree })?;
+                }
+                Ok(Tree::Fields(copied))
+            }
+            Tree::Items(items) => {
+                let mut copied = List::new(alloc);
+                'items: for item in items.items() {
+                    let item = item.copy(alloc)?;
+                    copied.push(item)?;
+                }
+                Ok(Tree::Items(copied))
+            }
+        }
+    }
+}

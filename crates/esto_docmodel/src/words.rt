@@ -1,6 +1,7 @@
 //! What datasets are, and the names that a text may use of them.
 
-use esto_term::{List, Text};
+use esto_term::{List, OutOfMemory, Replicate, Text};
+use std::alloc::Global;
 
 /// What a dataset is.
 #[derive(Clone, Copy, PartialEq, Eq)]
@@ -24,3 +25,14 @@ pub struct Word {
 /// The names that a text may use. Where a `Schema` has each relation by its own name, with its number
 /// of columns, a vocabulary has each dataset by its name, with its model and its first relation.
 pub type Vocabulary = List<Word>;
+
+impl Replicate for Word {
+    fn copy(&self, alloc: Global) -> Result<Word, OutOfMemory> {
+        let name = self.name.copy(alloc)?;
+        Ok(Word {
+            name,
+            model: self.model,
+            base: self.base,
+        })
+    }
+}
