@@ -107,7 +107,8 @@ fn copies_of(alloc: Global, facts: &[Atom], marks: &Values<bool>) -> Result<Fact
     let mut copies = List::new(alloc);
     'facts: for (place, fact) in facts.iter().enumerate() {
         if marks.item(place) {
-            copies.push(fact.copy(alloc)?)?;
+            let copy = fact.copy(alloc)?;
+            copies.push(copy)?;
         }
     }
     Ok(copies)
@@ -118,14 +119,12 @@ pub fn fresh_facts(alloc: Global, facts: &[Atom], more: &[Atom]) -> Result<Facts
     ensures { IfOk result (λ fresh. joined facts.now more.now ≡ facts.now ++ fresh) }
 {
     let marks = marks_of(alloc, facts, more)?;
-    let fresh = copies_of(alloc, more, &marks)?;
-    Ok(fresh)
+    copies_of(alloc, more, &marks)
 }
 
 /// Each of the facts once, where it stands first.
 pub fn once(alloc: Global, facts: &[Atom]) -> Result<Facts, OutOfMemory>
     ensures { IfOk result (λ it. it ≡ joined [] facts.now) }
 {
-    let fresh = fresh_facts(alloc, &[], facts)?;
-    Ok(fresh)
+    fresh_facts(alloc, &[], facts)
 }

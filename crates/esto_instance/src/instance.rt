@@ -90,8 +90,7 @@ impl Instance {
         ensures state { IfOk result (λ it. state_of it ≡ start_of (query_of query.now)) }
         ensures trace { IfOk result (λ it. trace_of it ≡ []) }
     {
-        let start = Instance::of_facts(alloc, &query.body, &query.head)?;
-        Ok(start)
+        Instance::of_facts(alloc, &query.body, &query.head)
     }
 
     /// The facts, in order.
@@ -121,8 +120,7 @@ impl Instance {
         ensures { IfOk result
             (λ answer. IsTrue answer ↔ MapsTo (query_of query.now) (state_of self.now)) }
     {
-        let answer = maps_into(alloc, query, &self.facts, &self.head)?;
-        Ok(answer)
+        maps_into(alloc, query, &self.facts, &self.head)
     }
 
     /// Appends those of the facts that are not there, in their order and once, and a step of that rule at that match to

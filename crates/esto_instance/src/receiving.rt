@@ -15,11 +15,9 @@ use std::alloc::Global;
 fn row_facts(alloc: Global, terms: &Terms) -> Result<Facts, OutOfMemory>
     ensures { IfOk result (λ facts. facts ≡ row_fact terms.now ∷ []) }
 {
+    let terms = terms.copy(alloc)?;
     let mut facts = List::new(alloc);
-    facts.push(Atom {
-        relation: 0,
-        terms: terms.copy(alloc)?,
-    })?;
+    facts.push(Atom { relation: 0, terms })?;
     Ok(facts)
 }
 

@@ -18,7 +18,8 @@ pub fn replace_in_terms(
 {
     let mut images = List::new(alloc);
     'terms: for term in terms {
-        images.push(term.substitute(alloc, from, to)?)?;
+        let image = term.substitute(alloc, from, to)?;
+        images.push(image)?;
     }
     Ok(images)
 }
