@@ -1,5 +1,5 @@
 -- An index of a list of facts: what stands in it, and the candidates of an atom.
-use Rattle.std.proofs.Common.{◌≡◌, ℕ, ◌+◌, ◌<◌, ◌≤◌, ◌⊎◌, ◌%◌, true, false, List, [], ◌∷◌, ◌++◌, length, get_or, Contains, Some}
+use Rattle.std.proofs.Common.{◌≡◌, ℕ, ◌+◌, ◌<◌, ◌%◌, true, false, List, [], ◌∷◌, ◌++◌, length, get_or, Contains, Some}
 use Rattle.std.proofs.Common.{sym, ap, subst, ◌∙◌, inl, inr, arith}
 use Rattle.std.specs.List.{slice_get}
 use Rattle.std.proofs.lemmas.Bool.{false≢true}
@@ -24,9 +24,6 @@ use Rattle.esto_query.specs.declared.index.Index.{Index}
 use Rattle.esto_table.specs.declared.entry.Entry.{Entry}
 use Rattle.esto_table.proofs.NumberLemmas.{number_is}
 use Rattle.esto_table.proofs.BucketLemmas.{AreRising-more, put_keeps, put_adds, put_rises}
-
-cases_lt : (a b : ℕ) → (a < b) ⊎ (b ≤ a)
-cases_lt a b = grind arith
 
 -- ---- the terms of one fact
 

@@ -1,6 +1,7 @@
 -- The least active match, atom by atom.
-use Rattle.std.proofs.Common.{◌≡◌, ℕ, ◌<◌, ◌≤◌, ◌⊎◌, ◌++◌, Bool, true, false, List, [], ◌∷◌, length, get_or, take, Contains, Some}
+use Rattle.std.proofs.Common.{◌≡◌, ℕ, ◌<◌, ◌≤◌, ◌++◌, Bool, true, false, List, [], ◌∷◌, length, get_or, take, Contains, Some}
 use Rattle.std.proofs.Common.{refl, sym, ap, subst, ◌∙◌, inl, inr, arith}
+use Rattle.std.proofs.lemmas.Bool.{cases_lt}
 use Rattle.std.specs.List.{slice_get}
 use Rattle.std.proofs.lemmas.List.{append-nil, append_assoc, length-take-le, get_or-take, get_or_default}
 use Rattle.esto_term.specs.declared.term.Term.{Term}
@@ -35,9 +36,6 @@ least_at_end facts rule start old new places same true tells = (
   },
 )
 least_at_end facts rule start old new places same false tells = (same, refl, λ m keeps extends sends. tells m keeps extends)
-
-cases_lt : (a b : ℕ) → (a < b) ⊎ (b ≤ a)
-cases_lt a b = grind arith
 
 module _ (facts : List (Fact Term)) (rule : Rule) (known : Assignment) (atom : Fact Term) (rest : List (Fact Term)) (found : List ℕ)
     (served : AreCandidates facts atom known found) (i place : ℕ) (within : i < length found) (read : place ≡ get_or found i place)
