@@ -98,14 +98,14 @@ impl Products {
         Ok(())
     }
 
-    /// Adds the set at a place of the sets, if it covers one of the others.
+    /// Adds the set at a place of the sets, if it covers one of the others. Answers whether it came.
     fn add_covered_at(
         &mut self,
         alloc: Global,
         sets: &Products,
         at: usize,
         others: &Products,
-    ) -> Result<(), OutOfMemory>
+    ) -> Result<bool, OutOfMemory>
         requires sets { sets.now.count ≡ self.old.count }
         requires others { others.now.count ≡ self.old.count }
         requires at { at < length sets.now.sets }
@@ -116,10 +116,9 @@ impl Products {
         products_are_antichains(sets);
         let set = sets.copy_of(alloc, at)?;
         if !others.covered(&set) {
-            return Ok(());
+            return Ok(false);
         }
-        self.add(alloc, &set)?;
-        Ok(())
+        self.add(alloc, &set)
     }
 
     /// Adds those of the sets that cover one of the others.
@@ -141,14 +140,14 @@ impl Products {
         Ok(())
     }
 
-    /// Adds the set at a place of the sets, unless it covers one of the others.
+    /// Adds the set at a place of the sets, unless it covers one of the others. Answers whether it came.
     fn add_uncovered_at(
         &mut self,
         alloc: Global,
         sets: &Products,
         at: usize,
         others: &Products,
-    ) -> Result<(), OutOfMemory>
+    ) -> Result<bool, OutOfMemory>
         requires sets { sets.now.count ≡ self.old.count }
         requires others { others.now.count ≡ self.old.count }
         requires at { at < length sets.now.sets }
@@ -160,10 +159,9 @@ impl Products {
         products_are_antichains(sets);
         let set = sets.copy_of(alloc, at)?;
         if others.covered(&set) {
-            return Ok(());
+            return Ok(false);
         }
-        self.add(alloc, &set)?;
-        Ok(())
+        self.add(alloc, &set)
     }
 
     /// Those of the kept sets that cover none of the others.
@@ -195,8 +193,7 @@ impl Products {
     {
         let ones = sets.left_by(alloc, self)?;
         let rest = others.left_by(alloc, self)?;
-        self.add_unions(alloc, &ones, &rest)?;
-        Ok(())
+        self.add_unions(alloc, &ones, &rest)
     }
 
     /// Adds the unions of a set of the one family and one of the other, in every combination, as far as they are minimal. A
@@ -216,7 +213,6 @@ impl Products {
     {
         self.add_covered(alloc, sets, others)?;
         self.add_covered(alloc, others, sets)?;
-        self.add_rest(alloc, sets, others)?;
-        Ok(())
+        self.add_rest(alloc, sets, others)
     }
 }

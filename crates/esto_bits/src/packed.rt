@@ -135,8 +135,7 @@ impl PackedSets {
         if row_within(row, words) {
             return Ok(());
         }
-        self.push(words)?;
-        Ok(())
+        self.push(words)
     }
 
     /// The sets that are no supersets of the one that the words keep.
@@ -160,8 +159,7 @@ impl PackedSets {
         ensures err { OnErr result (self.new ≡ self.old) }
     {
         if !self.has_superset(row) {
-            self.push(row)?;
-            return Ok(());
+            return self.push(row);
         }
         let mut rest = self.without_supersets(alloc, row)?;
         rest.push(row)?;

@@ -1,5 +1,6 @@
 use Rattle.std.proofs.Common.{◌≡◌, ◌∙◌, Some, slice_get, subst, sym}
 use Rattle.std.proofs.lemmas.Bool.{false≢true}
+use Rattle.std.proofs.lemmas.Result.{on_ok_weaker}
 use Rattle.esto_bits.specs.Words.{AreWordsBelow, set_of}
 use Rattle.esto_bits.proofs.PackedLemmas.{passed_over, put_behind}
 use Rattle.esto_bits.proofs.packed.PackedSets.push_unless_superset.Goals as goal
@@ -18,7 +19,7 @@ returns-then-row_within c =
 pub returns : goal.returns
 returns c =
     let words = c.words_at-words.result.now in
-    put_behind c.args.self.now c.args.row.now words c.requires.row (subst (AreWordsBelow words) c.requires.same_count c.words_at-words.ensures.below)
+    on_ok_weaker c.push.result (put_behind c.args.self.now c.args.row.now words c.requires.row (subst (AreWordsBelow words) c.requires.same_count c.words_at-words.ensures.below)
     c.args.others.now.sets c.args.at
     (subst (λ count. slice_get c.args.others.now.sets c.args.at ≡ Some (set_of words count)) c.requires.same_count c.words_at-words.ensures.set)
-    c.row_within.ensures.fits (λ lack. false≢true (sym c.if-row_within.false ∙ c.row_within.ensures.within.1 lack)) c.push.new.self c.in_ok-push.ensures.ok
+    c.row_within.ensures.fits (λ lack. false≢true (sym c.if-row_within.false ∙ c.row_within.ensures.within.1 lack)) c.push.new.self) c.push.ensures.ok

@@ -1,4 +1,5 @@
 use Rattle.std.proofs.Common.{◌≡◌, ◌∙◌, length, sym}
+use Rattle.std.proofs.lemmas.Result.{on_ok_weaker}
 use Rattle.std.proofs.lemmas.List.Elements.{All-contains}
 use Rattle.esto_term.proofs.ListLemmas.{Contains-at}
 use Rattle.esto_bits.proofs.JoinLemmas.{adds_none, alone}
@@ -21,5 +22,5 @@ returns-then-not-covered-clause-covers c = adds_none c.args.sets.now.sets c.args
 
 pub returns-clause-covers : goal.returns-clause-covers
 returns-clause-covers c =
-    alone c.args.self.now.sets c.args.sets.now.sets c.args.others.now.sets c.add.new.self.sets c.in_ok-set.set
-    (Contains-at c.args.sets.now.sets c.args.at c.in_ok-set.set c.in_ok-set.ensures) (c.covered.ensures.0 c.if-not-covered.false) c.in_ok-add.ensures.covers
+    on_ok_weaker c.add.result (alone c.args.self.now.sets c.args.sets.now.sets c.args.others.now.sets c.add.new.self.sets c.in_ok-set.set
+    (Contains-at c.args.sets.now.sets c.args.at c.in_ok-set.set c.in_ok-set.ensures) (c.covered.ensures.0 c.if-not-covered.false)) c.add.ensures.covers

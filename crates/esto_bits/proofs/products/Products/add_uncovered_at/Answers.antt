@@ -1,4 +1,5 @@
 use Rattle.std.proofs.Common.{◌≡◌, ◌∙◌, length, sym}
+use Rattle.std.proofs.lemmas.Result.{on_ok_weaker}
 use Rattle.std.proofs.lemmas.List.Elements.{All-contains}
 use Rattle.esto_term.proofs.ListLemmas.{Contains-at}
 use Rattle.esto_bits.proofs.JoinLemmas.{left_in, left_out}
@@ -22,4 +23,8 @@ returns-then-covered-clause-covers c =
 
 pub returns-clause-covers : goal.returns-clause-covers
 returns-clause-covers c =
-    (c.in_ok-set.set, c.in_ok-set.ensures, left_in c.args.others.now.sets c.args.self.now.sets c.add.new.self.sets c.in_ok-set.set c.in_ok-add.ensures.covers)
+    on_ok_weaker c.add.result (λ also. (
+      c.in_ok-set.set,
+      c.in_ok-set.ensures,
+      left_in c.args.others.now.sets c.args.self.now.sets c.add.new.self.sets c.in_ok-set.set also,
+    )) c.add.ensures.covers
