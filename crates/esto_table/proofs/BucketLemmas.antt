@@ -1,17 +1,12 @@
 -- Buckets: what stands in them after one more place.
-use Rattle.std.proofs.Common.{◌≡◌, ◌≢◌, ℕ, ◌+◌, ◌-◌, ◌<◌, ◌≤◌, ◌⊎◌, ◌%◌, List, [], ◌∷◌, ◌++◌, length, get_or, replicate, Contains, sym, ap, subst, ◌∙◌, inl, inr, arith}
+use Rattle.std.proofs.Common.{◌≡◌, ◌≢◌, ℕ, ◌+◌, ◌-◌, ◌<◌, ◌≤◌, ◌%◌, List, [], ◌∷◌, ◌++◌, length, get_or, replicate, Contains, sym, ap, subst, ◌∙◌, inl, inr, arith}
+use Rattle.std.proofs.lemmas.Bool.{cases_lt, cases_eq}
 use Rattle.std.proofs.lemmas.List.{length-set, get_or-set_same, get_or-set_other, get_or-replicate, get_or_past, length-replicate, get_or_default}
 use Rattle.std.proofs.lemmas.List.Elements.{Contains-append_left, Contains-push, Contains-push_cases}
 use Rattle.std.proofs.lemmas.List.Sorted.{IsNonDecreasingBy-push}
 use Rattle.esto_term.proofs.ListLemmas.{Contains-nil}
 use Rattle.esto_table.specs.Buckets.{places_at, with_place, AreRising}
 use Rattle.esto_table.specs.Places.{IsRising}
-
-same_or : (a b : ℕ) → (a ≡ b) ⊎ (a ≢ b)
-same_or a b = grind arith
-
-cases_lt : (a b : ℕ) → (a < b) ⊎ (b ≤ a)
-cases_lt a b = grind arith
 
 -- ---- a list of places with one more
 
@@ -69,7 +64,7 @@ module _ (buckets new : List (List ℕ)) (hash place : ℕ) (some : 0 < length b
       ∙ get_or-set_other buckets (hash % length buckets) bucket (places_at buckets hash ++ place ∷ []) [] apart
 
   kept_in : (bucket other : ℕ) → Contains (get_or buckets bucket []) other → Contains (get_or new bucket []) other
-  kept_in bucket other inside = elim (same_or bucket (hash % length buckets)) [
+  kept_in bucket other inside = elim (cases_eq bucket (hash % length buckets)) [
     | inl same ↦
         rw same (rw at_own (Contains-append_left (places_at buckets hash) (place ∷ []) other (subst (λ b. Contains (get_or buckets b []) other) same inside)))
     | inr apart ↦ rw (at_other bucket apart) inside
@@ -86,7 +81,7 @@ module _ (buckets new : List (List ℕ)) (hash place : ℕ) (some : 0 < length b
   put_rises up = record { below = below; rising = rising }
     where
       below : (bucket other : ℕ) → Contains (get_or new bucket []) other → other < place + 1
-      below bucket other inside = elim (same_or bucket (hash % length buckets)) [
+      below bucket other inside = elim (cases_eq bucket (hash % length buckets)) [
         | inl same ↦ elim (Contains-push_cases (places_at buckets hash) place other
             (subst (λ places. Contains places other) at_own (subst (λ b. Contains (get_or new b []) other) same inside))) [
               | inl before ↦ up.below (hash % length buckets) other before
@@ -96,7 +91,7 @@ module _ (buckets new : List (List ℕ)) (hash place : ℕ) (some : 0 < length b
       ]
 
       rising : (bucket : ℕ) → IsRising (get_or new bucket [])
-      rising bucket = elim (same_or bucket (hash % length buckets)) [
+      rising bucket = elim (cases_eq bucket (hash % length buckets)) [
         | inl same ↦ rw same (rw at_own (IsRising-push (places_at buckets hash) place
             (λ other inside. up.below (hash % length buckets) other inside) (up.rising (hash % length buckets))))
         | inr apart ↦ rw (at_other bucket apart) (up.rising bucket)

@@ -1,6 +1,7 @@
 -- Names in order, and the numbers of terms.
-use Rattle.std.proofs.Common.{◌≡◌, ◌⊎◌, inl, inr, ℕ, ◌<◌, ◌≤◌, true, false, List, [], ◌∷◌, length, get_or}
+use Rattle.std.proofs.Common.{◌≡◌, inl, inr, ℕ, ◌≤◌, true, false, List, [], ◌∷◌, length, get_or}
 use Rattle.std.proofs.Common.{sym, ap, ◌∙◌, arith}
+use Rattle.std.proofs.lemmas.Bool.{cases_order}
 use Rattle.std.specs.List.Sorted.{IsPartitionedBy, IsPartitionPoint}
 use Rattle.std.specs.Ordering.{is_lt}
 use Rattle.esto_term.specs.Order.{term_cmp}
@@ -8,9 +9,6 @@ use Rattle.esto_term.specs.declared.term.Term.{Term}
 use Rattle.esto_term.proofs.TotalOrderLemmas.{below, is_less, not_less}
 use Rattle.esto_term.proofs.OrderLemmas.{term_cmp_total}
 use Rattle.esto_table.specs.Numbers.{AreInOrder, IsRank, IsNumber}
-
-cases_order : (a b : ℕ) → (a ≡ b) ⊎ ((a < b) ⊎ (b < a))
-cases_order a b = grind arith
 
 -- ---- names in order
 
