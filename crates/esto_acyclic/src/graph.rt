@@ -249,8 +249,7 @@ fn cycle_at(
         (λ cycle. IsLeastCycleAt (Joins edges.now) start cycle)) }
 {
     let distances = distances_to(alloc, count, edges, start)?;
-    let found = cycle_by_distances(alloc, edges, distances.as_slice(), start)?;
-    Ok(found)
+    cycle_by_distances(alloc, edges, distances.as_slice(), start)
 }
 
 /// The least cycle, where some walk has as many edges as there are relations.

@@ -72,7 +72,8 @@ fn names_of(alloc: Global, schema: &Schema, relations: &[usize]) -> Result<TextR
 {
     let mut names = List::new(alloc);
     'relations: for relation in relations {
-        names.push(schema.name(*relation).copy(alloc)?)?;
+        let name = schema.name(*relation).copy(alloc)?;
+        names.push(name)?;
     }
     Ok(names)
 }

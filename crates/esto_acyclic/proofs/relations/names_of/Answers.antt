@@ -10,7 +10,7 @@ name-requires c = c.requires c.relations.relation-index 0 c.relations-test.true
 pub relations-preserved : goal.relations-preserved
 relations-preserved c =
     names_more c.args.schema.now c.args.relations.now c.relations.relation-index _ c.relations.names c.push.new.self c.relations-test.true
-    (c.name.ensures ∙ ap Some (sym c.in_ok-copy.ensures)) c.relations.invariant c.in_ok-push.ensures.ok
+    (c.name.ensures ∙ ap Some (sym c.in_ok-name.ensures)) c.relations.invariant c.in_ok-push.ensures.ok
 
 pub returns : goal.returns
 returns c =
