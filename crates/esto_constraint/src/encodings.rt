@@ -23,7 +23,8 @@ fn add_names(alloc: Global, texts: &[&str], names: &mut Names) -> Result<(), Out
     ensures { OnOk result (names.new ≡ names.old ++ map (λ text. Given text.now) texts.now) }
 {
     'texts: for text in texts {
-        names.push(Name::Given(Text::from_str(alloc, text)?))?;
+        let text = Text::from_str(alloc, text)?;
+        names.push(Name::Given(text))?;
     }
     Ok(())
 }

@@ -34,8 +34,8 @@ fn add_variable(
     if !is_variable_of(head, term) || has_term(shared.items(), term) {
         return Ok(());
     }
-    shared.push(term.copy(alloc)?)?;
-    Ok(())
+    let copy = term.copy(alloc)?;
+    shared.push(copy)
 }
 
 /// Puts those of the terms at the end that are variables of the head and are not there yet.

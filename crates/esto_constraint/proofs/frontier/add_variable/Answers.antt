@@ -2,6 +2,7 @@ use Rattle.std.proofs.Common.{[], ◌∷◌, List, ◌++◌}
 use Rattle.esto_chase_laws.specs.Making.{is_variable_of}
 use Rattle.std.proofs.Common.{Contains, refl, sym, ap, ◌∙◌, subst}
 use Rattle.std.proofs.lemmas.Bool.{false≢true}
+use Rattle.std.proofs.lemmas.Result.{on_ok_weaker}
 use Rattle.esto_term.specs.declared.term.Term.{Term}
 use Rattle.esto_constraint.proofs.FrontierLemmas.{not_a_variable, there_already, put_there}
 use Rattle.esto_constraint.proofs.frontier.add_variable.Goals.{then-not-is_variable_of-via-then-not-is_variable_of}
@@ -21,8 +22,8 @@ returns-then-not-is_variable_of c = elim c.then-not-is_variable_of.branch [
 
 -- src/making.rt:30:1
 pub returns : goal.returns
-returns c = put_there c.args.shared.now c.push.new.self (is_variable_of c.args.head.now) c.args.term.now
+returns c = on_ok_weaker c.push.result (λ pushed. put_there c.args.shared.now c.push.new.self (is_variable_of c.args.head.now) c.args.term.now
     (sym c.is_variable_of.ensures ∙ c.if-not-is_variable_of.false)
     (λ inside. false≢true (sym c.if-has_term.false
     ∙ c.has_term.ensures.1 (subst (λ (it : List Term). Contains it c.args.term.now) (sym c.items.ensures) inside)))
-    (c.in_ok-push.ensures.ok ∙ ap (λ it. c.args.shared.now ++ it ∷ []) c.in_ok-copy.ensures)
+    (pushed ∙ ap (λ it. c.args.shared.now ++ it ∷ []) c.in_ok-copy.ensures)) c.push.ensures.ok
