@@ -5,7 +5,7 @@ ghost use Rattle.esto_bits.specs.Kept.{AreOver, IsAntichain, with_set, CoversAls
 
 use crate::packed::PackedSets;
 use crate::row_bits::RowBits;
-use esto_term::{List, OutOfMemory, Replicate};
+use esto_term::{List, OutOfMemory, Replicate, push};
 use std::alloc::Global;
 use std::marker::Model;
 
@@ -148,10 +148,7 @@ fn copies(alloc: Global, products: &Products) -> Result<Vec<RowBits>, OutOfMemor
     let mut copies = Vec::new(alloc);
     'sets: for at in 0..products.len() {
         let set = products.copy_of(alloc, at)?;
-        match copies.push(set) {
-            Ok(()) => {}
-            Err(_) => return Err(OutOfMemory),
-        }
+        push(&mut copies, set)?;
     }
     Ok(copies)
 }

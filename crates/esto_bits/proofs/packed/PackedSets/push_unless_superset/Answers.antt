@@ -19,7 +19,9 @@ returns-then-row_within c =
 pub returns : goal.returns
 returns c =
     let words = c.words_at-words.result.now in
-    on_ok_weaker c.push.result (put_behind c.args.self.now c.args.row.now words c.requires.row (subst (AreWordsBelow words) c.requires.same_count c.words_at-words.ensures.below)
+    on_ok_weaker c.push.result
+    (put_behind c.args.self.now c.args.row.now words c.requires.row
+    (subst (AreWordsBelow words) c.requires.same_count c.words_at-words.ensures.below)
     c.args.others.now.sets c.args.at
     (subst (λ count. slice_get c.args.others.now.sets c.args.at ≡ Some (set_of words count)) c.requires.same_count c.words_at-words.ensures.set)
     c.row_within.ensures.fits (λ lack. false≢true (sym c.if-row_within.false ∙ c.row_within.ensures.within.1 lack)) c.push.new.self) c.push.ensures.ok
