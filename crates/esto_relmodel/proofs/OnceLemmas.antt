@@ -1,5 +1,5 @@
 -- Things each once: one thing more.
-use Rattle.std.proofs.Common.{◌≡◌, inl, inr, ℕ, Bool, true, false, ◌<◌, ◌≤◌, ◌+◌, List, [], ◌∷◌, ◌++◌, map, take, length, get_or, Contains, AllPairs, sym, ap, ◌∙◌, subst}
+use Rattle.std.proofs.Common.{◌≡◌, inl, inr, ℕ, Bool, true, false, ◌<◌, ◌≤◌, ◌+◌, List, [], ◌∷◌, ◌++◌, take, length, get_or, Contains, AllPairs, sym, ap, ◌∙◌, subst}
 use Rattle.std.proofs.Common.{refl, arith}
 use Rattle.std.proofs.lemmas.List.{append_assoc, append-nil, take_all}
 use Rattle.std.proofs.lemmas.List.Elements.{Contains-append_left, Contains-append_right, Contains-push_cases}
@@ -77,10 +77,6 @@ module _ {X : Type 0} where
       → AreEachOnce (things ++ thing ∷ []) new
   one_more true old new thing (apart, is) things once = subst (AreEachOnce (things ++ thing ∷ [])) (sym is) (fresh things old thing once apart)
   one_more false old new thing (there, is) things once = subst (AreEachOnce (things ++ thing ∷ [])) (sym is) (again things old thing once there)
-
--- nothing is made of no rows
-pub begun : {X Y : Type 0} (make : X → Y) (seen : List X) (made : List Y) → seen ≡ [] → made ≡ [] → (made ≡ map make seen) × AreEachOnce [] seen
-begun make seen made none nothing = (nothing ∙ ap (map make) (sym none), subst (AreEachOnce []) (sym none) start)
 
 -- the rows so far are one more
 pub more_rows : {X : Type 0} (rows old new : List X) (count : ℕ) (row : X) → count < length rows → row ≡ get_or rows count row

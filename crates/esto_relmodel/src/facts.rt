@@ -56,24 +56,6 @@ fn put_row<'a>(
     facts.push(fact)
 }
 
-/// Puts the facts of rows, each row once, where no row was seen yet.
-fn put_rows<'a>(
-    alloc: Global,
-    relation: usize,
-    rows: &'a [TextRow],
-    seen: &mut Seen<'a>,
-    facts: &mut Facts,
-) -> Result<(), OutOfMemory>
-    requires seen { seen.old ≡ [] }
-    requires facts { facts.old ≡ [] }
-    ensures { OnOk result (AreRowFacts relation rows.now facts.new) }
-{
-    'rows: for row in rows {
-        put_row(alloc, relation, row, seen, facts)?;
-    }
-    Ok(())
-}
-
 /// The facts of a table's rows: each row as a fact of the relation over its cells as constants, a repeated row once, in
 /// order of first occurrence.
 pub fn table_facts(alloc: Global, relation: usize, rows: &TextRows) -> Result<Facts, OutOfMemory>
@@ -81,25 +63,10 @@ pub fn table_facts(alloc: Global, relation: usize, rows: &TextRows) -> Result<Fa
 {
     let mut seen = Seen::new(alloc);
     let mut facts = List::new(alloc);
-    put_rows(alloc, relation, rows.items(), &mut seen, &mut facts)?;
-    Ok(facts)
-}
-
-// Whether one of the rows stands there twice, where no row was seen yet.
-fn repeat_among<'a>(
-    alloc: Global,
-    rows: &'a [TextRow],
-    seen: &mut Seen<'a>,
-) -> Result<bool, OutOfMemory>
-    requires { seen.old ≡ [] }
-    ensures { IfOk result (λ it. (it ≡ false) → AreEachOnce rows.now rows.now) }
-{
-    'rows: for row in rows {
-        if !seen.add(alloc, row)? {
-            return Ok(true);
-        }
+    'rows: for row in rows.items() {
+        put_row(alloc, relation, row, &mut seen, &mut facts)?;
     }
-    Ok(false)
+    Ok(facts)
 }
 
 // Whether one of the rows stands there twice.
@@ -107,7 +74,12 @@ fn has_repeats(alloc: Global, rows: &[TextRow]) -> Result<bool, OutOfMemory>
     ensures { IfOk result (λ it. (it ≡ false) → AreEachOnce rows.now rows.now) }
 {
     let mut seen = Seen::new(alloc);
-    repeat_among(alloc, rows, &mut seen)
+    'rows: for row in rows {
+        if !seen.add(alloc, row)? {
+            return Ok(true);
+        }
+    }
+    Ok(false)
 }
 
 // The constants of the cells, which are moved and not copied, in order.

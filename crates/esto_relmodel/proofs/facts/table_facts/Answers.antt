@@ -1,7 +1,9 @@
-use Rattle.std.proofs.Common.{ℕ, List, subst}
-use Rattle.esto_relmodel.specs.RowFacts.{AreRowFacts}
+use Rattle.esto_relmodel.proofs.OnceLemmas.{more_rows}
 use Rattle.esto_relmodel.proofs.facts.table_facts.Goals as goal
 
-pub returns : goal.returns
-returns c =
-    subst (λ (rows : List (List (List ℕ))). AreRowFacts c.args.relation rows c.put_rows.new.facts) c.items.ensures c.in_ok-put_rows.ensures
+pub rows-preserved : goal.rows-preserved
+rows-preserved c = (
+  c.in_ok-put_row.ensures.facts,
+  more_rows c.items-row-items.result.now c.rows.seen c.put_row.new.seen c.rows.row-index _ c.rows-test.true c.row-item.is c.rows.invariant.1
+      c.in_ok-put_row.ensures.once,
+)

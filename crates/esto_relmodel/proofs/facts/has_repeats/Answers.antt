@@ -1,10 +1,5 @@
-use Rattle.std.proofs.Common.{[], sym, subst}
-use Rattle.esto_relmodel.specs.Once.{AreEachOnce}
-use Rattle.esto_relmodel.proofs.OnceLemmas.{all_new, one_new, start}
-use Rattle.esto_relmodel.proofs.facts.repeat_among.Goals as goal
-
-pub rows-init : goal.rows-init
-rows-init c = (c.requires, subst (AreEachOnce []) (sym c.requires) start)
+use Rattle.esto_relmodel.proofs.OnceLemmas.{all_new, one_new}
+use Rattle.esto_relmodel.proofs.facts.has_repeats.Goals as goal
 
 pub rows-preserved : goal.rows-preserved
 rows-preserved c =

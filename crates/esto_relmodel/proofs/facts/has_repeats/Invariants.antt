@@ -1,6 +1,6 @@
 use Rattle.std.proofs.Common.{◌≡◌, take}
 use Rattle.esto_relmodel.specs.Once.{AreEachOnce}
-use Rattle.esto_relmodel.proofs.facts.repeat_among.Given as goal
+use Rattle.esto_relmodel.proofs.facts.has_repeats.Given as goal
 
 -- the rows that were seen are the rows so far, each once
 abbrev pub invariant-rows : goal.invariant-rows
