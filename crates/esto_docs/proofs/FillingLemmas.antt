@@ -6,6 +6,7 @@ use Rattle.std.proofs.lemmas.Bool.Decides.{nat_tests}
 use Rattle.std.proofs.lemmas.List.{get_or-set_same, get_or-set_other, length-set}
 use Rattle.std.proofs.lemmas.Option.{same_Some}
 use Rattle.std.proofs.lemmas.List.Elements.{Contains-push_cases, Contains-append_left, Contains-append_right}
+use Rattle.serde_json.specs.View.{view}
 use Rattle.serde_json.specs.declared.value.Value.{Value}
 use Rattle.esto_term.proofs.ListLemmas.{Contains-head, Contains-nil, Contains-rest, Contains-one}
 use Rattle.esto_term.specs.declared.term.Term.{Term, out-Term}
@@ -21,21 +22,22 @@ use Rattle.esto_docmodel.proofs.ShapeLemmas.{entry-Value, entry-Group}
 use Rattle.esto_docmodel.specs.declared.pattern.Step.{Step}
 use Rattle.esto_docmodel.specs.declared.pattern.Step.TheVariants.{Name, Item, Below}
 use Rattle.esto_docmodel.specs.declared.tree.Tree.{Tree}
-use Rattle.esto_docs.specs.Filling.{Task, times_by_kind, times, times_in, AllMatched, AreReady, AgreeOff, Completes, Fills, CompletesSome, FillsSome, task_of, tasks_onto, with_path, cells_of}
+use Rattle.esto_docs.specs.Filling.{Task, times_by_kind, times, times_in, AllMatched, AreReady, AgreeOff, Completes, Fills, CompletesSome, FillsSome, todo_step, tasks_of, value_node, with_path, cells_of}
 use Rattle.esto_docs.specs.Rows.{Row, text_in, row_map, IsRowOf, Gains}
-use Rattle.esto_docs.specs.declared.filling.Pending.{Pending}
+use Rattle.esto_docs.specs.declared.filling.Todo.{Todo, fold-roll-Todo}
+use Rattle.esto_docs.specs.declared.filling.Todo.TheOpen.{Todo-F}
+use Rattle.esto_docs.specs.declared.filling.Todo.TheVariants as left
 use Rattle.esto_docs.proofs.RowLemmas.{same_rows, same_constant, gains_append, text_column}
 
 -- ---- the tasks of the program
 
-pub tasks_push : (tasks : List Task) (todo : List Pending) (pending : Pending)
-    → tasks_onto tasks (todo ++ pending ∷ []) ≡ task_of pending ∷ tasks_onto tasks todo
-tasks_push tasks [] pending = refl
-tasks_push tasks (first ∷ todo) pending = tasks_push (task_of first ∷ tasks) todo pending
+pub tasks-Nothing : tasks_of left.Nothing ≡ []
+tasks-Nothing = ap tasks_of (sym left.rolls-Nothing) ∙ fold-roll-Todo (List Task) todo_step Todo-F.Nothing
 
-pub tasks_last : (todo before : List Pending) (pending : Pending) → todo ≡ before ++ pending ∷ []
-    → tasks_onto [] todo ≡ task_of pending ∷ tasks_onto [] before
-tasks_last todo before pending is = ap (tasks_onto []) is ∙ tasks_push [] before pending
+pub tasks-Entries : (entries : Bor (List Entry)) (value : Bor Value) (later : Bor Todo)
+    → tasks_of (left.Entries entries value later) ≡ (entries_of entries.now, value_node (view value.now)) ∷ tasks_of later.now
+tasks-Entries entries value later = ap tasks_of (sym (left.rolls-Entries entries value later))
+    ∙ fold-roll-Todo (List Task) todo_step (Todo-F.Entries entries value later)
 
 pub cells_count : (values : List (Bor Value)) → length (cells_of values) ≡ length values
 cells_count [] = refl
@@ -96,13 +98,9 @@ end_weight done = 0
 end_weight (holds path term rest) = 1
 end_weight (group path inner rest) = 1 + weight inner
 
-abbrev pub weight_in : List Pending → ℕ
+abbrev pub weight_in : List Task → ℕ
 weight_in [] = 0
-weight_in (pending ∷ rest) = weight (entries_of pending.entries.now) + weight_in rest
-
-pub weight_push : (todo : List Pending) (pending : Pending) → weight_in (todo ++ pending ∷ []) ≡ weight (entries_of pending.entries.now) + weight_in todo
-weight_push [] pending = omega arith
-weight_push (first ∷ todo) pending = omega (arith, weight_push todo pending)
+weight_in (task ∷ rest) = weight task.0 + weight_in rest
 
 weight_before : (x rest : Entries) → IsSome x → weight (before x rest) ≡ length (first_path x) + 1 + end_weight x + weight rest
 weight_before done rest some = absurd some

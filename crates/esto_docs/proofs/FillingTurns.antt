@@ -1,5 +1,5 @@
 -- The turns of filling rows along a layout.
-use Rattle.std.proofs.Common.{◌≡◌, ◌∙◌, ◌<◌, ◌+◌, ◌++◌, ℕ, List, [], ◌∷◌, length, map, take, get_or, Bor, sym, ap, subst, arith}
+use Rattle.std.proofs.Common.{◌≡◌, ◌∙◌, ◌<◌, ◌+◌, ◌*◌, ◌++◌, ℕ, List, [], ◌∷◌, length, map, take, get_or, Bor, sym, ap, subst, arith}
 use Rattle.std.proofs.lemmas.List.{take_more, map-append, map_more}
 use Rattle.serde_json.specs.View.{view}
 use Rattle.serde_json.specs.declared.value.Value.{Value}
@@ -9,91 +9,114 @@ use Rattle.esto_docmodel.specs.Patterns.{Entries, done}
 use Rattle.esto_docmodel.specs.Shapes.{entries_of}
 use Rattle.esto_docmodel.specs.declared.pattern.Entry.{Entry}
 use Rattle.esto_docmodel.specs.declared.pattern.Step.{Step}
-use Rattle.esto_docs.specs.Filling.{value_node, value_text, cells_of, Task, AreReady, Fills, task_of, tasks_of, with_path}
+use Rattle.esto_docs.specs.Filling.{value_node, value_text, cells_of, Task, AreReady, Fills, tasks_of, with_path}
 use Rattle.esto_docs.specs.Rows.{Row}
-use Rattle.esto_docs.specs.declared.filling.Pending.{Pending}
-use Rattle.esto_docs.proofs.FillingLemmas.{tasks_last, cells_count, before, entries_first, weight, end_weight, weight_in, weight_push, weight_first, ready_entry, fills_entry, fills_rest, fills_row}
+use Rattle.esto_docs.specs.declared.filling.Todo.{Todo}
+use Rattle.esto_docs.specs.declared.filling.Todo.TheVariants as left
+use Rattle.esto_docs.proofs.FillingLemmas.{tasks-Nothing, tasks-Entries, cells_count, before, entries_first, weight, end_weight, weight_in, weight_first, ready_entry, ready_rest, fills_entry, fills_rest, fills_row}
 
--- ---- what is pending last
+-- ---- what is left to match
 
-module _ (todo rest : List Pending) (pending : Pending) (is : todo ≡ rest ++ pending ∷ []) where
-  pub popped_ready : (columns : ℕ) → AreReady columns (tasks_of todo) → AreReady columns (task_of pending ∷ tasks_of rest)
-  popped_ready columns = subst (AreReady columns) (tasks_last todo rest pending is)
-
-  pub pushed_ready : (columns : ℕ) → AreReady columns (task_of pending ∷ tasks_of rest) → AreReady columns (tasks_of todo)
-  pushed_ready columns = subst (AreReady columns) (sym (tasks_last todo rest pending is))
-
-  pub popped_fills : (columns : ℕ) (cells new_cells : Row) (old new : List Row) → Fills columns (task_of pending ∷ tasks_of rest) cells new_cells old new
-      → Fills columns (tasks_of todo) cells new_cells old new
-  popped_fills columns cells new_cells old new = subst (λ (ts : List Task). Fills columns ts cells new_cells old new) (sym (tasks_last todo rest pending is))
-
-  pub pushed_fills : (columns : ℕ) (cells new_cells : Row) (old new : List Row) → Fills columns (tasks_of todo) cells new_cells old new
-      → Fills columns (task_of pending ∷ tasks_of rest) cells new_cells old new
-  pushed_fills columns cells new_cells old new = subst (λ (ts : List Task). Fills columns ts cells new_cells old new) (tasks_last todo rest pending is)
-
-  pub popped_weight : weight_in todo ≡ weight (entries_of pending.entries.now) + weight_in rest
-  popped_weight = ap weight_in is ∙ weight_push rest pending
-
-pub all_done : (values : List (Bor Value)) (todo : List Pending) (old new : List Row) → length todo ≡ 0 → new ≡ old ++ cells_of values ∷ []
+pub all_done : (values : List (Bor Value)) (todo : Todo) (old new : List Row) → todo ≡ left.Nothing → new ≡ old ++ cells_of values ∷ []
     → Fills (length values) (tasks_of todo) (cells_of values) (cells_of values) old new
-all_done values [] old new none is =
-    subst (λ (rows : List Row). Fills (length values) [] (cells_of values) (cells_of values) old rows) (sym is)
-    (fills_row (length values) (cells_of values) old (cells_count values))
-all_done values (pending ∷ todo) old new none is = absurd (omega (arith, none))
+all_done values todo old new none is =
+    subst (λ (tasks : List Task). Fills (length values) tasks (cells_of values) (cells_of values) old new) (sym (ap tasks_of none ∙ tasks-Nothing))
+    (subst (λ (rows : List Row). Fills (length values) [] (cells_of values) (cells_of values) old rows) (sym is)
+    (fills_row (length values) (cells_of values) old (cells_count values)))
 
--- ---- its first entry
+-- entries in a value, after which nothing is left
+pub only_task : (entries : Bor (List Entry)) (value : Bor Value) (later : Bor Todo) → later.now ≡ left.Nothing
+    → tasks_of (left.Entries entries value later) ≡ (entries_of entries.now, value_node (view value.now)) ∷ []
+only_task entries value later none =
+    tasks-Entries entries value later
+    ∙ ap (λ (ts : List Task). (entries_of entries.now, value_node (view value.now)) ∷ ts) (ap tasks_of none ∙ tasks-Nothing)
 
-module _ (columns : ℕ) (todo more : List Pending) (pending : Pending) (rest : Bor (List Entry)) (e : Entry) (path : List Step)
-    (split : pending.entries.now ≡ e ∷ rest.now) (put : more ≡ todo ++ record { entries = rest; value = pending.value } ∷ [])
-    (first : path ≡ first_path (entries_of (e ∷ []))) where
-  abbrev next : Pending
-  next = record { entries = rest; value = pending.value }
+module _ (columns : ℕ) (todo : Todo) (entries : Bor (List Entry)) (value : Bor Value) (later : Bor Todo) (is : todo ≡ left.Entries entries value later) where
+  pub first_task : tasks_of todo ≡ (entries_of entries.now, value_node (view value.now)) ∷ tasks_of later.now
+  first_task = ap tasks_of is ∙ tasks-Entries entries value later
 
-  abbrev node : Node
-  node = value_node (view pending.value.now)
+  pub first_weight : weight_in (tasks_of todo) ≡ weight (entries_of entries.now) + weight_in (tasks_of later.now)
+  first_weight = ap weight_in first_task
 
-  whole : entries_of pending.entries.now ≡ before (entries_of (e ∷ [])) (entries_of rest.now)
-  whole = ap entries_of split ∙ entries_first e rest.now
+  pub opened_ready : AreReady columns (tasks_of todo) → AreReady columns ((entries_of entries.now, value_node (view value.now)) ∷ tasks_of later.now)
+  opened_ready = subst (AreReady columns) first_task
 
-  tasks : tasks_of more ≡ (entries_of rest.now, node) ∷ tasks_of todo
-  tasks = tasks_last more todo next put
+  pub closed_ready : AreReady columns ((entries_of entries.now, value_node (view value.now)) ∷ tasks_of later.now) → AreReady columns (tasks_of todo)
+  closed_ready = subst (AreReady columns) (sym first_task)
 
-  pub entry_ready : AreReady columns (task_of pending ∷ tasks_of todo)
-      → AreReady columns ((with_path path (entries_of (e ∷ [])), value_node (view pending.value.now)) ∷ tasks_of more)
-  entry_ready ready =
-      let opened = subst (λ (es : Entries). AreReady columns ((es, node) ∷ tasks_of todo)) whole ready in
-      let split_up = ready_entry columns (tasks_of todo) node (entries_of (e ∷ [])) (entries_of rest.now) opened in
-      let placed = subst (λ (p : List Step). AreReady columns ((with_path p (entries_of (e ∷ [])), node) ∷ (entries_of rest.now, node) ∷ tasks_of todo))
-      (sym first) split_up in
-      subst (λ (ts : List Task). AreReady columns ((with_path path (entries_of (e ∷ [])), node) ∷ ts)) (sym tasks) placed
+  pub opened_fills : (cells new_cells : Row) (old new : List Row) → Fills columns (tasks_of todo) cells new_cells old new
+      → Fills columns ((entries_of entries.now, value_node (view value.now)) ∷ tasks_of later.now) cells new_cells old new
+  opened_fills cells new_cells old new = subst (λ (ts : List Task). Fills columns ts cells new_cells old new) first_task
 
-  pub entry_fills : (cells new_cells : Row) (old new : List Row)
-      → Fills columns ((with_path path (entries_of (e ∷ [])), value_node (view pending.value.now)) ∷ tasks_of more) cells new_cells old new
-      → Fills columns (task_of pending ∷ tasks_of todo) cells new_cells old new
-  entry_fills cells new_cells old new fills =
-      let taken = subst (λ (ts : List Task). Fills columns ((with_path path (entries_of (e ∷ [])), node) ∷ ts) cells new_cells old new) tasks fills in
-      let placed = subst (λ (p : List Step). Fills columns ((with_path p (entries_of (e ∷ [])), node) ∷ (entries_of rest.now, node) ∷ tasks_of todo)
-      cells new_cells old new) first taken in
-      let joined = fills_entry columns (tasks_of todo) node cells new_cells old new (entries_of (e ∷ [])) (entries_of rest.now) placed in
-      subst (λ (es : Entries). Fills columns ((es, node) ∷ tasks_of todo) cells new_cells old new) (sym whole) joined
+  pub closed_fills : (cells new_cells : Row) (old new : List Row)
+      → Fills columns ((entries_of entries.now, value_node (view value.now)) ∷ tasks_of later.now) cells new_cells old new
+      → Fills columns (tasks_of todo) cells new_cells old new
+  closed_fills cells new_cells old new = subst (λ (ts : List Task). Fills columns ts cells new_cells old new) (sym first_task)
 
-  pub entry_lighter : weight (entries_of pending.entries.now) + weight_in todo ≡ end_weight (entries_of (e ∷ [])) + length path + 1 + weight_in more
-  entry_lighter =
-      let here : weight (entries_of pending.entries.now) ≡ length (first_path (entries_of (e ∷ []))) + 1
-      + end_weight (entries_of (e ∷ [])) + weight (entries_of rest.now) =
-      ap (λ es. weight (entries_of es)) split ∙ weight_first e rest.now in
-      let there : weight_in more ≡ weight (entries_of rest.now) + weight_in todo = ap weight_in put ∙ weight_push todo next in
-      omega (arith, here, there, ap length first)
+  -- ---- none of its entries is left
 
-module _ (columns : ℕ) (todo : List Pending) (pending : Pending) (split : pending.entries.now ≡ []) where
-  nothing : task_of pending ∷ tasks_of todo ≡ (done, value_node (view pending.value.now)) ∷ tasks_of todo
-  nothing = ap (λ es. (entries_of es, value_node (view pending.value.now)) ∷ tasks_of todo) split
+  module _ (split : entries.now ≡ []) where
+    nothing : tasks_of todo ≡ (done, value_node (view value.now)) ∷ tasks_of later.now
+    nothing = first_task ∙ ap (λ es. (entries_of es, value_node (view value.now)) ∷ tasks_of later.now) split
 
-  pub rest_fills : (cells new_cells : Row) (old new : List Row) → Fills columns (tasks_of todo) cells new_cells old new
-      → Fills columns (task_of pending ∷ tasks_of todo) cells new_cells old new
-  rest_fills cells new_cells old new fills =
-      subst (λ (ts : List Task). Fills columns ts cells new_cells old new) (sym nothing)
-      (fills_rest columns (tasks_of todo) (value_node (view pending.value.now)) cells new_cells old new fills)
+    pub rest_ready : AreReady columns (tasks_of todo) → AreReady columns (tasks_of later.now)
+    rest_ready ready = ready_rest columns (tasks_of later.now) (value_node (view value.now)) (subst (AreReady columns) nothing ready)
+
+    pub rest_lighter : weight_in (tasks_of todo) ≡ 1 + weight_in (tasks_of later.now)
+    rest_lighter = ap weight_in nothing
+
+    pub rest_fills : (cells new_cells : Row) (old new : List Row) → Fills columns (tasks_of later.now) cells new_cells old new
+        → Fills columns (tasks_of todo) cells new_cells old new
+    rest_fills cells new_cells old new fills =
+        subst (λ (ts : List Task). Fills columns ts cells new_cells old new) (sym nothing)
+        (fills_rest columns (tasks_of later.now) (value_node (view value.now)) cells new_cells old new fills)
+
+  -- ---- its first entry, and what is left then
+
+  module _ (rest : Bor (List Entry)) (e : Entry) (path : List Step) (split : entries.now ≡ e ∷ rest.now) (first : path ≡ first_path (entries_of (e ∷ []))) where
+    abbrev more : Todo
+    more = left.Entries rest value later
+
+    abbrev node : Node
+    node = value_node (view value.now)
+
+    whole : tasks_of todo ≡ (before (entries_of (e ∷ [])) (entries_of rest.now), node) ∷ tasks_of later.now
+    whole = first_task ∙ ap (λ (es : Entries). (es, node) ∷ tasks_of later.now) (ap entries_of split ∙ entries_first e rest.now)
+
+    placed : (with_path path (entries_of (e ∷ [])), node) ∷ tasks_of more
+        ≡ (with_path (first_path (entries_of (e ∷ []))) (entries_of (e ∷ [])), node) ∷ (entries_of rest.now, node) ∷ tasks_of later.now
+    placed = λ i. (with_path (first i) (entries_of (e ∷ [])), node) ∷ tasks-Entries rest value later i
+
+    pub entry_ready : AreReady columns (tasks_of todo)
+        → AreReady columns ((with_path path (entries_of (e ∷ [])), value_node (view value.now)) ∷ tasks_of (left.Entries rest value later))
+    entry_ready ready =
+        subst (AreReady columns) (sym placed)
+        (ready_entry columns (tasks_of later.now) node (entries_of (e ∷ [])) (entries_of rest.now) (subst (AreReady columns) whole ready))
+
+    pub entry_fills : (cells new_cells : Row) (old new : List Row)
+        → Fills columns ((with_path path (entries_of (e ∷ [])), value_node (view value.now)) ∷ tasks_of (left.Entries rest value later)) cells new_cells old new
+        → Fills columns (tasks_of todo) cells new_cells old new
+    entry_fills cells new_cells old new fills =
+        let opened = subst (λ (ts : List Task). Fills columns ts cells new_cells old new) placed fills in
+        subst (λ (ts : List Task). Fills columns ts cells new_cells old new) (sym whole)
+        (fills_entry columns (tasks_of later.now) node cells new_cells old new (entries_of (e ∷ [])) (entries_of rest.now) opened)
+
+    pub entry_lighter : weight_in (tasks_of todo)
+        ≡ end_weight (entries_of (e ∷ [])) + length path + 1 + weight_in (tasks_of (left.Entries rest value later))
+    entry_lighter =
+        let here : weight (entries_of entries.now) ≡ length (first_path (entries_of (e ∷ []))) + 1
+        + end_weight (entries_of (e ∷ [])) + weight (entries_of rest.now) =
+        ap (λ es. weight (entries_of es)) split ∙ weight_first e rest.now in
+        let there : weight_in (tasks_of more) ≡ weight (entries_of rest.now) + weight_in (tasks_of later.now) =
+        ap weight_in (tasks-Entries rest value later) in
+        omega (arith, first_weight, here, there, ap length first)
+
+-- the entries of a group, matched before what is left
+pub group_lighter : (todo : Todo) (entries : Bor (List Entry)) (value : Bor Value) (later : Bor Todo) (before t : ℕ)
+    → todo ≡ left.Entries entries value later → before ≡ 1 + weight (entries_of entries.now)
+    → 2 * (before + weight_in (tasks_of later.now)) ≡ t → 2 * weight_in (tasks_of todo) < t
+group_lighter todo entries value later before t is heavier bound =
+    omega (arith, first_weight 0 todo entries value later is, heavier, bound)
 
 -- ---- items, one by one
 

@@ -13,7 +13,9 @@ use Rattle.esto_docmodel.specs.Shapes.{shape, entries_of}
 use Rattle.esto_docmodel.specs.declared.pattern.Step.{Step}
 use Rattle.esto_docs.specs.Rows.{Row, row_map, Gains}
 use Rattle.esto_docs.specs.Trees.{tree_of}
-use Rattle.esto_docs.specs.declared.filling.Pending.{Pending}
+use Rattle.esto_docs.specs.declared.filling.Todo.{Todo}
+use Rattle.esto_docs.specs.declared.filling.Todo.TheOpen.{Todo-F}
+use Rattle.esto_docs.specs.declared.filling.Todo.TheFolds.{fold-Todo}
 
 -- ---- cells
 
@@ -119,18 +121,14 @@ pub record FillsSome (columns : ℕ) (entries : Entries) (nodes : List Node) (ta
 
 -- ---- the tasks of the program
 
--- The task of entries that are pending.
-abbrev pub task_of : Pending → Task
-task_of pending = (entries_of pending.entries.now, value_node (view pending.value.now))
+-- What is left whose rest is tasks.
+abbrev pub todo_step : Todo-F (List Task) → List Task
+todo_step (Todo-F.Nothing) = []
+todo_step (Todo-F.Entries entries value later) = (entries_of entries.now, value_node (view value.now)) ∷ later.now
 
--- Tasks with those of what is pending before them, the last first.
-abbrev pub tasks_onto : List Task → List Pending → List Task
-tasks_onto tasks [] = tasks
-tasks_onto tasks (pending ∷ rest) = tasks_onto (task_of pending ∷ tasks) rest
-
--- The tasks of what is pending, the last first.
-abbrev pub tasks_of : List Pending → List Task
-tasks_of todo = tasks_onto [] todo
+-- The tasks of what is left to match, in order.
+abbrev pub tasks_of : Todo → List Task
+tasks_of = fold-Todo (List Task) todo_step
 
 -- The first of the entries, with that path in place of its own.
 abbrev pub with_path : List Step → Entries → Entries

@@ -1,11 +1,14 @@
 -- What the steps of reading a file give.
-use Rattle.std.specs.Prelude.{◌≡◌, ◌++◌, ℕ, true, false, List, [], ◌∷◌, Option, Some, None, Result, Ok, Err}
-use Rattle.serde_json.specs.Data.{Data}
-use Rattle.serde_json.specs.View.{view}
+use Rattle.std.specs.Prelude.{◌≡◌, ◌++◌, ℕ, true, false, List, Vec, Some, None, Result, Ok, Err}
+use Rattle.serde_json.specs.Data.{Data, array}
+use Rattle.serde_json.specs.View.{view, items_view}
 use Rattle.serde_json.specs.declared.value.Value.{Value}
 use Rattle.esto_docmodel.specs.declared.tree.Tree.{Tree}
 use Rattle.esto_docs.specs.Trees.{tree_of}
-use Rattle.esto_docs.specs.Files.{json_of, is_bad, trees_of_line}
+use Rattle.esto_docs.specs.Files.{json_of, is_bad, trees_of_line, array_fault}
+use Rattle.esto_ports.specs.declared.file_fault.FileError.{FileError}
+use Rattle.esto_ports.specs.declared.file_fault.FileError.TheVariants.{Fault}
+use Rattle.esto_ports.specs.declared.file_fault.FileError.TheVariants as file
 use Rattle.esto_docs.specs.declared.parse.ParseError.{ParseError}
 use Rattle.esto_docs.specs.declared.parse.ParseError.TheVariants.{BadJson, OutOfMemory}
 
@@ -21,16 +24,11 @@ ParsesTree bytes (Ok tree) = (value : Data) × (json_of bytes ≡ Some value) ×
 ParsesTree bytes (Err BadJson) = json_of bytes ≡ None
 ParsesTree bytes (Err OutOfMemory) = Unit {0}
 
--- A tree or none, as a list.
-abbrev pub as_list : Option Tree → List Tree
-as_list None = []
-as_list (Some tree) = tree ∷ []
-
--- These are the documents of the line, or it is bad; or memory is wanting.
-abbrev pub ReadsLine : List ℕ → Result (Option Tree) ParseError → Type 0
-ReadsLine line (Ok found) = (is_bad line ≡ false) × (as_list found ≡ trees_of_line line)
-ReadsLine line (Err BadJson) = is_bad line ≡ true
-ReadsLine line (Err OutOfMemory) = Unit {0}
+-- The bytes are an array of these items, or the fault is that of bytes that are none; or memory is wanting.
+abbrev pub ParsesArray : {Z : Type 0} → List ℕ → Result (Vec Value Z) FileError → Type 0
+ParsesArray bytes (Ok items) = json_of bytes ≡ Some (array (items_view items.items))
+ParsesArray bytes (Err (Fault found)) = array_fault (json_of bytes) ≡ Some found
+ParsesArray bytes (Err file.OutOfMemory) = Unit {0}
 
 -- The documents of the line are put at the end, or it is bad; or memory is wanting.
 abbrev pub PutsLine : List ℕ → List Tree → List Tree → Result (Unit {0}) ParseError → Type 0

@@ -198,5 +198,6 @@ pub fn document_of(alloc: Global, entries: &[Entry], row: &[Text]) -> Result<Val
     if begins_with_field(path_of(first)) {
         return Ok(Value::Object(members_of(alloc, entries, row)?));
     }
-    array_of(alloc, entry_value(alloc, first, row)?)
+    let value = entry_value(alloc, first, row)?;
+    array_of(alloc, value)
 }

@@ -1,5 +1,5 @@
 //! The facts of the documents of JSON files.
-ghost use Rattle.std.specs.Prelude.{◌≡◌, ◌∷◌, [], IfOk};
+ghost use Rattle.std.specs.Prelude.{◌∷◌, [], IfOk};
 ghost use Rattle.serde_json.specs.View.{view, items_view};
 ghost use Rattle.esto_docmodel.specs.Gaining.{HaveRoom};
 ghost use Rattle.esto_docmodel.specs.Putting.{PutsDocuments};
@@ -9,8 +9,8 @@ ghost use Rattle.esto_docs.specs.Files.{json_of, lines_fault, trees_of_lines, ar
 ghost use Rattle.esto_docs.specs.Trees.{tree_of, trees_of};
 
 use crate::from_json::tree_of;
-use crate::parse::{ParseError, parse};
-use crate::trees::read_line;
+use crate::parse::{ParseError, is_blank, parse_array};
+use crate::trees::parse_tree;
 use esto_docmodel::{Encoded, FactSink, Kept, Layout, put_document};
 use esto_lines::{cut_line, fault};
 use esto_ports::{FileError, FileKind};
@@ -29,13 +29,13 @@ fn encode_line<S: FactSink>(
     requires { HaveRoom (S.arities sink.old) relations.now.base }
     ensures { EncodesLine S.Holds S.arities relations.now line.now first sink.old sink.new result }
 {
-    match read_line(alloc, line) {
-        Ok(Some(tree)) => match put_document(alloc, sink, relations, &tree, first) {
-            Ok(next) => Ok(next),
-            Err(_) => Err(ParseError::OutOfMemory),
-        },
-        Ok(None) => Ok(first),
-        Err(error) => Err(error),
+    if is_blank(line) {
+        return Ok(first);
+    }
+    let tree = parse_tree(alloc, line)?;
+    match put_document(alloc, sink, relations, &tree, first) {
+        Ok(next) => Ok(next),
+        Err(_) => Err(ParseError::OutOfMemory),
     }
 }
 
@@ -116,16 +116,10 @@ fn encode_array<S: FactSink>(
         GivesNext S.Holds S.arities relations.now first (trees_of_array value)
         (array_fault value) sink.old sink.new result }
 {
-    match parse(alloc, bytes) {
-        Ok(value) => match value.as_array() {
-            Some(items) => match encode_items(alloc, items, relations, sink, first) {
-                Ok(next) => Ok(next),
-                Err(_) => Err(FileError::OutOfMemory),
-            },
-            None => Err(fault(FileKind::NotArray, 0)),
-        },
-        Err(ParseError::BadJson) => Err(fault(FileKind::BadJson, 0)),
-        Err(ParseError::OutOfMemory) => Err(FileError::OutOfMemory),
+    let items = parse_array(alloc, bytes)?;
+    match encode_items(alloc, &items, relations, sink, first) {
+        Ok(next) => Ok(next),
+        Err(_) => Err(FileError::OutOfMemory),
     }
 }
 

@@ -5,7 +5,7 @@ ghost use Rattle.esto_term.specs.declared.term.Term.TheVariants.{Plain};
 ghost use Rattle.esto_docmodel.specs.Forests.{Node};
 ghost use Rattle.esto_docmodel.specs.Layouts.{IsColumn, IsLayout};
 ghost use Rattle.esto_docmodel.specs.Shapes.{entries_of};
-ghost use Rattle.esto_docs.specs.Filling.{value_node, value_text, cells_of, AreReady, Completes, Fills, FillsSome, task_of, tasks_of, with_path};
+ghost use Rattle.esto_docs.specs.Filling.{value_node, value_text, cells_of, AreReady, Completes, Fills, FillsSome, tasks_of, with_path};
 ghost use Rattle.esto_docs.specs.Rows.{IsRowOf, Gains};
 ghost use Rattle.esto_docs.specs.Trees.{tree_of};
 
@@ -16,21 +16,11 @@ use esto_term::{OutOfMemory, Term, TextRows};
 use serde_json::Value;
 use std::alloc::Global;
 
-/// Entries of a layout that are left to match in a value.
+/// What is left to match: nothing, or entries of a layout in a value, and what follows them.
 #[derive(Clone, Copy)]
-pub struct Pending<'a> {
-    pub entries: &'a [Entry],
-    pub value: &'a Value,
-}
-
-// Puts entries that are pending at the end.
-fn defer<'a>(todo: &mut Vec<Pending<'a>>, pending: Pending<'a>) -> Result<(), OutOfMemory>
-    ensures { OnOk result (todo.new.items ≡ todo.old.items ++ pending.entry ∷ []) }
-{
-    match todo.push(pending) {
-        Ok(()) => Ok(()),
-        Err(_) => Err(OutOfMemory),
-    }
+pub enum Todo<'a, 'b> {
+    Nothing,
+    Entries(&'a [Entry], &'a Value, &'b Todo<'a, 'b>),
 }
 
 // Puts the value into the cell of the column.
@@ -51,58 +41,32 @@ fn put_cell<'a>(cells: &mut [&'a Value], term: &Term, value: &'a Value)
 fn put_row(alloc: Global, cells: &[&Value], rows: &mut TextRows) -> Result<(), OutOfMemory>
     ensures { OnOk result (rows.new ≡ rows.old ++ cells_of cells.now ∷ []) }
 {
-    rows.push(row_of(alloc, cells)?)
+    let row = row_of(alloc, cells)?;
+    rows.push(row)
 }
 
-// Puts the rows that complete the cells by all that is pending.
+// Puts the rows that complete the cells by all that is left to match.
 #[cycle(fill)]
 fn fill<'a>(
     alloc: Global,
-    todo: &mut Vec<Pending<'a>>,
+    todo: Todo<'a, '_>,
     cells: &mut [&'a Value],
     rows: &mut TextRows,
 ) -> Result<(), OutOfMemory>
-    requires { AreReady (length cells.old) (tasks_of todo.old.items) }
-    ensures todo { OnOk result (todo.new.items ≡ todo.old.items) }
-    ensures fills { OnOk result (Fills (length cells.old) (tasks_of todo.old.items)
+    requires { AreReady (length cells.old) (tasks_of todo) }
+    ensures { OnOk result (Fills (length cells.old) (tasks_of todo.entry)
         (cells_of cells.old) (cells_of cells.new) rows.old rows.new) }
 {
-    let Some(pending) = todo.pop() else {
-        return put_row(alloc, cells, rows);
-    };
-    fill_pending(alloc, pending, todo, cells, rows)?;
-    defer(todo, pending)
-}
-
-// The same, where what is pending last is given.
-#[cycle(fill)]
-fn fill_pending<'a>(
-    alloc: Global,
-    pending: Pending<'a>,
-    todo: &mut Vec<Pending<'a>>,
-    cells: &mut [&'a Value],
-    rows: &mut TextRows,
-) -> Result<(), OutOfMemory>
-    requires { AreReady (length cells.old) (task_of pending ∷ tasks_of todo.old.items) }
-    ensures todo { OnOk result (todo.new.items ≡ todo.old.items) }
-    ensures fills { OnOk result (Fills (length cells.old)
-        (task_of pending.entry ∷ tasks_of todo.old.items)
-        (cells_of cells.old) (cells_of cells.new) rows.old rows.new) }
-{
-    let Some((entry, rest)) = pending.entries.split_first() else {
-        return fill(alloc, todo, cells, rows);
-    };
-    let value = pending.value;
-    defer(
-        todo,
-        Pending {
-            entries: rest,
-            value,
+    match todo {
+        Todo::Nothing => put_row(alloc, cells, rows),
+        Todo::Entries(entries, value, later) => match entries.split_first() {
+            Some((entry, rest)) => {
+                let todo = Todo::Entries(rest, value, later);
+                follow(alloc, entry, path_of(entry), value, todo, cells, rows)
+            }
+            None => fill(alloc, *later, cells, rows),
         },
-    )?;
-    follow(alloc, entry, path_of(entry), value, todo, cells, rows)?;
-    todo.pop();
-    Ok(())
+    }
 }
 
 // The same, where the entry is to be matched first, by what is left of its path.
@@ -112,17 +76,16 @@ fn follow<'a>(
     entry: &'a Entry,
     path: &[Step],
     value: &'a Value,
-    todo: &mut Vec<Pending<'a>>,
+    todo: Todo<'a, '_>,
     cells: &mut [&'a Value],
     rows: &mut TextRows,
 ) -> Result<(), OutOfMemory>
     requires { AreReady (length cells.old)
         ((with_path path.now (entries_of (entry.now ∷ [])), value_node (view value.now))
-        ∷ tasks_of todo.old.items) }
-    ensures todo { OnOk result (todo.new.items ≡ todo.old.items) }
-    ensures fills { OnOk result (Fills (length cells.old)
+        ∷ tasks_of todo) }
+    ensures { OnOk result (Fills (length cells.old)
         ((with_path path.now (entries_of (entry.now ∷ [])), value_node (view value.now))
-        ∷ tasks_of todo.old.items)
+        ∷ tasks_of todo.entry)
         (cells_of cells.old) (cells_of cells.new) rows.old rows.new) }
 {
     let Some((step, rest)) = path.split_first() else {
@@ -145,16 +108,15 @@ fn follow_items<'a>(
     entry: &'a Entry,
     path: &[Step],
     items: &'a [Value],
-    todo: &mut Vec<Pending<'a>>,
+    todo: Todo<'a, '_>,
     cells: &mut [&'a Value],
     rows: &mut TextRows,
 ) -> Result<(), OutOfMemory>
     requires { (node : Node) → AreReady (length cells.old)
-        ((with_path path.now (entries_of (entry.now ∷ [])), node) ∷ tasks_of todo.old.items) }
-    ensures todo { OnOk result (todo.new.items ≡ todo.old.items) }
-    ensures fills { OnOk result (FillsSome (length cells.old)
+        ((with_path path.now (entries_of (entry.now ∷ [])), node) ∷ tasks_of todo) }
+    ensures { OnOk result (FillsSome (length cells.old)
         (with_path path.now (entries_of (entry.now ∷ [])))
-        (map (λ item. value_node (view item)) items.now) (tasks_of todo.old.items)
+        (map (λ item. value_node (view item)) items.now) (tasks_of todo.entry)
         (cells_of cells.old) (cells_of cells.new) rows.old rows.new) }
 {
     'items: for item in items {
@@ -169,17 +131,16 @@ fn reach<'a>(
     alloc: Global,
     entry: &'a Entry,
     value: &'a Value,
-    todo: &mut Vec<Pending<'a>>,
+    todo: Todo<'a, '_>,
     cells: &mut [&'a Value],
     rows: &mut TextRows,
 ) -> Result<(), OutOfMemory>
     requires { AreReady (length cells.old)
         ((with_path [] (entries_of (entry.now ∷ [])), value_node (view value.now))
-        ∷ tasks_of todo.old.items) }
-    ensures todo { OnOk result (todo.new.items ≡ todo.old.items) }
-    ensures fills { OnOk result (Fills (length cells.old)
+        ∷ tasks_of todo) }
+    ensures { OnOk result (Fills (length cells.old)
         ((with_path [] (entries_of (entry.now ∷ [])), value_node (view value.now))
-        ∷ tasks_of todo.old.items)
+        ∷ tasks_of todo.entry)
         (cells_of cells.old) (cells_of cells.new) rows.old rows.new) }
 {
     match entry {
@@ -195,10 +156,7 @@ fn reach<'a>(
             if !can_match(entries, value) {
                 return Ok(());
             }
-            defer(todo, Pending { entries, value })?;
-            fill(alloc, todo, cells, rows)?;
-            todo.pop();
-            Ok(())
+            fill(alloc, Todo::Entries(entries, value, &todo), cells, rows)
         }
     }
 }
@@ -217,8 +175,12 @@ fn put_completing<'a>(
         ((entries_of entries.now, value_node (view value.now)) ∷ []) (cells_of cells.old))
         rows.old rows.new) }
 {
-    let mut todo = Vec::new(alloc);
-    fill_pending(alloc, Pending { entries, value }, &mut todo, cells, rows)
+    fill(
+        alloc,
+        Todo::Entries(entries, value, &Todo::Nothing),
+        cells,
+        rows,
+    )
 }
 
 /// Puts the rows of a document at the end, by a layout of so many columns.

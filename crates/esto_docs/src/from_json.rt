@@ -1,5 +1,6 @@
 //! The tree of a JSON value.
-ghost use Rattle.std.specs.Prelude.{◌≡◌, ◌++◌, ◌∷◌, [], IfOk, OnOk};
+ghost use Rattle.std.specs.Prelude.{◌≡◌, ◌++◌, ◌∷◌, [], IfOk, OnOk, decimal};
+ghost use Rattle.std.specs.Fmt.{signed_decimal};
 ghost use Rattle.serde_json.specs.View.{view, number_view, items_view, members_view};
 ghost use Rattle.esto_docmodel.specs.Names.{Rise};
 ghost use Rattle.esto_docs.specs.Trees.{field_of, number_tree, tree_of, trees_of, fields_of};
@@ -17,17 +18,31 @@ fn value_of(alloc: Global, text: &str) -> Result<Tree, OutOfMemory>
     Ok(Tree::Value(Text::from_str(alloc, text)?))
 }
 
+// The tree of an unsigned number.
+fn unsigned_of(alloc: Global, n: u64) -> Result<Tree, OutOfMemory>
+    ensures { IfOk result (λ tree. tree ≡ variants.Value (decimal n)) }
+{
+    let digits = format!(in alloc; "{n}")?;
+    value_of(alloc, digits.as_str())
+}
+
+// The tree of a signed number.
+fn signed_of(alloc: Global, n: i64) -> Result<Tree, OutOfMemory>
+    ensures { IfOk result (λ tree. tree ≡ variants.Value (signed_decimal n)) }
+{
+    let digits = format!(in alloc; "{n}")?;
+    value_of(alloc, digits.as_str())
+}
+
 // The tree of a number.
 fn number_of(alloc: Global, number: &Number) -> Result<Tree, OutOfMemory>
     ensures { IfOk result (λ tree. tree ≡ number_tree (number_view number.now)) }
 {
     if let Some(n) = number.as_u64() {
-        let digits = format!(in alloc; "{n}")?;
-        return value_of(alloc, digits.as_str());
+        return unsigned_of(alloc, n);
     }
     if let Some(n) = number.as_i64() {
-        let digits = format!(in alloc; "{n}")?;
-        return value_of(alloc, digits.as_str());
+        return signed_of(alloc, n);
     }
     Ok(Tree::Nothing)
 }
@@ -64,7 +79,8 @@ pub fn trees_of(alloc: Global, items: &Vec<Value>) -> Result<Trees, OutOfMemory>
 {
     let mut trees = List::new(alloc);
     'items: for item in items {
-        trees.push(tree_of(alloc, item)?)?;
+        let tree = tree_of(alloc, item)?;
+        trees.push(tree)?;
     }
     Ok(trees)
 }

@@ -52,7 +52,8 @@ pub fn row_of(alloc: Global, values: &[&Value]) -> Result<TextRow, OutOfMemory>
 {
     let mut row = List::new(alloc);
     'values: for value in values {
-        row.push(text_of(alloc, value)?)?;
+        let text = text_of(alloc, value)?;
+        row.push(text)?;
     }
     Ok(row)
 }

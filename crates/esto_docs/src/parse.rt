@@ -1,8 +1,10 @@
 //! Bytes as JSON values.
 ghost use Rattle.std.specs.Prelude.{◌≡◌};
-ghost use Rattle.esto_docs.specs.Parsing.{Parses};
+ghost use Rattle.esto_docs.specs.Parsing.{Parses, ParsesArray};
 ghost use Rattle.esto_docs.specs.Files.{is_blank};
 
+use esto_lines::fault;
+use esto_ports::{FileError, FileKind};
 use serde_json::Value;
 use std::alloc::Global;
 
@@ -28,6 +30,19 @@ pub fn parse(alloc: Global, bytes: &[u8]) -> Result<Value, ParseError>
                 Err(ParseError::BadJson)
             }
         }
+    }
+}
+
+/// The items of a file that is one array, or its fault: BadJson at 0 where it is no JSON value, and
+/// NotArray at 0 where it is no array.
+pub fn parse_array(alloc: Global, bytes: &[u8]) -> Result<Vec<Value>, FileError>
+    ensures { ParsesArray bytes.now result }
+{
+    match parse(alloc, bytes) {
+        Ok(Value::Array(items)) => Ok(items),
+        Ok(_) => Err(fault(FileKind::NotArray, 0)),
+        Err(ParseError::BadJson) => Err(fault(FileKind::BadJson, 0)),
+        Err(ParseError::OutOfMemory) => Err(FileError::OutOfMemory),
     }
 }
 

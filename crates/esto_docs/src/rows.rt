@@ -9,7 +9,7 @@ ghost use Rattle.esto_docs.specs.Rows.{Row, IsRowOf, GivesRows, OpensLine};
 ghost use Rattle.esto_docs.specs.Trees.{trees_of};
 
 use crate::filling::put_rows;
-use crate::parse::{ParseError, is_blank, parse};
+use crate::parse::{ParseError, is_blank, parse, parse_array};
 use esto_docmodel::{Layout, Pattern};
 use esto_lines::{cut_line, fault};
 use esto_ports::{FileError, FileKind};
@@ -98,16 +98,10 @@ fn open_array(
         GivesRows (IsRowOf columns (entries_of pattern.now.entries) (trees_of_array value))
         (array_fault value) result }
 {
-    match parse(alloc, bytes) {
-        Ok(value) => match value.as_array() {
-            Some(items) => match open_items(alloc, items, pattern, columns) {
-                Ok(rows) => Ok(rows),
-                Err(_) => Err(FileError::OutOfMemory),
-            },
-            None => Err(fault(FileKind::NotArray, 0)),
-        },
-        Err(ParseError::BadJson) => Err(fault(FileKind::BadJson, 0)),
-        Err(ParseError::OutOfMemory) => Err(FileError::OutOfMemory),
+    let items = parse_array(alloc, bytes)?;
+    match open_items(alloc, &items, pattern, columns) {
+        Ok(rows) => Ok(rows),
+        Err(_) => Err(FileError::OutOfMemory),
     }
 }
 

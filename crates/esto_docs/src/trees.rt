@@ -2,18 +2,18 @@
 ghost use Rattle.esto_lines.specs.Faults.{Gives};
 ghost use Rattle.esto_lines.specs.Lines.{lines_of};
 ghost use Rattle.esto_docs.specs.Files.{json_of, lines_fault, trees_of_lines, array_fault, trees_of_array, trees_fault, file_trees};
-ghost use Rattle.esto_docs.specs.Parsing.{ParsesTree, ReadsLine, PutsLine};
+ghost use Rattle.esto_docs.specs.Parsing.{ParsesTree, PutsLine};
 
 use crate::from_json::{tree_of, trees_of};
-use crate::parse::{ParseError, is_blank, parse};
+use crate::parse::{ParseError, is_blank, parse, parse_array};
 use esto_docmodel::{Layout, Tree, Trees};
 use esto_lines::{cut_line, fault};
 use esto_ports::{FileError, FileKind};
 use esto_term::List;
 use std::alloc::Global;
 
-// The tree of a JSON value that bytes are.
-fn parse_tree(alloc: Global, bytes: &[u8]) -> Result<Tree, ParseError>
+/// The tree of a JSON value that bytes are.
+pub fn parse_tree(alloc: Global, bytes: &[u8]) -> Result<Tree, ParseError>
     ensures { ParsesTree bytes.now result }
 {
     let value = parse(alloc, bytes)?;
@@ -23,30 +23,17 @@ fn parse_tree(alloc: Global, bytes: &[u8]) -> Result<Tree, ParseError>
     }
 }
 
-/// The document of a line, or None where the line is blank.
-pub fn read_line(alloc: Global, line: &[u8]) -> Result<Option<Tree>, ParseError>
-    ensures { ReadsLine line.now result }
-{
-    if is_blank(line) {
-        return Ok(None);
-    }
-    match parse_tree(alloc, line) {
-        Ok(tree) => Ok(Some(tree)),
-        Err(error) => Err(error),
-    }
-}
-
 // Puts the document of a line at the end, unless the line is blank.
 fn put_line(alloc: Global, line: &[u8], trees: &mut Trees) -> Result<(), ParseError>
     ensures { PutsLine line.now trees.old trees.new result }
 {
-    match read_line(alloc, line) {
-        Ok(Some(tree)) => match trees.push(tree) {
-            Ok(()) => Ok(()),
-            Err(_) => Err(ParseError::OutOfMemory),
-        },
-        Ok(None) => Ok(()),
-        Err(error) => Err(error),
+    if is_blank(line) {
+        return Ok(());
+    }
+    let tree = parse_tree(alloc, line)?;
+    match trees.push(tree) {
+        Ok(()) => Ok(()),
+        Err(_) => Err(ParseError::OutOfMemory),
     }
 }
 
@@ -76,16 +63,10 @@ fn read_array(alloc: Global, bytes: &[u8]) -> Result<Trees, FileError>
     ensures { let value = json_of bytes.now in
         Gives (trees_of_array value) (array_fault value) result }
 {
-    match parse(alloc, bytes) {
-        Ok(value) => match value.as_array() {
-            Some(items) => match trees_of(alloc, items) {
-                Ok(trees) => Ok(trees),
-                Err(_) => Err(FileError::OutOfMemory),
-            },
-            None => Err(fault(FileKind::NotArray, 0)),
-        },
-        Err(ParseError::BadJson) => Err(fault(FileKind::BadJson, 0)),
-        Err(ParseError::OutOfMemory) => Err(FileError::OutOfMemory),
+    let items = parse_array(alloc, bytes)?;
+    match trees_of(alloc, &items) {
+        Ok(trees) => Ok(trees),
+        Err(_) => Err(FileError::OutOfMemory),
     }
 }
 

@@ -1,5 +1,5 @@
 //! The text of JSON files.
-ghost use Rattle.std.specs.Prelude.{◌≡◌, ◌↔◌, ◌++◌, map, length, All, Contains, IfOk, OnOk, None};
+ghost use Rattle.std.specs.Prelude.{◌≡◌, ◌↔◌, ◌++◌, ◌∷◌, [], map, length, All, Contains, IfOk, OnOk, None, string_bytes};
 ghost use Rattle.serde_json.specs.View.{view};
 ghost use Rattle.serde_json.specs.Written.{compact_text};
 ghost use Rattle.esto_docmodel.specs.Layouts.{IsLayout};
@@ -39,8 +39,7 @@ fn row_text(alloc: Global, pattern: &Pattern, row: &[Text]) -> Result<Bytes, Out
         IsReadBack (document (entries_of pattern.now.entries) row.now)) }
 {
     let document = document_of(alloc, pattern.entries.items(), row)?;
-    let text = document_text(alloc, &document)?;
-    Ok(text)
+    document_text(alloc, &document)
 }
 
 // Puts the line of a row's document at the end.
@@ -57,8 +56,7 @@ fn put_line(
 {
     let line = row_text(alloc, pattern, row)?;
     text.append(line.bytes())?;
-    text.append(b"\n")?;
-    Ok(())
+    text.append(b"\n")
 }
 
 // The text of a file with a document on each line.
@@ -92,6 +90,15 @@ fn documents_of(
     Ok(documents)
 }
 
+// The bytes of a line, and a line feed after them.
+fn ended(line: String) -> Result<Bytes, OutOfMemory>
+    ensures { IfOk result (λ text. text ≡ string_bytes line ++ 10 ∷ []) }
+{
+    let mut text = Bytes::from_string(line);
+    text.append(b"\n")?;
+    Ok(text)
+}
+
 // The text of a file with all documents in one array.
 fn write_array(alloc: Global, rows: &TextRows, pattern: &Pattern) -> Result<Bytes, OutOfMemory>
     requires { (row : Row) → IsPlain (document (entries_of pattern.now.entries) row) }
@@ -100,11 +107,7 @@ fn write_array(alloc: Global, rows: &TextRows, pattern: &Pattern) -> Result<Byte
 {
     let array = Value::Array(documents_of(alloc, rows, pattern)?);
     match array.to_string(alloc) {
-        Ok(line) => {
-            let mut text = Bytes::from_string(line);
-            text.append(b"\n")?;
-            Ok(text)
-        }
+        Ok(line) => ended(line),
         Err(_) => Err(OutOfMemory),
     }
 }
@@ -129,13 +132,7 @@ pub fn write_documents(
     ensures fault { IfOk result (λ text. trees_fault layout.now text ≡ None) }
 {
     match layout {
-        Layout::Array => {
-            let text = write_array(alloc, rows, pattern)?;
-            Ok(text)
-        }
-        Layout::Lines => {
-            let text = write_lines(alloc, rows, pattern)?;
-            Ok(text)
-        }
+        Layout::Array => write_array(alloc, rows, pattern),
+        Layout::Lines => write_lines(alloc, rows, pattern),
     }
 }

@@ -48,7 +48,7 @@ document_of-returns-then-begins_with_field t c =
 pub document_of-returns : goal.document_of-returns
 document_of-returns t c =
     let whole =
-    ap (λ (own : Data). array (item own no_items)) c.in_ok-entry_value.ensures
+    ap (λ (own : Data). array (item own no_items)) c.in_ok-value.ensures
     ∙ item_first c.args.entries.now c.in-Some.first.now c.args.row.now c.path_of.result.now c.in-Some.ensures.value c.path_of.ensures.first
     (sym c.begins_with_field.ensures ∙ c.if-begins_with_field.false) in
     IfOk-weaker c.array_of.result _ _ (λ it is. is ∙ whole) c.array_of.ensures

@@ -1,21 +1,22 @@
-use Rattle.std.proofs.Common.{List, subst}
+use Rattle.std.proofs.Common.{◌∙◌, ◌∷◌, [], List, ap, sym, subst}
 use Rattle.esto_docmodel.specs.Putting.{PutsDocuments}
 use Rattle.esto_docmodel.specs.declared.tree.Tree.{Tree}
 use Rattle.esto_docmodel.proofs.GainLemmas.{puts_none}
+use Rattle.esto_docs.proofs.RowLemmas.{blank_line, line_tree}
 use Rattle.esto_docs.proofs.encode.encode_line.Goals as goal
+
+pub returns-then-is_blank : goal.returns-then-is_blank
+returns-then-is_blank g c =
+    let read = blank_line c.args.line.now (sym c.is_blank.ensures ∙ c.if-is_blank.true) in (
+      read.0,
+      subst (λ (trees : List Tree). PutsDocuments g.S.FactSink.Holds g.S.FactSink.arities c.args.relations.now trees c.args.first c.args.first c.args.sink.now
+          c.args.sink.now) (sym read.1) (puts_none g.S.FactSink.Holds g.S.FactSink.arities c.args.relations.now c.args.first c.args.sink.now),
+    )
 
 pub returns-in-Ok : goal.returns-in-Ok
 returns-in-Ok g c =
-    let read = rw c.in-Ok-Some.field-0-is at c.in-Ok-Some.ensures in (
+    let read = line_tree c.args.line.now c.in_ok-tree.tree (sym c.is_blank.ensures ∙ c.if-is_blank.false) c.in_ok-tree.ensures in (
       read.0,
       subst (λ (trees : List Tree). PutsDocuments g.S.FactSink.Holds g.S.FactSink.arities c.args.relations.now trees c.args.first c.in-Ok.next c.args.sink.now
-          c.put_document.new.sink) read.1 c.in-Ok.ensures,
-    )
-
-pub returns-in-Ok-None : goal.returns-in-Ok-None
-returns-in-Ok-None g c =
-    let read = rw c.in-Ok-None.field-0-is at c.in-Ok-None.ensures in (
-      read.0,
-      subst (λ (trees : List Tree). PutsDocuments g.S.FactSink.Holds g.S.FactSink.arities c.args.relations.now trees c.args.first c.args.first c.args.sink.now
-          c.args.sink.now) read.1 (puts_none g.S.FactSink.Holds g.S.FactSink.arities c.args.relations.now c.args.first c.args.sink.now),
+          c.put_document.new.sink) (sym read.1) c.in-Ok.ensures,
     )

@@ -15,7 +15,7 @@ use Rattle.esto_docs.proofs.from_json.+trees.Goals as goal
 pub trees_of-items-preserved : goal.trees_of-items-preserved
 trees_of-items-preserved t c =
     trees_go c.deref-item-items.result.now c.items.item-index c.item-item.result _ c.items.trees _ c.items-test.true c.item-item.is c.items.invariant
-    (c.in_ok-push.ensures.ok ∙ ap (λ (x : Tree). c.items.trees ++ x ∷ []) c.in_ok-tree_of.ensures)
+    (c.in_ok-push.ensures.ok ∙ ap (λ (x : Tree). c.items.trees ++ x ∷ []) c.in_ok-tree.ensures)
 
 pub fields_of-push_field-requires : goal.fields_of-push_field-requires
 fields_of-push_field-requires t c =

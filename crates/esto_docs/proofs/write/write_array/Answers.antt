@@ -1,4 +1,5 @@
-use Rattle.std.proofs.Common.{◌≡◌, ◌∙◌, ◌++◌, ◌∷◌, [], List, ℕ, ap, string_bytes, map}
+use Rattle.std.proofs.Common.{◌≡◌, ◌∙◌, ap, string_bytes, map}
+use Rattle.std.proofs.lemmas.Result.{IfOk-weaker}
 use Rattle.std.proofs.lemmas.Str.{IsUtf8-string_bytes}
 use Rattle.serde_json.specs.Data.{Data, array}
 use Rattle.serde_json.specs.View.{view, items_of}
@@ -17,6 +18,5 @@ returns-in-Ok c =
     let is : d ≡ array (items_of (map (document es) c.args.rows.now)) = view-Array c.in_ok-documents_of.field-0 ∙ ap (λ ds. array (items_of ds))
     c.in_ok-documents_of.ensures in
     let plain = array_texts es c.requires c.args.rows.now d is in
-    array_written es c.requires c.args.rows.now d (string_bytes c.in-Ok.line) c.append.new.self is (c.in-Ok.ensures.text (no_float d plain.0))
-    (c.in-Ok.ensures.reads_back plain.1) (IsUtf8-string_bytes c.in-Ok.line)
-    (c.in_ok-append-in-Ok.ensures.ok ∙ ap (λ (t : List ℕ). t ++ 10 ∷ []) c.from_string-text.ensures)
+    IfOk-weaker c.ended.result _ _ (λ text. array_written es c.requires c.args.rows.now d (string_bytes c.in-Ok.line) text is
+    (c.in-Ok.ensures.text (no_float d plain.0)) (c.in-Ok.ensures.reads_back plain.1) (IsUtf8-string_bytes c.in-Ok.line)) c.ended.ensures
