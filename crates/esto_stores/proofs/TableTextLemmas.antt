@@ -1,7 +1,7 @@
 -- The text of a CSV file is read back as the same rows.
 use Rattle.std.proofs.Common.{Bor, ◌≡◌, ◌≢◌, ◌<◌, ◌≤◌, ◌+◌, ◌∙◌, ◌==◌, ◌&&◌, ◌++◌, ℕ, zero, suc, List, [], ◌∷◌, cond, Bool, true, false, None, length, map}
 use Rattle.std.proofs.Common.{get_or, take, drop, refl, ap, sym, subst, arith, inl, inr, append_assoc, if◌then◌else◌}
-use Rattle.std.specs.Prelude.{All, AllPairs, bytes_eq, Vec}
+use Rattle.std.specs.Prelude.{All, AllPairs, bytes_eq, Vec, Result, Ok, Err, IfOk}
 use Rattle.std.specs.List.{list_any, list_all}
 use Rattle.std.proofs.lemmas.Bool.{cases_Bool}
 use Rattle.std.proofs.lemmas.List.{append-nil, get_or-map, length-map, same_lists, take_all, take_more, map_push, flat_map_more, at_drop_all, at_drop_more}
@@ -23,6 +23,12 @@ use Rattle.esto_stores.proofs.RecordLemmas.{records_none, records_some}
 use Rattle.esto_stores.proofs.RowLemmas.{fault_goes, lent}
 use Rattle.esto_stores.proofs.TableLemmas.{no_mark}
 use Rattle.esto_stores.proofs.KeyTextLemmas.{both_left, both_right}
+
+-- Three facts of one result give a fourth.
+pub all_ok : {X E : Type 0} (result : Result X E) (P Q R S : X → Type 0) → ((x : X) → P x → Q x → R x → S x)
+    → IfOk result P → IfOk result Q → IfOk result R → IfOk result S
+all_ok (Ok x) P Q R S follows p q r = follows x p q r
+all_ok (Err e) P Q R S follows p q r = tt
 
 -- Written records are read back.
 kept : (row : Row) → 0 < length row → read_back row ≡ row

@@ -14,8 +14,7 @@ fn put_next(text: &mut Bytes, cell: &[u8]) -> Result<(), OutOfMemory>
     ensures { OnOk result (text.new ≡ text.old ++ tab ∷ cell.now) }
 {
     text.append(b"\t")?;
-    text.append(cell)?;
-    Ok(())
+    text.append(cell)
 }
 
 // Puts a cell at the end, and a tab and the cell for each other one.
@@ -39,8 +38,7 @@ fn put_line(text: &mut Bytes, row: &[Text]) -> Result<(), OutOfMemory>
     if let Some((first, others)) = row.split_first() {
         put_cells(text, first, others)?;
     }
-    text.append(b"\n")?;
-    Ok(())
+    text.append(b"\n")
 }
 
 /// The text of a key file with these rows, which have at least one cell each, and none with a tab, a CR or an LF. It is

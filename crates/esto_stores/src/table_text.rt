@@ -121,8 +121,7 @@ pub fn write_records(
     requires { All (λ row. length row ≡ length columns.now) rows.now }
     ensures { IfOk result (λ text. text ≡ table_text columns.now rows.now) }
 {
-    let text = put_rows(alloc, columns, rows)?;
-    Ok(text)
+    put_rows(alloc, columns, rows)
 }
 
 /// The text of a CSV file with these columns and rows. It is opened as the same rows.
@@ -135,6 +134,5 @@ pub fn write_table(alloc: Global, columns: &TextRow, rows: &TextRows) -> Result<
     ensures rows { IfOk result (λ text. table_rows columns.now text ≡ rows.now) }
     ensures fault { IfOk result (λ text. table_fault columns.now text ≡ None) }
 {
-    let text = put_rows(alloc, columns, rows)?;
-    Ok(text)
+    put_rows(alloc, columns, rows)
 }
