@@ -2,7 +2,7 @@
 use Rattle.std.proofs.Common.{◌≡◌, ◌≢◌, ◌↔◌, ◌<◌, ◌≤◌, ◌+◌, inl, inr, ℕ, zero, suc, List, [], ◌∷◌, ◌++◌, length, get_or, take, map, Option, Some, None, slice_get, Contains, refl, sym, ap, ◌∙◌, subst, append-nil, arith}
 use Rattle.std.specs.Borrow.{Bor}
 use Rattle.std.specs.Option.{option_copied}
-use Rattle.std.specs.Prelude.{AllPairs, Result, Ok, Err}
+use Rattle.std.specs.Prelude.{AllPairs, Result, Ok, Err, IfOk}
 use Rattle.std.proofs.lemmas.List.{take_all}
 use Rattle.std.proofs.lemmas.Option.{none-some, same_Some, slice_get_within}
 use Rattle.std.proofs.lemmas.List.Elements.{Contains-append_cases, Contains-append_left, Contains-append_right, Contains-push_cases}
@@ -173,6 +173,16 @@ rows_are coded query head body rows facts one two sound answers stand telling co
   where
     same : record { head = head; body = body } ≡ query_of query
     same = λ i. record { head = one i; body = two i }
+
+pub rows_found : {E : Type 0} (result : Result CodedRows E) (old : CodedData) (coded : Coded) (query : Query) (head : List Term) (body : List (Fact Term))
+    → head ≡ query.head → body ≡ query.body → IsQuery (query_of query)
+    → ((facts : List (Fact Term)) → StandFor old.facts facts → StandFor coded facts)
+    → IfOk result (λ it. AreCodedAnswers coded (record { head = head; body = body }) it.rows) → IfOk result (λ _. AreTelling coded.texts)
+    → IfOk result (λ _. (text : List ℕ) → Contains head (Const text) → Contains coded.texts text)
+    → IfOk result (λ it. (loaded : Loaded) → IsCodedOf loaded old → AreRowsOf coded.texts it.rows (IsAnswerInto Const (query_of query) (Contains loaded.facts)))
+rows_found (Ok it) old coded query head body one two sound stand answers telling constants =
+    λ loaded its. rows_are coded query head body it.rows loaded.facts one two sound answers (stand loaded.facts its.stand) telling constants
+rows_found (Err error) old coded query head body one two sound stand answers telling constants = tt
 
 -- no rows are those of no queries
 pub no_rows : (texts : List (List ℕ)) (facts : List (Fact Term)) → AreRowsOf texts [] (IsUnionRow [] facts)

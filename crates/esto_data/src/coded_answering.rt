@@ -44,10 +44,9 @@ pub fn rows_of(alloc: Global, query: &Query, coded: &mut CodedData) -> Result<Ro
     ensures stays { Stays coded.old coded.new }
 {
     queries_are_sound();
-    let rows = coded
+    coded
         .facts
-        .answers(alloc, query.head.items(), query.body.items())?;
-    Ok(rows)
+        .answers(alloc, query.head.items(), query.body.items())
 }
 
 /// As `answer`, over whatever facts the rows of codes stand for.
@@ -86,8 +85,7 @@ fn add_answers(
     ensures stays { Stays coded.old coded.new }
 {
     let own = rows_of(alloc, query, coded)?;
-    put_rows(alloc, own, rows)?;
-    Ok(())
+    put_rows(alloc, own, rows)
 }
 
 // How many terms the head of the first of the queries has.

@@ -48,8 +48,7 @@ fn is_passed(
     if is_law(rule, laws) {
         return Ok(true);
     }
-    let met = coded.facts.meets(alloc, rule)?;
-    Ok(met)
+    coded.facts.meets(alloc, rule)
 }
 
 // Whether each of the rules is one of the laws, or is met.
@@ -90,8 +89,7 @@ fn holds_view(
     queries_are_sound();
     coded.facts.index_joins(alloc, view.body.items())?;
     let own = rows_of(alloc, view, coded)?;
-    let same = hold_same(alloc, &own, rows)?;
-    Ok(same)
+    hold_same(alloc, &own, rows)
 }
 
 // Whether the rows of each fragment are, as a set, those of its view.

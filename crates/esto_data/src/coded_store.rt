@@ -71,8 +71,7 @@ fn code_texts(
     ensures grown { Grows coded.old.facts.texts coded.new.facts.texts }
 {
     let own = coded.facts.code_rows(alloc, texts, arity)?;
-    rows.push(own)?;
-    Ok(())
+    rows.push(own)
 }
 
 // Puts the rows of a file at the end, all of which are read as rows of texts first.

@@ -80,8 +80,7 @@ fn add_texts(
     ensures { OnOk result (AddsTexts coded.now.facts.texts rows.now.rows texts.old texts.new) }
 {
     let own = coded.facts.sorted_texts(alloc, rows)?;
-    texts.push(own)?;
-    Ok(())
+    texts.push(own)
 }
 
 // The texts of the rows of codes, a list for each of theirs, with each row once.

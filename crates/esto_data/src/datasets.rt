@@ -73,7 +73,10 @@ fn demand_file(alloc: Global, datasets: &Datasets, number: usize) -> Result<(), 
     let dataset = datasets.item(number);
     match &dataset.file {
         Some(_) => Ok(()),
-        None => Err(Status::NoData(dataset.name.copy(alloc)?)),
+        None => {
+            let name = dataset.name.copy(alloc)?;
+            Err(Status::NoData(name))
+        }
     }
 }
 

@@ -35,7 +35,8 @@ fn find_fragment(alloc: Global, catalogue: &Catalogue, name: &Text) -> Result<us
             return Ok(number);
         }
     }
-    Err(Status::NoSuchFragment(name.copy(alloc)?))
+    let name = name.copy(alloc)?;
+    Err(Status::NoSuchFragment(name))
 }
 
 // The status of why a file is not filled.

@@ -1,4 +1,5 @@
 use Rattle.std.proofs.Common.{Contains, refl, sym, subst}
+use Rattle.std.proofs.lemmas.Result.{IfOk-weaker}
 use Rattle.esto_coded.specs.Coded.{Coded, StandFor}
 use Rattle.esto_columns.proofs.CodingLemmas.{rows_grow}
 use Rattle.esto_columns.specs.Interned.{Grows}
@@ -10,7 +11,7 @@ use Rattle.esto_data.proofs.CodedRowLemmas.{same_rows, same_texts, stays_on, sta
 use Rattle.esto_data.proofs.coded_audit.holds_view.Goals as goal
 
 pub returns-clause-holds : goal.returns-clause-holds
-returns-clause-holds c loaded its list codes =
+returns-clause-holds c = IfOk-weaker c.hold_same.result _ _ (λ same says loaded its list codes.
     let query = query_of c.args.view.now in
     let facts = loaded.facts in
     let stand = c.databases_stand_for_facts.ensures.answers facts value_of (database_of facts) query
@@ -23,19 +24,16 @@ returns-clause-holds c loaded its list codes =
     let are = c.in_ok-own.ensures.rows loaded
     (record { stand = subst (λ coded. StandFor coded facts) (sym c.index_joins.ensures) its.stand; next = its.next }) in (
       (λ yes. same_texts texts own (IsAnswerInto Const query (Contains facts)) (IsAnswer query (database_of facts)) are stand.there stand.back held list here
-          (c.in_ok-same.ensures.0 yes)),
-      (λ exact. c.in_ok-same.ensures.1 (same_rows texts own (IsAnswerInto Const query (Contains facts)) (IsAnswer query (database_of facts)) are stand.there
+          (says.0 yes)),
+      (λ exact. says.1 (same_rows texts own (IsAnswerInto Const query (Contains facts)) (IsAnswer query (database_of facts)) are stand.there
           stand.back c.in_ok-own.ensures.telling.distinct held list here exact)),
-    )
+    )) c.hold_same.ensures
 
 pub returns-in_err-index_joins-clause-stays : goal.returns-in_err-index_joins-clause-stays
 returns-in_err-index_joins-clause-stays c = stays_same _ _ c.index_joins.ensures refl
 
 pub returns-in_err-own-clause-stays : goal.returns-in_err-own-clause-stays
 returns-in_err-own-clause-stays c = stays_on _ _ _ (stays_same _ _ c.index_joins.ensures refl) c.rows_of.ensures.stays
-
-pub returns-in_err-same-clause-stays : goal.returns-in_err-same-clause-stays
-returns-in_err-same-clause-stays c = stays_on _ _ _ (stays_same _ _ c.index_joins.ensures refl) c.rows_of.ensures.stays
 
 pub returns-clause-stays : goal.returns-clause-stays
 returns-clause-stays c = stays_on _ _ _ (stays_same _ _ c.index_joins.ensures refl) c.rows_of.ensures.stays

@@ -6,7 +6,7 @@ pub returns-in-Some : goal.returns-in-Some
 returns-in-Some c = λ place.
     file_there c.args.datasets.now c.args.number place c.item-dataset.result.now c.item-dataset.ensures (rw c.in-Some.is refl)
 
-pub returns-in_ok-copy-in-None : goal.returns-in_ok-copy-in-None
-returns-in_ok-copy-in-None c = λ place.
-    file_absent c.args.datasets.now c.args.number place c.item-dataset.result.now c.in_ok-copy-in-None.field-0 c.item-dataset.ensures
-    (λ some. let none = rw c.in-None.is at some in absurd (cc)) c.in_ok-copy-in-None.ensures
+pub returns-in_ok-name-in-None : goal.returns-in_ok-name-in-None
+returns-in_ok-name-in-None c = λ place.
+    file_absent c.args.datasets.now c.args.number place c.item-dataset.result.now c.in_ok-name-in-None.name c.item-dataset.ensures
+    (λ some. let none = rw c.in-None.is at some in absurd (cc)) c.in_ok-name-in-None.ensures

@@ -17,4 +17,4 @@ returns-then-has_name c =
 pub returns : goal.returns
 returns c =
     none_found c.args.catalogue.now c.args.name.now c.items-fragment-items.result.now c.items-fragment-items.ensures c.fragments.number
-    c.fragments-test.false c.fragments.invariant c.in_ok-copy.field-0 c.in_ok-copy.ensures
+    c.fragments-test.false c.fragments.invariant c.in_ok-name.name c.in_ok-name.ensures
