@@ -1,13 +1,13 @@
 -- The text of a fragment's file, and what it says when it is read.
-use Rattle.std.proofs.Common.{◌≡◌, ◌↔◌, ◌<◌, slice_get, ℕ, Bool, true, false, if◌then◌else◌, List, ◌++◌, length, map, get_or, Option, None, Some, Contains, refl, sym}
+use Rattle.std.proofs.Common.{◌≡◌, ◌↔◌, ◌<◌, ◌≤◌, slice_get, ℕ, Bool, true, false, if◌then◌else◌, List, ◌++◌, length, map, get_or, Option, None, Some, Contains, refl, sym}
 use Rattle.std.proofs.Common.{ap, ◌∙◌, subst}
 use Rattle.std.specs.Prelude.{All, IfSome, Ok, drop, nat_eq}
 use Rattle.std.specs.List.{starts_with}
 use Rattle.std.proofs.lemmas.List.{length-map}
 use Rattle.std.proofs.lemmas.List.Elements.{Contains-get_or}
-use Rattle.std.proofs.lemmas.Option.{slice_get_read}
+use Rattle.std.proofs.lemmas.Option.{slice_get-get_or, slice_get_read}
 use Rattle.esto_docmodel.specs.declared.file.Shape.{Shape}
-use Rattle.esto_docmodel.specs.declared.file.Shape.TheVariants.{Documents}
+use Rattle.esto_docmodel.specs.declared.file.Shape.TheVariants.{Documents, Keys}
 use Rattle.esto_ports.specs.declared.mark.TheConstants.{MARK}
 use Rattle.esto_docmodel.specs.Layouts.{IsLayout}
 use Rattle.esto_docmodel.specs.Shapes.{entries_of}
@@ -21,9 +21,10 @@ use Rattle.esto_semantics.specs.Queries.{ConjunctiveQuery, IsAnswer}
 use Rattle.esto_semantics.specs.declared.fact.Value.{Value}
 use Rattle.esto_semantics.specs.declared.fact.Value.TheVariants.{Text}
 use Rattle.esto_semantics.proofs.ValueLemmas.{same_texts}
+use Rattle.esto_stores.specs.Keys.{key_fault, key_rows}
 use Rattle.esto_stores.specs.Rows.{Row}
 use Rattle.esto_stores.specs.KeyText.{row_fault}
-use Rattle.esto_term.proofs.ListLemmas.{HoldsBelow}
+use Rattle.esto_term.proofs.ListLemmas.{HoldsBelow, holds_all}
 use Rattle.esto_fill.specs.Filled.{IsFirstUnfit, IsOpenedAs, SaysRows, with_mark}
 use Rattle.esto_ports.specs.Marks.{without_mark}
 use Rattle.esto_fill.specs.Texts.{AreExactly}
@@ -90,4 +91,18 @@ unfit_first rows items same count row within read before column fault cell own t
   fault = fault;
   is = there ∙ ap Some (sym is);
   before = λ earlier other less at. before earlier other less (subst (λ (those : List Row). slice_get those earlier ≡ Some other) (sym same) at);
+}
+
+-- keys can hold all rows, where a loop has seen them
+pub all_fit : (rows items : List Row) → items ≡ rows → (count : ℕ) → length items ≤ count → HoldsBelow (λ _ it. row_fault it ≡ None) items count
+    → All (λ it. row_fault it ≡ None) rows
+all_fit rows items same count past before =
+    subst (All (λ it. row_fault it ≡ None)) same
+    (λ k d below. holds_all (λ _ it. row_fault it ≡ None) items count past before k (get_or items k d) (slice_get-get_or items k d below))
+
+-- a text that is read as these rows says them
+pub keys_say : (width : ℕ) (rows : List Row) (text : List ℕ) → key_rows text ≡ rows → key_fault width text ≡ None → SaysRows Keys width rows text
+keys_say width rows text read none = record {
+  no_fault = none;
+  rows_are = λ row. ((λ inside. subst (λ those. Contains those row) read inside), (λ inside. subst (λ those. Contains those row) (sym read) inside));
 }

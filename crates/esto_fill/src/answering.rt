@@ -19,5 +19,5 @@ pub fn answer(alloc: Global, query: &Query, loaded: &Loaded) -> Result<TextRows,
     databases_stand_for_facts();
     queries_are_sound();
     let rows = answers(alloc, query, &loaded.facts)?;
-    texts_of(alloc, rows)
+    texts_of(alloc, rows.items())
 }

@@ -27,7 +27,8 @@ fn constant_rows(alloc: Global, rows: &[TextRow]) -> Result<Vec<Terms>, OutOfMem
 {
     let mut terms = Vec::new(alloc);
     'rows: for row in rows {
-        let Ok(()) = terms.push(constants(alloc, row.items())?) else {
+        let own = constants(alloc, row.items())?;
+        let Ok(()) = terms.push(own) else {
             return Err(OutOfMemory);
         };
     }
@@ -41,8 +42,7 @@ pub fn ordered_rows(alloc: Global, rows: &TextRows) -> Result<TermRows, OutOfMem
     ensures ascending { IfOk result IsAscending }
 {
     let mut terms = constant_rows(alloc, rows.items())?;
-    let ordered = in_order(alloc, &mut terms)?;
-    Ok(ordered)
+    in_order(alloc, &mut terms)
 }
 
 /// Where the least row is that is in one of the two lists alone. None comes exactly where they have the same rows.

@@ -65,7 +65,8 @@ fn keys_of(alloc: Global, rows: &TextRows, columns: usize) -> Result<Bytes, Fill
 {
     'rows: for row in rows.items() {
         if let Some(column) = key_row_fault(row) {
-            return Err(FillError::KeyText(row.item(column).copy(alloc)?));
+            let cell = row.item(column).copy(alloc)?;
+            return Err(FillError::KeyText(cell));
         }
     }
     let text = write_keys(alloc, rows)?;

@@ -57,8 +57,8 @@ fn add_documents(
     if !is_alone(datasets, number, dataset) {
         return Ok(());
     }
-    rules.append(document_rules_2(alloc, dataset.base)?)?;
-    Ok(())
+    let laws = document_rules_2(alloc, dataset.base)?;
+    rules.append(laws)
 }
 
 // Puts the rules that the facts of the dataset meet by law at the end.

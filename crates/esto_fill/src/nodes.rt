@@ -19,14 +19,24 @@ pub struct Column {
     pub column: usize,
 }
 
+// Whether it is this column of the relation.
+fn is_column(it: Column, relation: usize, column: usize) -> bool
+    ensures { result ≡ ((it.relation == relation) && (it.column == column)) }
+{
+    it.relation == relation && it.column == column
+}
+
 // Whether the column is one of these.
 fn is_among(columns: &[Column], relation: usize, column: usize) -> bool
     ensures { result ≡ list_any (λ it. (it.relation == relation) && (it.column == column))
         columns.now }
 {
-    columns
-        .iter()
-        .any(|it| it.relation == relation && it.column == column)
+    'columns: for it in columns {
+        if is_column(*it, relation, column) {
+            return true;
+        }
+    }
+    false
 }
 
 // Adds the column of a term that is no constant, if it isn't there.
@@ -44,8 +54,7 @@ fn add_column(
     if is_among(columns.items(), relation, column) {
         return Ok(());
     }
-    columns.push(Column { relation, column })?;
-    Ok(())
+    columns.push(Column { relation, column })
 }
 
 // Adds the columns in which the fact has other terms than constants.

@@ -58,8 +58,7 @@ fn put_variable(
         return Ok(());
     }
     let own = term.copy(alloc)?;
-    variables.push(own)?;
-    Ok(())
+    variables.push(own)
 }
 
 // Puts the variables among the terms that have a given name at the end, each that isn't there, once.
@@ -120,7 +119,8 @@ fn cells_of(
 {
     let mut cells = List::new(alloc);
     'variables: for variable in variables {
-        cells.push(cell_of(alloc, value_of(valuation, variable))?)?;
+        let cell = cell_of(alloc, value_of(valuation, variable))?;
+        cells.push(cell)?;
     }
     Ok(cells)
 }
@@ -149,6 +149,5 @@ pub fn record_of(
 {
     let variables = named_variables(alloc, names_of(rule), body_of(rule))?;
     let cells = cells_of(alloc, valuation, variables.items())?;
-    let cells = one_at_least(alloc, cells)?;
-    Ok(cells)
+    one_at_least(alloc, cells)
 }

@@ -5,7 +5,7 @@ ghost use Rattle.esto_fill.specs.Placing.{text_of, IsImageOf, LeastOpen, NamesCo
 ghost use Rattle.esto_fill.specs.Texts.{GivesTexts};
 ghost use Rattle.esto_fill.specs.declared.rows.AnswerError.TheVariants as answer;
 
-use esto_term::{List, OutOfMemory, Replicate, Term, TermRows, Terms, Text, TextRow, TextRows};
+use esto_term::{List, OutOfMemory, Replicate, Term, Terms, Text, TextRow, TextRows};
 use std::alloc::Global;
 
 /// Why rows are not given as texts.
@@ -77,40 +77,20 @@ pub fn text_row(alloc: Global, terms: &[Term]) -> Result<TextRow, OutOfMemory>
 {
     let mut row = List::new(alloc);
     'terms: for term in terms {
-        row.push(text_of(alloc, term)?)?;
+        let text = text_of(alloc, term)?;
+        row.push(text)?;
     }
     Ok(row)
 }
 
-// The text of a constant, which is moved and not copied; the empty text for another term.
-fn moved_text(alloc: Global, term: Term) -> Text
-    ensures { result ≡ text_of term }
-{
-    match term {
-        Term::Const(text) => text,
-        Term::Plain(_) => Text::new(alloc),
-        Term::Made(_, _, _) => Text::new(alloc),
-    }
-}
-
-// The row of the texts of the terms, which are moved and not copied.
-fn moved_row(alloc: Global, terms: Terms) -> Result<TextRow, OutOfMemory>
-    ensures { IfOk result (λ it. it ≡ map text_of terms) }
-{
-    let mut row = List::with_room(alloc, terms.len())?;
-    'terms: for term in terms.into_vec() {
-        row.push(moved_text(alloc, term))?;
-    }
-    Ok(row)
-}
-
-// The rows of the texts of the terms, which are moved and not copied.
-fn moved_rows(alloc: Global, rows: TermRows) -> Result<TextRows, OutOfMemory>
-    ensures { IfOk result (λ it. it ≡ map (map text_of) rows) }
+// The rows of the texts of the terms.
+fn text_rows(alloc: Global, rows: &[Terms]) -> Result<TextRows, OutOfMemory>
+    ensures { IfOk result (λ it. it ≡ map (map text_of) rows.now) }
 {
     let mut texts = List::new(alloc);
-    'rows: for row in rows.into_vec() {
-        texts.push(moved_row(alloc, row)?)?;
+    'rows: for row in rows {
+        let own = text_row(alloc, row.items())?;
+        texts.push(own)?;
     }
     Ok(texts)
 }
@@ -137,13 +117,13 @@ pub fn node_at(place: usize) -> AnswerError
 }
 
 /// The rows of terms as texts, in order, or the least column in which one of them has another term than a constant.
-pub fn texts_of(alloc: Global, rows: TermRows) -> Result<TextRows, AnswerError>
-    requires { IsAscending rows }
-    ensures { GivesTexts (IsImageOf rows) result }
+pub fn texts_of(alloc: Global, rows: &[Terms]) -> Result<TextRows, AnswerError>
+    requires { IsAscending rows.now }
+    ensures { GivesTexts (IsImageOf rows.now) result }
 {
-    if let Some(place) = least_open(rows.items()) {
+    if let Some(place) = least_open(rows) {
         return Err(node_at(place));
     }
-    let texts = moved_rows(alloc, rows)?;
+    let texts = text_rows(alloc, rows)?;
     Ok(texts)
 }

@@ -33,7 +33,8 @@ fn bodies_of(alloc: Global, fragments: &[FragmentDef]) -> Result<Bodies, OutOfMe
 {
     let mut bodies = List::new(alloc);
     'fragments: for fragment in fragments {
-        bodies.push(fragment.view.body.copy(alloc)?)?;
+        let body = fragment.view.body.copy(alloc)?;
+        bodies.push(body)?;
     }
     Ok(bodies)
 }
@@ -42,7 +43,8 @@ fn bodies_of(alloc: Global, fragments: &[FragmentDef]) -> Result<Bodies, OutOfMe
 fn add_body(alloc: Global, body: &Atoms, bodies: &mut Bodies) -> Result<(), OutOfMemory>
     ensures { OnOk result (bodies.new ≡ bodies.old ++ body.now ∷ []) }
 {
-    bodies.push(body.copy(alloc)?)
+    let own = body.copy(alloc)?;
+    bodies.push(own)
 }
 
 // Puts the parts of the rule at the end.

@@ -25,14 +25,24 @@ pub enum Wanted {
 fn names(body: &[Atom], relation: usize) -> bool
     ensures { result ≡ names relation body.now }
 {
-    body.iter().any(|atom| atom.relation == relation)
+    'atoms: for atom in body {
+        if atom.relation == relation {
+            return true;
+        }
+    }
+    false
 }
 
 // Whether one of the bodies has an atom over the relation.
 fn one_names(bodies: &[Atoms], relation: usize) -> bool
     ensures { result ≡ list_any (names relation) bodies.now }
 {
-    bodies.iter().any(|body| names(body.items(), relation))
+    'bodies: for body in bodies {
+        if names(body.items(), relation) {
+            return true;
+        }
+    }
+    false
 }
 
 impl Wanted {
@@ -51,8 +61,9 @@ impl Wanted {
 pub fn wanted_by_body(alloc: Global, body: &Atoms) -> Result<Wanted, OutOfMemory>
     ensures { IfOk result (λ it. it ≡ wanted.Asked (body.now ∷ [])) }
 {
+    let own = body.copy(alloc)?;
     let mut bodies = List::new(alloc);
-    bodies.push(body.copy(alloc)?)?;
+    bodies.push(own)?;
     Ok(Wanted::Asked(bodies))
 }
 
@@ -63,7 +74,8 @@ pub fn wanted_by_queries(alloc: Global, queries: &[Query]) -> Result<Wanted, Out
 {
     let mut bodies = List::new(alloc);
     'queries: for query in queries {
-        bodies.push(query.body.copy(alloc)?)?;
+        let body = query.body.copy(alloc)?;
+        bodies.push(body)?;
     }
     Ok(Wanted::Asked(bodies))
 }
@@ -78,8 +90,9 @@ fn with_text(alloc: Global, text: &Text, texts: KeptTexts) -> Result<KeptTexts, 
     match texts {
         KeptTexts::Every => Ok(KeptTexts::Every),
         KeptTexts::These(some) => {
+            let own = text.copy(alloc)?;
             let mut more = some;
-            more.push(text.copy(alloc)?)?;
+            more.push(own)?;
             Ok(KeptTexts::These(more))
         }
     }

@@ -1,12 +1,18 @@
+use Rattle.std.proofs.Common.{Contains, List, sym, subst}
 use Rattle.esto_query.specs.Making.{query_of}
+use Rattle.esto_query.specs.Rows.{IsAscending}
 use Rattle.esto_semantics.specs.Queries.{IsAnswer, IsAnswerInto}
-use Rattle.std.proofs.Common.{Contains}
+use Rattle.esto_term.specs.declared.term.Term.{Term}
 use Rattle.esto_term.specs.declared.term.Term.TheVariants.{Const}
 use Rattle.esto_fill.specs.Databases.{database_of}
 use Rattle.esto_fill.specs.Placing.{IsImageOf}
+use Rattle.esto_fill.specs.Texts.{GivesTexts}
 use Rattle.esto_fill.proofs.TextLemmas.{answers_flat, gives_same, images_are}
 use Rattle.esto_fill.proofs.ValueLemmas.{flat_kept}
 use Rattle.esto_fill.proofs.answering.answer.Goals as goal
+
+pub texts_of-requires : goal.texts_of-requires
+texts_of-requires c = subst IsAscending (sym c.items.ensures) c.in_ok-rows.ensures.ascending
 
 pub returns : goal.returns
 returns c =
@@ -17,4 +23,5 @@ returns c =
     (answers_flat c.databases_stand_for_facts.ensures.answers facts (flat_kept facts c.args.loaded.now.sound) query
     (c.queries_are_sound.ensures c.args.query.now).query)
     c.in_ok-rows.ensures.rows)
-    c.texts_of.result c.texts_of.ensures
+    c.texts_of.result
+    (subst (λ (those : List (List Term)). GivesTexts (IsImageOf those) c.texts_of.result) c.items.ensures c.texts_of.ensures)

@@ -1,4 +1,5 @@
 use Rattle.std.proofs.Common.{[], ◌∷◌, sym, ◌∙◌, subst, Contains}
+use Rattle.std.proofs.lemmas.Result.{on_ok_weaker}
 use Rattle.std.proofs.lemmas.List.Elements.{Contains-append_left, Contains-append_right}
 use Rattle.esto_term.proofs.ListLemmas.{Contains-head}
 use Rattle.esto_fill.specs.Nodes.{column_of}
@@ -17,8 +18,8 @@ returns-then-is_among c = (
 
 pub returns : goal.returns
 returns c =
-    let own = column_of c.args.relation c.args.column in (
-      (λ it inside. subst (λ those. Contains those it) (sym c.in_ok-push.ensures.ok) (Contains-append_left c.args.columns.now (own ∷ []) it inside)),
-      λ apart. subst (λ those. Contains those own) (sym c.in_ok-push.ensures.ok)
-          (Contains-append_right c.args.columns.now (own ∷ []) own (Contains-head own [])),
-    )
+    let own = column_of c.args.relation c.args.column in
+    on_ok_weaker c.push.result (λ pushed. (
+      (λ it inside. subst (λ those. Contains those it) (sym pushed) (Contains-append_left c.args.columns.now (own ∷ []) it inside)),
+      λ apart. subst (λ those. Contains those own) (sym pushed) (Contains-append_right c.args.columns.now (own ∷ []) own (Contains-head own [])),
+    )) c.push.ensures.ok

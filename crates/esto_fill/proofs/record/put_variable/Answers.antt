@@ -1,5 +1,6 @@
 use Rattle.std.proofs.Common.{[], ◌∷◌, ◌++◌, sym, ap, ◌∙◌, subst, Contains}
 use Rattle.std.proofs.lemmas.Bool.{false≢true}
+use Rattle.std.proofs.lemmas.Result.{on_ok_weaker}
 use Rattle.esto_fill.proofs.RecordLemmas.{adds_known, adds_new}
 use Rattle.esto_fill.proofs.record.put_variable.Goals as goal
 
@@ -9,8 +10,8 @@ returns-then-has_term c =
     (subst (λ those. Contains those c.args.term.now) c.items.ensures (c.has_term.ensures.0 c.if-has_term.true))
 
 pub returns : goal.returns
-returns c =
-    adds_new c.args.names.now c.args.term.now c.args.variables.now c.push.new.self (sym c.is_named.ensures ∙ c.if-not-is_named.false)
+returns c = on_ok_weaker c.push.result
+    (λ pushed. adds_new c.args.names.now c.args.term.now c.args.variables.now c.push.new.self (sym c.is_named.ensures ∙ c.if-not-is_named.false)
     (λ inside. false≢true (sym c.if-has_term.false
     ∙ c.has_term.ensures.1 (subst (λ those. Contains those c.args.term.now) (sym c.items.ensures) inside)))
-    (c.in_ok-push.ensures.ok ∙ ap (λ it. c.args.variables.now ++ it ∷ []) c.in_ok-own.ensures)
+    (pushed ∙ ap (λ it. c.args.variables.now ++ it ∷ []) c.in_ok-own.ensures)) c.push.ensures.ok
