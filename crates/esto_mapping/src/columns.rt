@@ -13,21 +13,26 @@ use esto_text::MAX_NAME;
 fn is_letter(byte: u8) -> bool
     ensures { result ≡ is_letter byte }
 {
-    (65..=90).contains(&byte) || (97..=122).contains(&byte)
+    matches!(byte, b'A'..=b'Z' | b'a'..=b'z')
 }
 
 // Whether the byte is an ASCII letter, an ASCII digit or `_`.
 fn is_name_byte(byte: u8) -> bool
     ensures { result ≡ is_name_byte byte }
 {
-    is_letter(byte) || (48..=57).contains(&byte) || byte == 95
+    is_letter(byte) || matches!(byte, b'0'..=b'9' | b'_')
 }
 
 // Whether each byte is an ASCII letter, an ASCII digit or `_`.
 fn are_name_bytes(bytes: &[u8]) -> bool
     ensures { result ≡ list_all is_name_byte bytes.now }
 {
-    bytes.iter().all(|byte| is_name_byte(*byte))
+    'bytes: for byte in bytes {
+        if !is_name_byte(*byte) {
+            return false;
+        }
+    }
+    true
 }
 
 /// Whether the text is a name: a letter, then letters, digits and `_`, at most `MAX_NAME` bytes in
@@ -52,7 +57,12 @@ fn is_same(text: &Text, other: &Text) -> bool
 fn has_text(text: &Text, texts: &[Text]) -> bool
     ensures { IsTrue result ↔ Contains texts.now text.now }
 {
-    texts.iter().any(|other| is_same(other, text))
+    'texts: for other in texts {
+        if is_same(other, text) {
+            return true;
+        }
+    }
+    false
 }
 
 /// Whether no two of the texts are the same.
