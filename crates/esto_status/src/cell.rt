@@ -36,6 +36,5 @@ pub fn record_text(alloc: Global, cells: &TextRow) -> Result<Bytes, OutOfMemory>
     ensures { IfOk result (λ text. text ≡ row_text default_writer cells.now) }
 {
     let rows = List::new(alloc);
-    let text = write_records(alloc, cells, &rows)?;
-    Ok(text)
+    write_records(alloc, cells, &rows)
 }
