@@ -209,11 +209,11 @@ module _ (groups : List Group) (from these : List Term) (atom : Fact Term) (one 
 
 -- ---- the begin
 
-pub first_is : (groups : List Group) (head targets : List Term) (by : Kept) (copied : List Term) (none ones : List Reached) → none ≡ [] → copied ≡ targets
+pub first_is : (groups : List Group) (head targets : List Term) (by : Kept) (copied : List Term) (ones : List Reached) → copied ≡ targets
     → ((set : List Bool) → Covers by.sets set ↔ AllZip (AreTouching groups set) targets (map (taken head targets) head))
-    → ones ≡ none ++ (record { to = copied; by = by }) ∷ [] → IsFirst groups head targets ones
-first_is groups head targets by copied none ones none_is copied_is touches grown to set =
-    rw (grown, none_is) (
+    → ones ≡ (record { to = copied; by = by }) ∷ [] → IsFirst groups head targets ones
+first_is groups head targets by copied ones copied_is touches is_one to set =
+    rw is_one (
       (λ (one, inside, is, covers).
           let same : one ≡ record { to = copied; by = by } = sym (Contains-one (record { to = copied; by = by }) one inside) in (
             sym is ∙ ap (λ (it : Reached). it.to) same ∙ copied_is,
@@ -221,6 +221,10 @@ first_is groups head targets by copied none ones none_is copied_is touches grown
           )),
       (λ (is, row). (record { to = copied; by = by }, Contains-head (record { to = copied; by = by }) [], copied_is ∙ sym is, (touches set).1 row)),
     )
+
+pub first_counted : (count : ℕ) (ones : List Reached) (one : Reached) → ones ≡ one ∷ [] → one.by.count ≡ count → AreReachedOf count ones
+first_counted count ones one is counted other inside =
+    ap (λ (it : Reached). it.by.count) (sym (Contains-one one other (subst (λ (it : List Reached). Contains it other) is inside))) ∙ counted
 
 -- ---- the groups of the entries
 

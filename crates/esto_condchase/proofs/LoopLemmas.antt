@@ -1,24 +1,21 @@
 -- The turns of the loop, and its end.
-use Rattle.std.proofs.Common.{◌≡◌, ◌⊎◌, ◌↔◌, ◌<◌, ◌≤◌, ◌+◌, ◌-◌, inl, inr, ℕ, zero, suc, Bool, false, List, [], ◌++◌, length, take, get_or, Contains, refl, sym, ap}
+use Rattle.std.proofs.Common.{◌≡◌, ◌⊎◌, ◌↔◌, ◌<◌, ◌≤◌, ◌+◌, ◌-◌, inl, inr, ℕ, zero, suc, Bool, List, [], ◌∷◌, ◌++◌, length, take, get_or, Contains, refl, sym, ap}
 use Rattle.std.proofs.Common.{◌∙◌, subst, arith, length-append}
-use Rattle.std.specs.Prelude.{replicate, slice_set, true}
-use Rattle.std.proofs.lemmas.List.{length-set}
 use Rattle.esto_constraint.specs.Constraints.{rules_of}
 use Rattle.esto_constraint.specs.declared.rule.Constraint.{Constraint}
-use Rattle.std.proofs.lemmas.List.{take_all, append-nil, length-replicate, nil_from_length}
+use Rattle.std.proofs.lemmas.List.{take_all, append-nil, nil_from_length}
 use Rattle.std.proofs.lemmas.List.Elements.{Contains-append_left, Contains-push_cases}
 use Rattle.esto_semantics.specs.Rules.{Rule}
 use Rattle.esto_term.specs.Sets.{Has}
 use Rattle.esto_semantics.specs.declared.fact.Fact.{Fact}
 use Rattle.esto_term.specs.declared.term.Term.{Term}
-use Rattle.esto_term.proofs.ListLemmas.{Contains-nil}
+use Rattle.esto_term.proofs.ListLemmas.{Contains-nil, Contains-one, Contains-head}
 use Rattle.esto_semantics.specs.declared.expanded.ExpandedFact.{ExpandedFact}
 use Rattle.esto_chase_laws.specs.Worlds.{InWorld}
 use Rattle.esto_chase_laws.specs.WorldSteps.{AreAnswered, AreJoined}
 use Rattle.esto_chase_laws.specs.Derived.{AreDerived}
 use Rattle.esto_semantics.specs.Maps.{AreFlat}
 use Rattle.esto_semantics.specs.Rules.{AreRules}
-use Rattle.esto_term.proofs.SetLemmas.{none_has}
 use Rattle.esto_term.specs.Nesting.{greatest_u64}
 use Rattle.esto_chase_laws.specs.Bounds.{RanksRise}
 use Rattle.esto_semantics.specs.Expanded.{facts_of}
@@ -34,15 +31,12 @@ use Rattle.esto_known.specs.Added.{IsAdded, IsGrownBy}
 use Rattle.esto_term.proofs.PlaceLemmas.{take-item}
 use Rattle.esto_known.proofs.CoverLemmas.{added_there, added_keeps}
 
-pub one_number : (old new : List Bool) (count atom : ℕ) → old ≡ replicate count false → ((number : ℕ) → Has new number ↔ ((number ≡ atom) ⊎ Has old number))
-    → (number : ℕ) → Has new number ↔ (number ≡ atom)
-one_number old new count atom is has number = (
-  (λ in_new. elim ((has number).0 in_new) [ inl is_atom ↦ is_atom | inr before ↦ absurd (none_has count number (subst (λ it. Has it number) is before)) ]),
-  (λ is_atom. (has number).1 (inl is_atom)),
+pub one_number : (set : List Bool) (atom : ℕ) → ((number : ℕ) → Has set number ↔ Contains (atom ∷ []) number)
+    → (number : ℕ) → Has set number ↔ (number ≡ atom)
+one_number set atom has number = (
+  (λ in_set. sym (Contains-one atom number ((has number).0 in_set))),
+  (λ is. (has number).1 (subst (Contains (atom ∷ [])) (sym is) (Contains-head atom []))),
 )
-
-pub set_length : (old new : List Bool) (count atom : ℕ) → old ≡ replicate count false → new ≡ slice_set old atom true → length new ≡ count
-set_length old new count atom is set = ap length set ∙ length-set old atom true ∙ ap length is ∙ length-replicate count false
 
 pub answered_same : (its rules : List Constraint) (old new : List Entry) → its ≡ rules → AreAnswered (rules_of its) old new
     → AreAnswered (rules_of rules) old new

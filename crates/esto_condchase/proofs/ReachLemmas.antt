@@ -402,15 +402,15 @@ led_all entries head body targets place from ones items sets past same so_far ex
     )
 
 pub next_from : (groups : List Group) (atom : Fact Term) (rest : List (Fact Term)) (from : List Term) (ones : List Reached)
-    (copied grown items live live_items these these_items again : List Term) (its_ones later : List Reached)
-    → copied ≡ atom.terms → grown ≡ from ++ copied → items ≡ grown → live ≡ terms_of rest → live_items ≡ live → Tell items live_items these
+    (its_terms grown items these these_items again : List Term) (its_ones later : List Reached)
+    → its_terms ≡ atom.terms → grown ≡ from ++ its_terms → items ≡ grown → Tell items (terms_of rest) these
     → again ≡ grown → these_items ≡ these → its_ones ≡ ones
     → ((to : List Term) (set : List Bool) → Reach later to set ↔ Steps groups again these_items atom its_ones to set)
     → IsNext groups atom rest from ones these later
-next_from groups atom rest from ones copied grown items live live_items these these_items again its_ones later copied_is grown_is items_are live_is live_same tell
+next_from groups atom rest from ones its_terms grown items these these_items again its_ones later terms_are grown_is items_are tell
     again_is these_same ones_same steps =
-    let all : grown ≡ from ++ atom.terms = grown_is ∙ ap (λ it. from ++ it) copied_is in (
-      subst (λ it. Tell it (terms_of rest) these) (items_are ∙ all) (subst (λ it. Tell items it these) (live_same ∙ live_is) tell),
+    let all : grown ≡ from ++ atom.terms = grown_is ∙ ap (λ it. from ++ it) terms_are in (
+      subst (λ it. Tell it (terms_of rest) these) (items_are ∙ all) tell,
       (λ to set. subst (λ it. Reach later to set ↔ Steps groups it these atom ones to set) (again_is ∙ all)
           (subst (λ it. Reach later to set ↔ Steps groups again it atom ones to set) these_same
           (subst (λ it. Reach later to set ↔ Steps groups again these_items atom it to set) ones_same (steps to set)))),

@@ -1,8 +1,7 @@
 //! The loop, and what it promises.
-ghost use Rattle.std.specs.Prelude.{◌≡◌, ◌<◌, ◌⊎◌, ◌↔◌, ℕ, Bool, List, [], length, take, slice_index, Contains, IfOk, OnOk};
+ghost use Rattle.std.specs.Prelude.{◌≡◌, ◌<◌, ◌⊎◌, Bool, List, [], length, take, slice_index, Contains, IfOk, OnOk};
 ghost use Rattle.esto_semantics.specs.Maps.{AreFlat};
 ghost use Rattle.esto_semantics.specs.Rules.{Rule};
-ghost use Rattle.esto_term.specs.Sets.{Has};
 ghost use Rattle.esto_constraint.specs.Constraints.{rules_of};
 ghost use Rattle.esto_constraint.specs.Graphs.{IsWithin, AreRanks};
 ghost use Rattle.esto_constraint.specs.Relations.{IsEdge};
@@ -29,31 +28,6 @@ use esto_semantics::{ExpandedFact, ExpandedFacts};
 use esto_term::{List, OutOfMemory, Replicate};
 use std::alloc::Global;
 
-/// The set of one atom.
-fn only(alloc: Global, atom: usize, atoms: usize) -> Result<RowBits, OutOfMemory>
-    requires { atom < atoms }
-    ensures counted { IfOk result (λ it. length it ≡ atoms) }
-    ensures only { IfOk result (λ it. (number : ℕ) → Has it number ↔ (number ≡ atom)) }
-{
-    let mut product = RowBits::new(alloc, atoms)?;
-    product.insert(atom);
-    Ok(product)
-}
-
-/// The entry of an expanded fact.
-fn entry_of(alloc: Global, fact: &ExpandedFact, atoms: usize) -> Result<Entry, OutOfMemory>
-    requires { fact.now.atom < atoms }
-    ensures entry { IfOk result (IsEntryOf fact.now) }
-    ensures counted { IfOk result (λ it. length it.product ≡ atoms) }
-{
-    let product = only(alloc, fact.atom, atoms)?;
-    Ok(Entry {
-        claim: Claim::Fact(fact.fact.copy(alloc)?),
-        product,
-        reason: Reason::Expanded(fact.atom, fact.place),
-    })
-}
-
 /// Adds the entry of an expanded fact, unless the entries cover it.
 fn give(
     alloc: Global,
@@ -67,7 +41,13 @@ fn give(
         × (length entry.product ≡ atoms)
         × IsAdded entries.old entry.claim entry.product entry.reason entries.new) }
 {
-    let entry = entry_of(alloc, fact, atoms)?;
+    let product = RowBits::of(alloc, atoms, &[fact.atom])?;
+    let own = fact.fact.copy(alloc)?;
+    let entry = Entry {
+        claim: Claim::Fact(own),
+        product,
+        reason: Reason::Expanded(fact.atom, fact.place),
+    };
     add(alloc, entries, &entry)
 }
 

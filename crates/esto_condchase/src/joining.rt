@@ -1,7 +1,7 @@
 //! What links ask for: two that meet in one term link the terms at their ends.
 ghost use Rattle.std.specs.Prelude.{◌≡◌, ◌++◌, ◌<◌, ◌⊎◌, ℕ, false, List, Some, Contains, length, slice_get, take, IsTrue, IfOk, OnOk};
 ghost use Rattle.esto_semantics.specs.Rules.{Rule};
-ghost use Rattle.esto_term.specs.Sets.{Covers, united};
+ghost use Rattle.esto_term.specs.Sets.{Covers};
 ghost use Rattle.esto_term.specs.declared.term.Term.{Term};
 ghost use Rattle.esto_chase_laws.specs.Worlds.{AreOfCount, SaysOne};
 ghost use Rattle.esto_chase_laws.specs.WorldSteps.{AreJoined};
@@ -14,6 +14,7 @@ ghost use Rattle.esto_known.specs.declared.group.Group.{Group};
 ghost use Rattle.esto_condchase.specs.Rounds.{AsksMore, AreOpen, IsEndMet, IsMetWithAll, IsSideMet, IsUnionMet, MeetAt, MeetBy, TellOne};
 ghost use Rattle.esto_known.specs.Live.{AreOld};
 
+use crate::passing::union_of;
 use esto_bits::{Products, RowBits};
 use esto_chase_laws::{Claim, Entry, Reason};
 use esto_known::{Group, Groups, Known, has_later, same};
@@ -70,16 +71,6 @@ fn open_places(
     Ok(open)
 }
 
-/// The union of the products of two entries.
-fn union_of(alloc: Global, entry: &Entry, other: &Entry) -> Result<RowBits, OutOfMemory>
-    requires { length entry.now.product ≡ length other.now.product }
-    ensures { IfOk result (λ it. it ≡ united entry.now.product other.now.product) }
-{
-    let mut product = entry.product.copy(alloc)?;
-    product.union(&other.product);
-    Ok(product)
-}
-
 /// The entry that says that the two terms are one since the entries at two places do.
 fn linked(
     alloc: Global,
@@ -134,11 +125,12 @@ fn join_two(
     let Some(two) = entries.get(second) else {
         return Ok(());
     };
-    let product = union_of(alloc, one, two)?;
+    let product = union_of(alloc, &one.product, &two.product)?;
     if !sets.add(alloc, &product)? {
         return Ok(());
     }
-    more.push(linked(alloc, from, to, &product, &[first, second])?)
+    let entry = linked(alloc, from, to, &product, &[first, second])?;
+    more.push(entry)
 }
 
 /// The same for one place and each of others.

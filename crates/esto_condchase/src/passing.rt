@@ -139,8 +139,8 @@ fn add_longer(
     if is_settled(step, &product, kept) {
         return Ok(());
     }
-    next.push(with_link(alloc, before, place, product)?)?;
-    Ok(())
+    let longer = with_link(alloc, before, place, product)?;
+    next.push(longer)
 }
 
 /// The entry at the place, if it says that the two terms are one.
@@ -433,13 +433,13 @@ fn floor_of(at: usize, floor: usize, index: usize) -> usize
     if index == at { floor } else { 0 }
 }
 
-/// The list of the start alone.
-fn only(alloc: Global, start: Support) -> Result<List<Support>, OutOfMemory>
-    ensures { IfOk result (λ it. it ≡ start ∷ []) }
+/// The list of the item alone.
+pub fn only<T: Drop>(alloc: Global, item: T) -> Result<List<T>, OutOfMemory>
+    ensures { IfOk result (λ it. it ≡ item ∷ []) }
 {
-    let mut supports = List::new(alloc);
-    supports.push(start)?;
-    Ok(supports)
+    let mut items = List::new(alloc);
+    items.push(item)?;
+    Ok(items)
 }
 
 /// What goes on from the start by all of the fact's terms; at one of them by an equality from a place on.

@@ -10,9 +10,12 @@ ghost use Rattle.esto_chase_laws.specs.Worlds.{InWorld, AreOfCount};
 ghost use Rattle.esto_known.specs.Groups.{AreGroups};
 ghost use Rattle.esto_chase_laws.specs.declared.entry.Entry.{Entry};
 ghost use Rattle.esto_condchase.specs.Products.{AreReachedOf, IsNext, IsFirst};
+ghost use Rattle.esto_known.specs.Told.{Tell};
 ghost use Rattle.esto_known.specs.Touching.{AreGroupsOf, AreTouching};
 
+use crate::passing::only;
 use crate::reached::{Reached, next, sets_of_all, touching};
+use crate::steps::put_terms;
 use esto_bits::{Products, RowBits};
 use esto_chase_laws::Entry;
 use esto_known::{Groups, telling};
@@ -26,9 +29,7 @@ fn copied(alloc: Global, terms: &[Term]) -> Result<Terms, OutOfMemory>
     ensures { IfOk result (λ it. it ≡ terms.now) }
 {
     let mut own = List::new(alloc);
-    'terms: for term in terms {
-        own.push(term.copy(alloc)?)?;
-    }
+    put_terms(alloc, terms, &mut own)?;
     Ok(own)
 }
 
@@ -66,12 +67,16 @@ fn first(
     ensures first { IfOk result (IsFirst groups.now head.now targets.now) }
 {
     let by = touched(alloc, groups, head, targets, count)?;
-    let mut ones = List::new(alloc);
-    ones.push(Reached {
-        to: copied(alloc, targets)?,
-        by,
-    })?;
-    Ok(ones)
+    let to = copied(alloc, targets)?;
+    only(alloc, Reached { to, by })
+}
+
+/// Those of the terms that stand in the atoms, each once.
+fn asked_for(alloc: Global, from: &[Term], atoms: &[Atom]) -> Result<Terms, OutOfMemory>
+    ensures { IfOk result (Tell from.now (terms_of atoms.now)) }
+{
+    let terms = terms_of(alloc, atoms)?;
+    telling(alloc, from, terms.items())
 }
 
 /// Goes on by one atom, before the rest: of the terms so far those are kept that stand in the rest.
@@ -90,10 +95,9 @@ fn go_on(
     ensures next { OnOk result
         (IsNext groups.now atom.now rest.now from.old ones.old from.new ones.new) }
 {
-    from.append(atom.terms.copy(alloc)?)?;
-    let live = terms_of(alloc, rest)?;
-    let these = telling(alloc, from.items(), live.items())?;
-    let later = next(
+    put_terms(alloc, atom.terms.items(), from)?;
+    let these = asked_for(alloc, from.items(), rest)?;
+    *ones = next(
         alloc,
         groups,
         from.items(),
@@ -102,7 +106,6 @@ fn go_on(
         ones.items(),
         count,
     )?;
-    *ones = later;
     *from = these;
     Ok(())
 }

@@ -54,8 +54,7 @@ fn add_at(
         × ((own : List Term) (set : List Bool) → Reach ones.new.items own set
         ↔ (Reach ones.old.items own set ⊎ IsReachedBy one.to sets.now.sets others.now.sets own set))) }
 {
-    ones[place].by.add_both(alloc, sets, others)?;
-    Ok(())
+    ones[place].by.add_both(alloc, sets, others)
 }
 
 /// Adds what has reached the terms by the unions of one of the sets and one of the others.
@@ -224,8 +223,7 @@ fn step_with(
             }
             step_by(
                 alloc, groups, from, these, atom, one, &group.by, fact, count, later,
-            )?;
-            Ok(())
+            )
         }
     }
 }

@@ -125,8 +125,7 @@ fn answer_equality(
     let left = taken_term(from.items(), way.to.items(), &rule.left);
     let right = taken_term(from.items(), way.to.items(), &rule.right);
     let claim = same(alloc, left, right)?;
-    ask(alloc, entries, number, way, claim, more)?;
-    Ok(())
+    ask(alloc, entries, number, way, claim, more)
 }
 
 /// Asks for what a tuple rule asks for at all its direct matches, where what it asks for at those among the first few

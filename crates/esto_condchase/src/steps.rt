@@ -23,11 +23,12 @@ use esto_term::{List, OutOfMemory, Places, Replicate, Term, Terms};
 use std::alloc::Global;
 
 /// Puts copies of the terms at the end of the others.
-fn put_terms(alloc: Global, more: &[Term], terms: &mut Terms) -> Result<(), OutOfMemory>
+pub fn put_terms(alloc: Global, more: &[Term], terms: &mut Terms) -> Result<(), OutOfMemory>
     ensures { OnOk result (terms.new ≡ terms.old ++ more.now) }
 {
     'more: for term in more {
-        terms.push(term.copy(alloc)?)?;
+        let own = term.copy(alloc)?;
+        terms.push(own)?;
     }
     Ok(())
 }

@@ -7,7 +7,8 @@ ghost use Rattle.esto_known.specs.KeptWays.{AreCounted};
 ghost use Rattle.esto_known.specs.Told.{AreMetAt, TellsOne};
 ghost use Rattle.esto_known.specs.declared.way.Way.{Way};
 
-use crate::steps::{Level, both, match_all};
+use crate::passing::only;
+use crate::steps::{Level, both, match_all, put_terms};
 use esto_bits::RowBits;
 use esto_known::{Kept, Known, Way, facts_of, fresh_of, places_met, telling_places};
 use esto_prov::terms_of;
@@ -15,26 +16,18 @@ use esto_semantics::Atom;
 use esto_term::{List, OutOfMemory, Places, Replicate, Term, Terms, Values};
 use std::alloc::Global;
 
-/// The way that has matched nothing.
-fn empty_way(alloc: Global, count: usize) -> Result<Way, OutOfMemory>
-    ensures { IfOk result (λ it. it ≡ empty_way count) }
-{
-    let product = RowBits::new(alloc, count)?;
-    Ok(Way {
-        to: List::new(alloc),
-        facts: Values::new(alloc),
-        links: Values::new(alloc),
-        product,
-    })
-}
-
 /// The list of the way that has matched nothing.
 fn begun(alloc: Global, count: usize) -> Result<List<Way>, OutOfMemory>
     ensures { IfOk result (λ it. it ≡ empty_way count ∷ []) }
 {
-    let mut ways = List::new(alloc);
-    ways.push(empty_way(alloc, count)?)?;
-    Ok(ways)
+    let product = RowBits::new(alloc, count)?;
+    let way = Way {
+        to: List::new(alloc),
+        facts: Values::new(alloc),
+        links: Values::new(alloc),
+        product,
+    };
+    only(alloc, way)
 }
 
 /// Keeps the ways that go on from the given ones with any fact of the next atom's relation.
@@ -144,8 +137,7 @@ pub fn match_next(
         sides,
         places: places.items(),
     };
-    let ways = kept_of(alloc, &level, given, count)?;
-    Ok(ways)
+    kept_of(alloc, &level, given, count)
 }
 
 /// The terms of the atoms, and then those that are asked for.
@@ -189,7 +181,7 @@ fn go_on(
         ways.items(),
         count,
     )?;
-    from.append(atom.terms.copy(alloc)?)
+    put_terms(alloc, atom.terms.items(), from)
 }
 
 /// The direct matches of a body among the entries, each with what it uses, as far as they tell what the terms meet

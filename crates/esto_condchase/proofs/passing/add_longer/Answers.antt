@@ -1,4 +1,5 @@
 use Rattle.std.proofs.Common.{inl, inr, ap, length, refl, sym, subst, ◌∙◌}
+use Rattle.std.proofs.lemmas.Result.{on_ok_weaker}
 use Rattle.esto_term.specs.Sets.{Within}
 use Rattle.esto_term.proofs.SetLemmas.{length-united}
 use Rattle.esto_term.proofs.ListLemmas.{Contains-at}
@@ -30,10 +31,10 @@ returns-then-is_settled-clause-goes c set within its_within = inr (told_wider _ 
     (within_united c.args.before.now.product c.args.entry.now.product set within its_within)))
 
 pub returns-clause-grown : goal.returns-clause-grown
-returns-clause-grown c own goal says = added_grown c.args.step.now.known.now c.args.before.now c.args.place c.args.entry.now c.requires.at
+returns-clause-grown c = on_ok_weaker c.push.result (λ pushed own goal says. added_grown c.args.step.now.known.now c.args.before.now c.args.place c.args.entry.now c.requires.at
     (sym (c.requires.counts c.args.entry.now (Contains-at c.args.step.now.known.now c.args.place c.args.entry.now c.requires.at))) own goal
-    says c.in_ok-product.product _ c.args.next.now _ c.in_ok-product.ensures c.in_ok-with_link.ensures c.in_ok-push.ensures.ok
+    says c.in_ok-product.product _ c.args.next.now _ c.in_ok-product.ensures c.in_ok-longer.ensures pushed) c.push.ensures.ok
 
 pub returns-clause-goes : goal.returns-clause-goes
-returns-clause-goes c set within its_within = inl (added_goes c.args.before.now c.in_ok-product.product c.args.entry.now.product c.args.place _ c.args.next.now _
-    c.in_ok-product.ensures c.in_ok-with_link.ensures c.in_ok-push.ensures.ok set within its_within)
+returns-clause-goes c = on_ok_weaker c.push.result (λ pushed set within its_within. inl (added_goes c.args.before.now c.in_ok-product.product c.args.entry.now.product c.args.place _ c.args.next.now _
+    c.in_ok-product.ensures c.in_ok-longer.ensures pushed set within its_within)) c.push.ensures.ok

@@ -8,7 +8,7 @@ next-requires-clause-ones c = subst (AreReachedOf c.args.count) (sym c.items-5.e
 
 pub returns-clause-next : goal.returns-clause-next
 returns-clause-next c =
-    next_from c.args.groups.now c.args.atom.now c.args.rest.now c.args.from.now c.args.ones.now c.in_ok-copy.field-0 c.append.new.self c.items.result.now
-    c.in_ok-live.live c.items-2.result.now c.in_ok-these.these c.items-4.result.now c.items-3.result.now c.items-5.result.now c.in_ok-later.later
-    c.in_ok-copy.ensures c.in_ok-append.ensures.ok c.items.ensures c.in_ok-live.ensures c.items-2.ensures c.in_ok-these.ensures c.items-3.ensures
-    c.items-4.ensures c.items-5.ensures c.in_ok-later.ensures.reach
+    next_from c.args.groups.now c.args.atom.now c.args.rest.now c.args.from.now c.args.ones.now c.items.result.now c.put_terms.new.terms c.items-2.result.now
+    c.in_ok-these.these c.items-4.result.now c.items-3.result.now c.items-5.result.now c.in_ok-ones.field-0
+    c.items.ensures c.in_ok-put_terms.ensures c.items-2.ensures c.in_ok-these.ensures c.items-3.ensures
+    c.items-4.ensures c.items-5.ensures c.in_ok-ones.ensures.reach
