@@ -6,6 +6,8 @@ use Rattle.std.specs.Bool.{Decides}
 use Rattle.std.specs.List.{list_any}
 use Rattle.std.proofs.lemmas.List.{length-map, map-append, map_more, get_or-map}
 use Rattle.std.proofs.lemmas.List.Elements.{Contains-push_cases}
+use Rattle.esto_term.proofs.ListLemmas.{map_at}
+use Rattle.esto_term.proofs.PlaceLemmas.{item_at}
 use Rattle.esto_columns.specs.Interned.{AreCodesOf, AreTexts}
 use Rattle.esto_columns.proofs.NumberLemmas.{grown_by, distinct_grown}
 
@@ -42,3 +44,10 @@ text_is_utf8 seen keys items value view same code key bytes below at is texts =
     let here : get_or (map seen keys) code bytes ≡ bytes =
     get_or-map seen keys code key bytes (omega (arith, inside, long)) ∙ ap seen (ap (λ them. get_or them code key) (sym same) ∙ sym at) ∙ sym is in
     texts.utf8 bytes (code, inside, here)
+
+pub text_stands : {X : Type 0} (seen : X → List ℕ) (keys items : List X) (value : List (List ℕ)) → map seen keys ≡ value → items ≡ keys
+    → (code : ℕ) (key : X) (bytes : List ℕ) → code < length value → key ≡ get_or items code key → bytes ≡ seen key → slice_get value code ≡ Some bytes
+text_stands seen keys items value view same code key bytes below at is =
+    let long = length-map keys seen in let same_long = ap length view in let items_long = ap length same in
+    let there : slice_get items code ≡ Some key = item_at items code key (omega (arith, below, long, same_long, items_long)) at in
+    ap (λ them. slice_get them code) (sym view) ∙ map_at seen keys code key (subst (λ them. slice_get them code ≡ Some key) same there) ∙ ap Some (sym is)

@@ -1,8 +1,9 @@
 //! Fragments whose rows are stored.
-ghost use Rattle.std.specs.Prelude.{◌≡◌, ◌==◌, ◌<◌, ◌++◌, ◌∷◌, [], ℕ, length, map, slice_index_or, Contains, IfOk, OnOk};
+ghost use Rattle.std.specs.Prelude.{◌≡◌, ◌==◌, ◌<◌, ◌++◌, ◌∷◌, [], ℕ, length, map, slice_index_or, Contains, IfOk, OnOk, MatchOption};
 ghost use Rattle.std.specs.List.{filter};
 ghost use Rattle.esto_columns.specs.declared.fragment.Input.{Input};
 ghost use Rattle.esto_columns.specs.Asked.{holds_all};
+ghost use Rattle.esto_columns.specs.Indexed.{AreAmongPlaces, key_at};
 ghost use Rattle.esto_columns.specs.Picked.{rows_at};
 
 use crate::fragment::{Fragment, Input, Inputs, Ways};
@@ -98,8 +99,7 @@ fn picked(alloc: Global, rows: &Rows, first: &Input, inputs: &[Input]) -> Result
     let mut picks = Picks::new(alloc);
     picks.reserve(rows.len())?;
     select(rows.column(first.column), first.code, &mut picks);
-    let held = held_among(alloc, rows, picks.items(), inputs)?;
-    Ok(held)
+    held_among(alloc, rows, picks.items(), inputs)
 }
 
 /// The columns of the inputs.
@@ -124,6 +124,21 @@ fn codes_of(alloc: Global, inputs: &[Input]) -> Result<Values<u64>, OutOfMemory>
     Ok(codes)
 }
 
+/// The places that an index of the rows by the columns of the inputs gives for their codes, if there is one.
+fn places_by(
+    alloc: Global,
+    rows: &Rows,
+    inputs: &[Input],
+) -> Result<Option<Vec<usize>>, OutOfMemory>
+    ensures { IfOk result (λ found. MatchOption found Unit (λ places.
+        AreAmongPlaces (map (λ input. input.code) inputs.now)
+        (map (key_at (map (λ input. input.column) inputs.now)) rows.now.rows) places.items)) }
+{
+    let columns = columns_of(alloc, inputs)?;
+    let codes = codes_of(alloc, inputs)?;
+    rows.places(alloc, columns.items(), codes.items())
+}
+
 /// The rows that hold the inputs: all where there are none, by an index where there is one by their columns, else by a
 /// look at the column of the first.
 fn found(alloc: Global, rows: &Rows, inputs: &[Input]) -> Result<Rows, OutOfMemory>
@@ -136,9 +151,7 @@ fn found(alloc: Global, rows: &Rows, inputs: &[Input]) -> Result<Rows, OutOfMemo
     if inputs.is_empty() {
         return rows.copy(alloc);
     }
-    let columns = columns_of(alloc, inputs)?;
-    let codes = codes_of(alloc, inputs)?;
-    if let Some(places) = rows.places(alloc, columns.items(), codes.items())? {
+    if let Some(places) = places_by(alloc, rows, inputs)? {
         return held_among(alloc, rows, places.as_slice(), inputs);
     }
     picked(alloc, rows, &inputs[0], inputs)

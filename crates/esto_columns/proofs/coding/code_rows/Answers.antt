@@ -1,4 +1,5 @@
 use Rattle.std.proofs.Common.{Contains, sym, subst, ◌∙◌}
+use Rattle.std.proofs.lemmas.List.{take_all}
 use Rattle.esto_columns.specs.Interned.{AreCodedRows}
 use Rattle.esto_columns.proofs.CodingLemmas.{row_taken, grows_on}
 use Rattle.esto_columns.proofs.coding.code_rows.Goals as goal
@@ -19,3 +20,7 @@ rows-preserved c = record {
       (c.in_ok-add_coded.ensures.coded _ c.rows.invariant.coded);
   grown = grows_on c.args.codes.now c.rows.codes c.add_coded.new.codes c.rows.invariant.grown c.add_coded.ensures.grown;
 }
+
+pub returns-clause-coded : goal.returns-clause-coded
+returns-clause-coded c = subst (AreCodedRows c.rows.codes c.rows.coded.rows)
+    (take_all c.rows.row-index c.items-row-items.result.now c.rows-test.false ∙ c.items-row-items.ensures) c.rows.invariant.coded

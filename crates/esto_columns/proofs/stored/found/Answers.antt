@@ -1,8 +1,9 @@
-use Rattle.std.proofs.Common.{◌≡◌, ◌∙◌, ℕ, Vec, Global, map, sym, ap}
+use Rattle.std.proofs.Common.{◌≡◌, ◌∙◌, ℕ, Vec, Global, map, refl, sym, ap}
 use Rattle.std.proofs.lemmas.Option.{MatchOption-at_some}
 use Rattle.std.proofs.lemmas.Result.{IfOk-weaker}
 use Rattle.std.proofs.lemmas.List.Elements.{Contains-get_or}
 use Rattle.std.specs.List.{filter}
+use Rattle.esto_columns.specs.declared.fragment.Input.{Input}
 use Rattle.esto_columns.specs.Asked.{holds_all}
 use Rattle.esto_columns.specs.CodedRows.{CodedRows}
 use Rattle.esto_columns.specs.Indexed.{key_at, AreAmongPlaces}
@@ -11,19 +12,24 @@ use Rattle.esto_columns.proofs.StoredLemmas.{among_within, among_all, some_input
 use Rattle.esto_columns.proofs.stored.found.Goals as goal
 
 pub held_among-requires-clause-places : goal.held_among-requires-clause-places
-held_among-requires-clause-places c = among_within c.args.rows.now.rows c.items.result.now c.items-2.result.now c.in-Some.places.items c.as_slice.result.now
-    (MatchOption-at_some (Unit {0}) (λ (it : Vec ℕ Global). AreAmongPlaces c.items-2.result.now (map (key_at c.items.result.now) c.args.rows.now.rows) it.items)
+held_among-requires-clause-places c =
+    let columns = map (λ (input : Input). input.column) c.args.inputs.now in
+    let codes = map (λ (input : Input). input.code) c.args.inputs.now in
+    among_within c.args.rows.now.rows columns codes c.in-Some.places.items c.as_slice.result.now
+    (MatchOption-at_some (Unit {0}) (λ (it : Vec ℕ Global). AreAmongPlaces codes (map (key_at columns) c.args.rows.now.rows) it.items)
     c.in-Some.places c.in-Some.is c.in_ok-places.ensures) c.as_slice.ensures.value c.args.inputs.now
 
 pub returns-in-Some : goal.returns-in-Some
-returns-in-Some c = IfOk-weaker c.held_among.result
+returns-in-Some c =
+    let columns = map (λ (input : Input). input.column) c.args.inputs.now in
+    let codes = map (λ (input : Input). input.code) c.args.inputs.now in
+    IfOk-weaker c.held_among.result
     (λ (it : CodedRows). it ≡ record
     { arity = c.args.rows.now.arity; rows = filter (holds_all c.args.inputs.now) (rows_at c.args.rows.now.rows c.as_slice.result.now) })
     (λ (it : CodedRows). it ≡ record { arity = c.args.rows.now.arity; rows = filter (holds_all c.args.inputs.now) c.args.rows.now.rows })
-    (λ it is. among_all c.args.rows.now.rows c.items.result.now c.items-2.result.now c.in-Some.places.items c.as_slice.result.now
-    (MatchOption-at_some (Unit {0}) (λ (it : Vec ℕ Global). AreAmongPlaces c.items-2.result.now (map (key_at c.items.result.now) c.args.rows.now.rows) it.items)
-    c.in-Some.places c.in-Some.is c.in_ok-places.ensures) c.as_slice.ensures.value c.args.inputs.now (c.items.ensures ∙ c.in_ok-columns.ensures)
-    (c.items-2.ensures ∙ c.in_ok-codes.ensures) c.args.rows.now.arity it is)
+    (λ it is. among_all c.args.rows.now.rows columns codes c.in-Some.places.items c.as_slice.result.now
+    (MatchOption-at_some (Unit {0}) (λ (it : Vec ℕ Global). AreAmongPlaces codes (map (key_at columns) c.args.rows.now.rows) it.items)
+    c.in-Some.places c.in-Some.is c.in_ok-places.ensures) c.as_slice.ensures.value c.args.inputs.now refl refl c.args.rows.now.arity it is)
     c.held_among.ensures
 
 pub picked-requires-clause-first : goal.picked-requires-clause-first
