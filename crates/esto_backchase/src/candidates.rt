@@ -54,7 +54,8 @@ fn facts_chosen(
     let mut facts = List::new(alloc);
     'facts: for part in expanded {
         if set.has(part.atom) {
-            facts.push(part.fact.copy(alloc)?)?;
+            let fact = part.fact.copy(alloc)?;
+            facts.push(fact)?;
         }
     }
     Ok(facts)

@@ -80,6 +80,5 @@ pub fn minimal_sets_plain(
     listed_sets_are_executable();
     rewritings_map_onto_sets();
     let answering = answering_sets(alloc, plan, query, catalogue)?;
-    let listed = executable_products(alloc, plan, &catalogue.fragments, &answering)?;
-    Ok(listed)
+    executable_products(alloc, plan, &catalogue.fragments, &answering)
 }

@@ -82,8 +82,7 @@ fn listed_products(
 {
     listed_sets_are_executable();
     let answering = answering_products(alloc, plan, query, catalogue, entries)?;
-    let sets = executable_products(alloc, plan, &catalogue.fragments, &answering)?;
-    Ok(sets)
+    executable_products(alloc, plan, &catalogue.fragments, &answering)
 }
 
 /// The listed sets of the plan under the catalogue's rules: the minimal sets of its atoms that are executable, and whose

@@ -1,4 +1,5 @@
 use Rattle.std.proofs.Common.{length}
+use Rattle.std.proofs.lemmas.Result.{IfOk-weaker}
 use Rattle.esto_semantics.specs.Listed.{IsRewriting, AnswersQuery}
 use Rattle.esto_semantics.specs.Rewritings.{IsPlanFor}
 use Rattle.esto_term.specs.Sets.{TellHolds}
@@ -11,7 +12,7 @@ use Rattle.esto_views.proofs.FlatLemmas.{plan_atoms-flat}
 use Rattle.esto_backchase.proofs.listing.minimal_sets_plain.Goals as goal
 
 pub returns-clause-listed : goal.returns-clause-listed
-returns-clause-listed c set =
+returns-clause-listed c = IfOk-weaker c.executable_products.result _ _ (λ it minimal set.
     let query = query_of c.args.query.now in
     let plan = plan_query c.args.plan.now in
     let rules = rules_of c.args.catalogue.now.rules in
@@ -24,11 +25,11 @@ returns-clause-listed c set =
     c.in_ok-answering.ensures.minimal in
     let listed = c.listed_sets_are_executable.ensures.executable rules views (patterns_of c.args.catalogue.now.fragments) query plan
     c.in_ok-answering.answering.sets told set in
-    let found = c.in_ok-listed.ensures.minimal set in
-    (λ inside. listed.1 (found.0 inside), λ is_listed. found.1 (listed.0 is_listed))
+    let found = minimal set in
+    (λ inside. listed.1 (found.0 inside), λ is_listed. found.1 (listed.0 is_listed))) c.executable_products.ensures.minimal
 
 pub returns-clause-complete : goal.returns-clause-complete
-returns-clause-complete c other rewriting =
+returns-clause-complete c = IfOk-weaker c.executable_products.result _ _ (λ it are_listed other rewriting.
     let query = query_of c.args.query.now in
     let plan = plan_query c.args.plan.now in
     let rules = rules_of c.args.catalogue.now.rules in
@@ -39,6 +40,6 @@ returns-clause-complete c other rewriting =
     c.requires.satisfiable rewriting in (
       onto.0,
       onto.2,
-      minimal-cover (IsRewriting rules views patterns query plan) (length plan.body) (λ set is. is.has_candidate.over) c.in_ok-listed.listed.sets
-          (returns-clause-listed c) onto.0 onto.1,
-    )
+      minimal-cover (IsRewriting rules views patterns query plan) (length plan.body) (λ set is. is.has_candidate.over) it.sets
+          are_listed onto.0 onto.1,
+    )) (returns-clause-listed c)
