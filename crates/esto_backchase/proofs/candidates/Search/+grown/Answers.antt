@@ -1,4 +1,4 @@
-use Rattle.std.proofs.Common.{length, sym, subst}
+use Rattle.std.proofs.Common.{length, sym, subst, arith}
 use Rattle.std.proofs.lemmas.Result.{IfOk-weaker}
 use Rattle.esto_backchase.specs.Candidates.{Answers}
 use Rattle.esto_backchase.specs.Searching.{FailsWith}
@@ -24,3 +24,14 @@ returns t c =
     let count = length c.args.self.now.plan.now.atoms in
     IfOk-weaker c.grown-2.result _ _ (λ both after. fails-further count Pass c.args.set.now c.in_ok-half.half both c.in_ok-half.ensures after)
     c.grown-2.ensures
+
+pub grown-requires : goal.grown-requires
+grown-requires t c =
+    (omega (arith, c.decreases), (c.requires.search, (c.requires.count, (c.requires.fails, omega (arith, c.requires.in_range)))))
+
+pub grown-requires-2 : goal.grown-requires-2
+grown-requires-2 t c =
+    let long = c.in_ok-half.ensures.same_length in (
+      omega (arith, c.decreases),
+      (c.requires.search, (long, (c.in_ok-half.ensures.fails, omega (arith, c.requires.in_range, c.requires.count, long)))),
+    )
