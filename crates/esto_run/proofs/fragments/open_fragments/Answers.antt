@@ -68,3 +68,12 @@ returns-clause-answer g c =
     let le : length c.args.numbers.now ≤ c.numbers.number-index = omega (arith, c.numbers-test.false, ap length c.items-number-items.ensures) in
     opening_ends (g.S.Shelf.files c.args.shelf.now) c.args.catalogue.now c.args.numbers.now (g.S.Shelf.asked c.args.shelf.now) c.numbers.number-index
     c.numbers.opened (g.S.Shelf.asked c.numbers.shelf) c.numbers.invariant.3 le c.numbers.invariant.2 (Rises g.S.Shelf.faults c.args.shelf.now c.numbers.shelf)
+
+pub returns-in_err-open_next-clause-files : goal.returns-in_err-open_next-clause-files
+returns-in_err-open_next-clause-files g c = c.in_err-open_next.ensures.files ∙ c.numbers.invariant.0
+
+pub returns-in_err-open_next-clause-later : goal.returns-in_err-open_next-clause-later
+returns-in_err-open_next-clause-later g c = omega (arith, c.numbers.invariant.1, c.in_err-open_next.ensures.later)
+
+pub open_next-requires-clause-rows : goal.open_next-requires-clause-rows
+open_next-requires-clause-rows g c = c.numbers.invariant.2
