@@ -82,8 +82,7 @@ fn listing_of(
     plans_are_sound();
     queries_are_their_own_instances();
     let found = minimal_sets(alloc, plan, query, catalogue)?;
-    let listing = Listing::of(alloc, &found.sets, plan, &catalogue.fragments)?;
-    Ok(listing)
+    Listing::of(alloc, &found.sets, plan, &catalogue.fragments)
 }
 
 // The pick of the list, which is not empty.

@@ -68,7 +68,8 @@ fn made_datasets(alloc: Global, size: usize) -> Result<Datasets, OutOfMemory>
 {
     let mut datasets = List::new(alloc);
     'relations: for relation in 0..size {
-        datasets.push(dataset_of(alloc, relation)?)?;
+        let dataset = dataset_of(alloc, relation)?;
+        datasets.push(dataset)?;
     }
     Ok(datasets)
 }

@@ -115,7 +115,8 @@ fn without_inputs(alloc: Global) -> Result<AccessList, OutOfMemory>
     ensures { IfOk result (λ it. (relation : ℕ) → it ≡ without_inputs relation) }
 {
     let mut access = List::new(alloc);
-    access.push(Values::from_slice(alloc, &[false, false])?)?;
+    let pattern = Values::from_slice(alloc, &[false, false])?;
+    access.push(pattern)?;
     Ok(access)
 }
 
@@ -150,8 +151,7 @@ fn push_fragment(
     ensures { OnOk result (AddsMade letter.now relation weight fragments.old fragments.new) }
 {
     let fragment = fragment_of(alloc, letter, relation, weight)?;
-    fragments.push(fragment)?;
-    Ok(())
+    fragments.push(fragment)
 }
 
 // Puts both fragments of the relation at the end.
@@ -159,8 +159,7 @@ fn add_both(alloc: Global, fragments: &mut FragmentDefs, relation: usize) -> Res
     ensures { OnOk result (AddsBoth relation fragments.old fragments.new) }
 {
     push_fragment(alloc, fragments, "A", relation, 1)?;
-    push_fragment(alloc, fragments, "B", relation, 2)?;
-    Ok(())
+    push_fragment(alloc, fragments, "B", relation, 2)
 }
 
 /// The fragments over so many relations.
@@ -205,8 +204,7 @@ fn add_stores(alloc: Global, stores: &mut Stores, relation: usize) -> Result<(),
         ++ made_store (codes "A") relation ∷ made_store (codes "B") relation ∷ []) }
 {
     push_store(alloc, stores, "A", relation)?;
-    push_store(alloc, stores, "B", relation)?;
-    Ok(())
+    push_store(alloc, stores, "B", relation)
 }
 
 /// The stores of the fragments over so many relations.

@@ -27,8 +27,9 @@ fn made_body(alloc: Global, size: usize) -> Result<Atoms, OutOfMemory>
 fn name_of(alloc: Global, variable: usize) -> Result<Name, OutOfMemory>
     ensures { IfOk result (λ it. it ≡ made_name variable) }
 {
-    let name = format!(in alloc; "x{variable}")?;
-    Ok(Name::Given(Text::from_str(alloc, name.as_str())?))
+    let text = format!(in alloc; "x{variable}")?;
+    let name = Text::from_str(alloc, text.as_str())?;
+    Ok(Name::Given(name))
 }
 
 // The names of the variables, from x0 to that of the size.
@@ -39,7 +40,8 @@ fn made_names(alloc: Global, size: usize) -> Result<Names, OutOfMemory>
 {
     let mut names = List::new(alloc);
     'variables: for variable in 0..size + 1 {
-        names.push(name_of(alloc, variable)?)?;
+        let name = name_of(alloc, variable)?;
+        names.push(name)?;
     }
     Ok(names)
 }

@@ -54,7 +54,8 @@ fn made_rows(alloc: Global, relation: usize) -> Result<TextRows, OutOfMemory>
 {
     let mut rows = List::new(alloc);
     'places: for place in 0..ROWS {
-        rows.push(made_row(alloc, relation, place)?)?;
+        let row = made_row(alloc, relation, place)?;
+        rows.push(row)?;
     }
     Ok(rows)
 }
@@ -68,8 +69,7 @@ fn content_of(alloc: Global, relation: usize) -> Result<Bytes, OutOfMemory>
 {
     let columns = made_columns(alloc)?;
     let rows = made_rows(alloc, relation)?;
-    let text = write_table(alloc, &columns, &rows)?;
-    Ok(text)
+    write_table(alloc, &columns, &rows)
 }
 
 // Opens the content of the fragment of the number.

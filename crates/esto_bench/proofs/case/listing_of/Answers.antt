@@ -1,4 +1,4 @@
-use Rattle.std.proofs.Common.{All, subst}
+use Rattle.std.proofs.Common.{All, IfOk, Result, Ok, Err, subst}
 use Rattle.esto_list.specs.declared.listing.Listed.{Listed}
 use Rattle.esto_semantics.specs.Access.{IsStatedOrder}
 use Rattle.esto_semantics.specs.Listed.{chosen, IsWeight}
@@ -48,19 +48,25 @@ minimal_sets-requires-clause-same_length c =
 pub of-requires : goal.of-requires
 of-requires c = λ set inside. ((c.in_ok-found.ensures.listed set).0 inside).0.executable
 
+-- what holds of a list of the sets holds of the list of the case
+module _ {T E : Type 0} {Members Ordered Orders Weights List : T → Type 0} where
+  listed : (result : Result T E) → ((list : T) → Members list → Ordered list → Orders list → Weights list → List list)
+      → IfOk result Members → IfOk result Ordered → IfOk result Orders → IfOk result Weights
+      → IfOk result List
+  listed (Ok list) made members ordered orders weights = made list members ordered orders weights
+  listed (Err error) made members ordered orders weights = tt
+
 pub returns : goal.returns
 returns c =
     let catalogue = c.args.catalogue.now in
     let made = c.requires.catalogue in
     let plan = c.args.plan.now in
-    let listing = c.in_ok-listing.listing in
-    let is = c.in_ok-listing.ensures in
     let apart = c.plans_of_runs_are_over_fragments.ensures.distinct (rules_of catalogue.rules) (views_of catalogue.fragments) c.args.query.now.names
     (query_of c.args.query.now) plan (planned_by c.args.size catalogue made c.args.query.now c.requires.query plan c.requires.planned) in
-    record {
+    listed c.of.result (λ listing members in_order orders weights. record {
       listed = list_of_case c.args.size catalogue made c.args.query.now c.requires.query plan c.in_ok-found.found.sets.sets c.in_ok-found.ensures.listed
-          listing is.members is.in_order;
-      orders = subst (λ patterns. All (λ (item : Listed). IsStatedOrder patterns (plan_query plan).body item.set item.order) listing) made.patterns is.orders;
+          listing members in_order;
+      orders = subst (λ patterns. All (λ (item : Listed). IsStatedOrder patterns (plan_query plan).body item.set item.order) listing) made.patterns orders;
       weighed = subst (λ weights. All (λ (item : Listed). IsWeight weights (chosen item.set (plan_query plan).body) item.weight) listing) made.weights
-          (is.weights apart);
-    }
+          weights;
+    }) c.of.ensures.members c.of.ensures.in_order c.of.ensures.orders (c.of.ensures.weights apart)

@@ -1,8 +1,9 @@
+use Rattle.std.proofs.lemmas.Result.{on_ok_weaker}
 use Rattle.esto_bench.proofs.fragments.push_fragment.Goals as goal
 
 pub returns : goal.returns
-returns c = record {
+returns c = on_ok_weaker c.push.result (λ added. record {
   fragment = c.in_ok-fragment.fragment;
-  added = c.in_ok-push.ensures.ok;
+  added = added;
   made = c.in_ok-fragment.ensures;
-}
+}) c.push.ensures.ok

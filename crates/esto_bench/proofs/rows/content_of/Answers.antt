@@ -1,4 +1,5 @@
 use Rattle.std.proofs.Common.{◌≡◌, ◌≢◌, ◌∙◌, List, length, All, AllPairs, ap, sym, subst}
+use Rattle.std.proofs.lemmas.Result.{IfOk-weaker}
 use Rattle.esto_stores.specs.Rows.{Row}
 use Rattle.esto_stores.specs.Table.{table_fault, table_rows}
 use Rattle.esto_stores.specs.TableText.{table_text}
@@ -16,11 +17,13 @@ write_table-requires-clause-lengths c =
     (subst (λ (it : Row). All (λ (row : Row). length row ≡ length it) (made_rows c.args.relation)) (sym c.in_ok-columns.ensures) (rows_wide c.args.relation))
 
 pub returns-clause-text : goal.returns-clause-text
-returns-clause-text c = c.in_ok-text.ensures.text ∙ (λ i. table_text (c.in_ok-columns.ensures i) (c.in_ok-rows.ensures i))
+returns-clause-text c = IfOk-weaker c.write_table.result _ _
+    (λ text is. is ∙ (λ i. table_text (c.in_ok-columns.ensures i) (c.in_ok-rows.ensures i))) c.write_table.ensures.text
 
 pub returns-clause-rows : goal.returns-clause-rows
-returns-clause-rows c =
-    ap (λ (it : Row). table_rows it c.in_ok-text.text) (sym c.in_ok-columns.ensures) ∙ c.in_ok-text.ensures.rows ∙ c.in_ok-rows.ensures
+returns-clause-rows c = IfOk-weaker c.write_table.result _ _
+    (λ text rows. ap (λ (it : Row). table_rows it text) (sym c.in_ok-columns.ensures) ∙ rows ∙ c.in_ok-rows.ensures) c.write_table.ensures.rows
 
 pub returns-clause-fault : goal.returns-clause-fault
-returns-clause-fault c = ap (λ (it : Row). table_fault it c.in_ok-text.text) (sym c.in_ok-columns.ensures) ∙ c.in_ok-text.ensures.fault
+returns-clause-fault c = IfOk-weaker c.write_table.result _ _
+    (λ text fault. ap (λ (it : Row). table_fault it text) (sym c.in_ok-columns.ensures) ∙ fault) c.write_table.ensures.fault
