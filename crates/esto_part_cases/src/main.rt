@@ -1,8 +1,9 @@
 //! Cases of the parts below the commands, in scripts whose names are the words of the command line: terms, matches, rules,
-//! chases, products, orders, lists and what they come from, gets, rows, documents and codes.
+//! chases, products, orders, lists and what they come from, gets, rows, documents, codes and datasets' files.
 #![tactic(auto)]
 
 mod chasing;
+mod loading;
 mod making;
 mod matching;
 mod models;

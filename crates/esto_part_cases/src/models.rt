@@ -1,15 +1,16 @@
 //! Rows of tables and keys, documents, and codes of texts.
-ghost use Rattle.std.specs.Prelude.{IfOk};
+ghost use Rattle.std.specs.Prelude.{◌≡◌, All, length, IsTrue, IfOk};
 ghost use Rattle.esto_docmodel.specs.Shapes.{entries_of};
 ghost use Rattle.esto_docmodel.specs.Valuations.{HaveFlatTerms};
 
-use crate::printing::{put_number, put_numbers, put_row};
-use esto_columns::{Codes, Column, Picks, select};
-use esto_docmodel::{Entry, Layout, Pattern, Step, Tree, match_pattern};
+use crate::printing::{put_facts, put_number, put_numbers, put_row};
+use crate::reading::place;
+use esto_columns::{Codes, Column, Picks, Rows, code_rows, select};
+use esto_docmodel::{Entry, Layout, Pattern, Step, Tree, Trees, encode_documents, match_pattern};
 use esto_docs::read_trees;
-use esto_keymodel::key_row_fault;
+use esto_keymodel::{key_row_fault, pair_facts};
 use esto_relmodel::table_facts;
-use esto_script::{Refused, each, put, put_counted, text};
+use esto_script::{Refused, each, parts, put, put_counted, text};
 use esto_semantics::Valuation;
 use esto_term::{List, Term, TextRow, TextRows, Values};
 use std::alloc::Global;
@@ -31,6 +32,29 @@ pub fn put_table(rt: &HostRuntime, alloc: Global, line: &str) -> Result<(), Refu
     'facts: for fact in facts.items() {
         put_row(rt, fact.terms.items());
     }
+    Ok(())
+}
+
+// Whether each row has so many cells.
+fn have_cells(rows: &[TextRow], cells: usize) -> bool
+    ensures { IsTrue result → All (λ row. length row ≡ cells) rows.now }
+{
+    'rows: for row in rows {
+        if row.len() != cells {
+            return false;
+        }
+    }
+    true
+}
+
+/// The facts of rows of keys, each of a key, a field and a value, a line each.
+pub fn put_pairs(rt: &HostRuntime, alloc: Global, line: &str) -> Result<(), Refused> {
+    let rows = rows(alloc, line)?;
+    if !have_cells(rows.items(), 3) {
+        return Err(Refused);
+    }
+    let facts = pair_facts(alloc, 0, &rows)?;
+    put_facts(rt, facts.items());
     Ok(())
 }
 
@@ -77,12 +101,49 @@ fn put_column(rt: &HostRuntime, codes: &[u64]) {
     put(rt, "\n");
 }
 
+// The columns of rows of codes, a line each.
+fn put_columns(rt: &HostRuntime, rows: &Rows) {
+    'columns: for column in 0..rows.arity() {
+        put_column(rt, rows.column(column).items());
+    }
+}
+
+/// Rows of so many cells as rows of codes: their columns, a line each. The number of cells stands before the rows.
+pub fn put_coded(rt: &HostRuntime, alloc: Global, line: &str) -> Result<(), Refused> {
+    let (cells, line) = parts(line, ' ');
+    let cells = place(cells)?;
+    let rows = rows(alloc, line)?;
+    if !have_cells(rows.items(), cells) {
+        return Err(Refused);
+    }
+    let coded = code_rows(alloc, &rows, cells, &mut Codes::new(alloc))?;
+    put_columns(rt, &coded);
+    Ok(())
+}
+
 /// The codes of the words, and then the places at which the first word's code stands.
 pub fn put_codes(rt: &HostRuntime, alloc: Global, line: &str) -> Result<(), Refused> {
     let column = codes_of(alloc, line)?;
     put_column(rt, column.items());
     let picks = firsts(alloc, &column)?;
     put_numbers(rt, picks.items());
+    Ok(())
+}
+
+// The documents that a line writes, one of them.
+fn document(alloc: Global, line: &str) -> Result<Trees, Refused> {
+    match read_trees(alloc, line.as_bytes(), &Layout::Lines) {
+        Ok(trees) => Ok(trees),
+        Err(_) => Err(Refused),
+    }
+}
+
+/// The facts of a document, a line each, and the first number that no node has.
+pub fn put_encoded(rt: &HostRuntime, alloc: Global, line: &str) -> Result<(), Refused> {
+    let trees = document(alloc, line)?;
+    let encoded = encode_documents(alloc, 0, &trees, 0)?;
+    put_facts(rt, encoded.facts.items());
+    put_counted(rt, "next ", encoded.next);
     Ok(())
 }
 
@@ -132,8 +193,6 @@ fn put_all_inside(rt: &HostRuntime, alloc: Global, trees: &[Tree]) -> Result<(),
 
 /// The texts that stand strictly inside a document, by a pattern.
 pub fn put_inside(rt: &HostRuntime, alloc: Global, line: &str) -> Result<(), Refused> {
-    match read_trees(alloc, line.as_bytes(), &Layout::Lines) {
-        Ok(trees) => put_all_inside(rt, alloc, trees.items()),
-        Err(_) => Err(Refused),
-    }
+    let trees = document(alloc, line)?;
+    put_all_inside(rt, alloc, trees.items())
 }

@@ -2,6 +2,7 @@
 
 use esto_bits::{Products, RowBits};
 use esto_script::{Refused, put, put_digits};
+use esto_semantics::Atom;
 use esto_term::{Term, TermRows};
 use std::alloc::Global;
 
@@ -88,5 +89,13 @@ pub fn put_row(rt: &HostRuntime, row: &[Term]) {
 pub fn put_rows(rt: &HostRuntime, rows: &TermRows) {
     'rows: for row in rows.items() {
         put_row(rt, row.items());
+    }
+}
+
+/// Facts, one a line: the number of the relation, and the terms.
+pub fn put_facts(rt: &HostRuntime, facts: &[Atom]) {
+    'facts: for fact in facts {
+        put_number(rt, fact.relation as u64);
+        put_row(rt, fact.terms.items());
     }
 }

@@ -1,6 +1,7 @@
 //! What matches, rules, plans and orders are asked about, and what is answered.
 
 use crate::chasing::put_chase;
+use crate::loading::load_files;
 use crate::making::{RuleMade, put_fault, query_made, rule_made};
 use crate::matching::{put_active, put_answers, put_broken, put_matches, query, rule, start_of};
 use crate::orders::{ask_under, plan_of, put_plan};
@@ -8,20 +9,22 @@ use crate::reading::{facts, place};
 use crate::worlds::{put_derivation, put_entries, put_listed, put_products_of};
 use esto_catalog::read_catalogue;
 use esto_constraint::Rules;
+use esto_fill::{DatasetBytes, LoadList};
 use esto_mapping::Catalogue;
 use esto_prov::Entries;
 use esto_query::{Facts, Query};
 use esto_script::{Refused, let_go, put};
 use esto_semantics::Valuation;
-use esto_term::List;
+use esto_term::{Bytes, List};
 use esto_views::Plan;
 use std::alloc::Global;
 use std::mem;
 
-/// The catalogue, the plan, the entries of a list, the facts, the start of matches, and the rules.
+/// The catalogue, the files of datasets, the plan, the entries of a list, the facts, the start of matches, and the rules.
 #[derive(Drop)]
 pub struct Stage {
     catalogue: Catalogue,
+    files: LoadList,
     plan: Option<Plan>,
     entries: Entries,
     facts: Facts,
@@ -38,6 +41,7 @@ impl Stage {
     pub fn empty(alloc: Global) -> Result<Stage, Refused> {
         Ok(Stage {
             catalogue: catalogue_of(alloc, b"version = 1\n")?,
+            files: List::new(alloc),
             plan: None,
             entries: Entries::new(alloc),
             facts: List::new(alloc),
@@ -46,11 +50,19 @@ impl Stage {
         })
     }
 
-    /// Takes these bytes for the catalogue, with no rule yet.
+    /// Takes these bytes for the catalogue, with no file of a dataset and no rule yet.
     pub fn open(&mut self, alloc: Global, bytes: &[u8]) -> Result<(), Refused> {
         let catalogue = catalogue_of(alloc, bytes)?;
         let_go(mem::replace(&mut self.catalogue, catalogue));
+        self.files = List::new(alloc);
         self.rules = List::new(alloc);
+        Ok(())
+    }
+
+    /// Takes these bytes for the file of the dataset of this number.
+    pub fn add_file(&mut self, word: &str, bytes: Bytes) -> Result<(), Refused> {
+        let dataset = place(word)?;
+        self.files.push(DatasetBytes { dataset, bytes })?;
         Ok(())
     }
 
@@ -217,7 +229,7 @@ impl Stage {
         ask_under(rt, alloc, plan, &self.catalogue.fragments, word, rest)
     }
 
-    /// Answers what is asked about the facts, the rules and the plan.
+    /// Answers what is asked about the files, the facts, the rules and the plan.
     pub fn answer(
         &self,
         rt: &HostRuntime,
@@ -226,6 +238,7 @@ impl Stage {
         rest: &str,
     ) -> Result<(), Refused> {
         match word {
+            "loaded" => load_files(rt, alloc, &self.catalogue, &self.files),
             "matches" | "answers" | "chase" => self.ask_query(rt, alloc, word, rest),
             "active" => self.active(rt, alloc, rest),
             "active_of" => self.active_of(rt, alloc, rest),

@@ -1,6 +1,8 @@
 //! The words that lines of a script begin with: what they set, and what they ask.
 
-use crate::models::{put_codes, put_inside, put_key_row, put_table};
+use crate::models::{
+    put_coded, put_codes, put_encoded, put_inside, put_key_row, put_pairs, put_table,
+};
 use crate::refusing::put_refused_gets;
 use crate::sets::ask_sets;
 use crate::stage::Stage;
@@ -14,6 +16,17 @@ use std::mem;
 fn open(alloc: Global, stage: &mut Stage, content: &mut Bytes) -> Result<(), Refused> {
     let bytes = mem::replace(content, Bytes::new(alloc));
     stage.open(alloc, bytes.bytes())
+}
+
+// Takes the content for the file of the dataset of a number, and begins a new one.
+fn take_file(
+    alloc: Global,
+    stage: &mut Stage,
+    content: &mut Bytes,
+    word: &str,
+) -> Result<(), Refused> {
+    let bytes = mem::replace(content, Bytes::new(alloc));
+    stage.add_file(word, bytes)
 }
 
 // Answers what the words ask of what lines have set.
@@ -40,7 +53,7 @@ impl Subject for Stage {
         Stage::empty(alloc)
     }
 
-    /// Sets what the words say of the catalogue, facts, the start of matches, and rules.
+    /// Sets what the words say of the catalogue, files, facts, the start of matches, and rules.
     fn set(
         &mut self,
         alloc: Global,
@@ -50,6 +63,7 @@ impl Subject for Stage {
     ) -> Option<Result<(), Refused>> {
         let outcome = match word {
             "catalogue" => open(alloc, self, content),
+            "file" => take_file(alloc, self, content, rest),
             "facts" => self.set_facts(alloc, rest),
             "start" => self.set_start(alloc, rest),
             "rule" => self.add_rule(alloc, rest),
@@ -73,8 +87,11 @@ impl Subject for Stage {
         match word {
             "terms" => put_terms(rt, alloc),
             "table" => put_table(rt, alloc, rest),
+            "pairs" => put_pairs(rt, alloc, rest),
             "key_row" => put_key_row(rt, alloc, rest),
+            "coded" => put_coded(rt, alloc, rest),
             "codes" => put_codes(rt, alloc, rest),
+            "encoded" => put_encoded(rt, alloc, rest),
             "inside" => put_inside(rt, alloc, rest),
             "products" | "union" | "joined" => ask_sets(rt, alloc, word, rest),
             "refused_gets" => put_refused_gets(rt, alloc, rest),
