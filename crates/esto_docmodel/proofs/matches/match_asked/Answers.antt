@@ -59,4 +59,5 @@ returns-clause-ascending c =
     IfOk-weaker c.valuations_of.result _ _ (λ all is.
     subst (λ (them : List Assignment). AllPairs ComesBefore them)
     (valuations_are _ _ _ _ all is c.as_slice.ensures.value c.items.ensures)
-    (are_ascending entries (shape c.args.tree.now) variables c.in_ok-rows.rows c.requires.ascending told c.in_ok-rows.ensures.ascending)) c.valuations_of.ensures
+    (are_ascending entries (shape c.args.tree.now) variables c.in_ok-rows.rows c.requires.ascending told c.in_ok-rows.ensures.ascending))
+    c.valuations_of.ensures

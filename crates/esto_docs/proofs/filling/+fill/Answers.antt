@@ -224,8 +224,8 @@ reach-fill-requires-in-Group t c =
     let node = value_node (view c.args.value.now) in
     let inner = ap entries_of c.items-entries.ensures in
     let here = group_weight c.args.entry.now c.in-Group.field-0 c.in-Group.inner c.in-Group.is in (
-      group_lighter _ c.items-entries.result c.args.value _ (end_weight (entries_of (c.args.entry.now ∷ []))) t refl (here ∙ ap (λ es. 1 + weight es) (sym inner))
-          c.decreases,
+      group_lighter _ c.items-entries.result c.args.value _ (end_weight (entries_of (c.args.entry.now ∷ []))) t refl
+          (here ∙ ap (λ es. 1 + weight es) (sym inner)) c.decreases,
       closed_ready columns _ c.items-entries.result c.args.value _ refl
           (subst (λ (x : Entries). AreReady columns ((x, node) ∷ tasks_of c.args.todo)) (sym inner)
           (ready_group columns (tasks_of c.args.todo) node (entries_of c.in-Group.inner)
