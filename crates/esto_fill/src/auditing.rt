@@ -1,13 +1,11 @@
 //! Whether the facts of datasets and the rows of fragments agree, and the first difference.
-ghost use Rattle.std.specs.Prelude.{◌≡◌, ◌+◌, ℕ, List, Some, length, map, IfOk};
-ghost use Rattle.esto_constraint.specs.Constraints.{rule_of, rules_of};
+ghost use Rattle.std.specs.Prelude.{◌≡◌, List, Some, length, map, IfOk};
+ghost use Rattle.esto_constraint.specs.Constraints.{rules_of};
 ghost use Rattle.esto_constraint.specs.EncodingRules.{written};
 ghost use Rattle.esto_steps.specs.Rows.{IsRowOf, held_by};
 ghost use Rattle.esto_query.specs.Making.{query_of};
 ghost use Rattle.esto_semantics.specs.Maps.{AreFlat};
 ghost use Rattle.esto_semantics.specs.Queries.{IsAnswer};
-ghost use Rattle.esto_semantics.specs.Rules.{body_of};
-ghost use Rattle.esto_semantics.specs.Valuations.{map_of};
 ghost use Rattle.esto_semantics.specs.declared.fact.Fact.{Fact};
 ghost use Rattle.esto_term.specs.declared.term.Term.{Term};
 ghost use Rattle.esto_ports.specs.declared.difference.Difference.TheVariants as difference;
@@ -16,7 +14,6 @@ ghost use Rattle.esto_fill.specs.Databases.{database_of};
 ghost use Rattle.esto_fill.specs.Differences.{Audits};
 ghost use Rattle.esto_fill.specs.Judging.{JudgesRules, JudgesFragment, JudgesFragments};
 ghost use Rattle.esto_fill.specs.Placing.{text_of};
-ghost use Rattle.esto_fill.specs.Records.{IsRecordOf};
 ghost use Rattle.esto_fill.specs.Texts.{AreTextViews, HaveTextsOnly};
 ghost use Rattle.esto_fill.specs.Trials.{IsEnoughFor};
 
@@ -30,29 +27,13 @@ use esto_constraint::{Constraint, Rules, least_active_matches_are_least, rules_a
 use esto_mapping::Catalogue;
 use esto_ports::Difference;
 use esto_query::{Columns, IndexedFacts, queries_are_sound};
-use esto_semantics::{Facts, Valuation, databases_stand_for_facts};
+use esto_semantics::{Facts, databases_stand_for_facts};
 use esto_term::{List, OutOfMemory, Replicate, Term, Text, TextRows};
 use esto_views::{FragmentDef, FragmentDefs};
 use std::alloc::Global;
 
 /// The rows of fragments, a list for each, in order.
 pub type TextRowsList = List<TextRows>;
-
-// The rule at the place, counted from 0, is not met, with the record of the match.
-fn not_met(
-    alloc: Global,
-    place: usize,
-    rule: &Constraint,
-    valuation: &Valuation,
-) -> Result<Option<Difference>, OutOfMemory>
-    ensures { IfOk result (λ it. (number : ℕ) × (cells : List (List ℕ))
-        × (it ≡ Some (difference.Rule number cells)) × (number ≡ place + 1)
-        × IsRecordOf (written rule.now) (body_of (rule_of rule.now)) (map_of valuation.now) cells) }
-{
-    let number = counted(place)?;
-    let cells = record_of(alloc, rule, valuation)?;
-    Ok(Some(Difference::Rule(number, cells)))
-}
 
 // The first rule that facts of which these are enough do not meet, with the record of its least active match. None comes
 // exactly where they meet each rule.
@@ -73,7 +54,9 @@ fn broken_rule(
         return Ok(None);
     };
     let rule = catalogue.rules.item(broken.rule);
-    not_met(alloc, broken.rule, rule, &broken.found.valuation)
+    let number = counted(broken.rule)?;
+    let cells = record_of(alloc, rule, &broken.found.valuation)?;
+    Ok(Some(Difference::Rule(number, cells)))
 }
 
 // The fragment of the name lacks the row of the texts of the terms.
@@ -164,8 +147,8 @@ fn first_difference(
     }
 }
 
-// The facts with their index by the columns by which matches of the rules that are none of the laws, and the rows of the
-// fragments' views, are found.
+// The facts with their index by the columns by which matches of the rules that are none of the
+// laws, and the rows of the fragments' views, are found.
 fn indexed<'a>(
     alloc: Global,
     catalogue: &Catalogue,

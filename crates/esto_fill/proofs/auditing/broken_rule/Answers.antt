@@ -1,11 +1,8 @@
-use Rattle.std.proofs.Common.{arith, map, sym, subst}
+use Rattle.std.proofs.Common.{arith}
 use Rattle.std.proofs.lemmas.List.{length-map}
 use Rattle.std.proofs.lemmas.Option.{slice_get_within}
-use Rattle.std.proofs.lemmas.Result.{IfOk-weaker}
 use Rattle.esto_constraint.specs.Constraints.{rule_of, rules_of}
-use Rattle.esto_constraint.specs.EncodingRules.{written}
 use Rattle.esto_views.specs.Fragments.{views_of}
-use Rattle.esto_fill.specs.Judging.{JudgesRules}
 use Rattle.esto_fill.proofs.DifferenceLemmas.{are_rules}
 use Rattle.esto_fill.proofs.TrialLemmas.{rule_broken, rules_met}
 use Rattle.esto_fill.proofs.auditing.broken_rule.Goals as goal
@@ -26,11 +23,10 @@ item-rule-requires c =
     omega (arith, within, long)
 
 pub returns : goal.returns
-returns c = IfOk-weaker c.not_met.result _ _ (λ outcome (number, cells, is, counted, shown) all enough.
+returns c = λ all enough.
     let rules = c.args.catalogue.now.rules in
     let broken = rw c.in-Some.is at c.in_ok-broken.ensures in
-    subst (JudgesRules (rules_of rules) (map written rules) all) (sym is)
-    (rule_broken c.databases_stand_for_facts.ensures.rules rules (rules_of c.args.laws.now) (views_of c.args.catalogue.now.fragments) all c.args.facts.now
-    enough (are_rules c.rules_are_sound.ensures.rules rules) c.least_active_matches_are_least.ensures c.in-Some.broken.rule number
-    c.item-rule.result.now c.in-Some.broken.found.valuation c.in-Some.broken.found.places cells counted c.item-rule.ensures
-    broken shown)) c.not_met.ensures
+    rule_broken c.databases_stand_for_facts.ensures.rules rules (rules_of c.args.laws.now) (views_of c.args.catalogue.now.fragments) all c.args.facts.now
+    enough (are_rules c.rules_are_sound.ensures.rules rules) c.least_active_matches_are_least.ensures c.in-Some.broken.rule c.in_ok-number.number
+    c.item-rule.result.now c.in-Some.broken.found.valuation c.in-Some.broken.found.places c.in_ok-cells.cells c.in_ok-number.ensures c.item-rule.ensures
+    broken c.in_ok-cells.ensures
