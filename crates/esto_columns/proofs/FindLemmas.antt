@@ -4,9 +4,9 @@ use Rattle.std.proofs.Common.{subst, arith}
 use Rattle.std.proofs.lemmas.Bool.{cases_order}
 use Rattle.std.proofs.lemmas.List.{ext_get_or}
 use Rattle.std.proofs.lemmas.List.Elements.{Contains-get_or}
-use Rattle.std.proofs.lemmas.Option.{slice_get_within, slice_get-get_or, get_or_from_slice_get}
+use Rattle.std.proofs.lemmas.Option.{same_Some, slice_get_within, slice_get-get_or, get_or_from_slice_get}
 use Rattle.esto_term.proofs.ListLemmas.{place-from_Contains, map_at}
-use Rattle.esto_term.proofs.PlaceLemmas.{take-there}
+use Rattle.esto_term.proofs.PlaceLemmas.{earlier_or_last, take-there}
 use Rattle.esto_columns.specs.Columns.{HaveLength}
 use Rattle.esto_columns.specs.Indexed.{Index, LeadsOn, IsIndexOf, bucket_of}
 use Rattle.esto_columns.specs.RowIndexes.{StandsLast}
@@ -70,3 +70,21 @@ codes_there rows place arity row below long own same =
     let width = long (get_or rows place []) (Contains-get_or rows place [] below) in
     slice_get-get_or rows place [] below
     ∙ ap Some (ext_get_or 0 (get_or rows place []) row (width ∙ sym own) (λ column within. same column (omega (arith, within, width))))
+
+-- ---- the codes of the row at a place, column by column
+
+pub code_there : (rows : List (List ℕ)) (place column : ℕ) (codes : List ℕ) (code : ℕ) → place < length rows
+    → codes ≡ map (λ row. get_or row column 0) rows → slice_get codes place ≡ Some code → code ≡ get_or (get_or rows place []) column 0
+code_there rows place column codes code within are at =
+    same_Some code (get_or (get_or rows place []) column 0)
+    (sym at ∙ ap (λ them. slice_get them place) are
+    ∙ map_at (λ row. get_or row column 0) rows place (get_or rows place []) (slice_get-get_or rows place [] within))
+
+pub columns_more : (rows : List (List ℕ)) (place : ℕ) (row : List ℕ) (column : ℕ)
+    → ((other : ℕ) → other < column → get_or (get_or rows place []) other 0 ≡ get_or row other 0)
+    → get_or (get_or rows place []) column 0 ≡ get_or row column 0
+    → (other : ℕ) → other < column + 1 → get_or (get_or rows place []) other 0 ≡ get_or row other 0
+columns_more rows place row column before here other below = elim (earlier_or_last other column below) [
+  | inl earlier ↦ before other earlier
+  | inr same ↦ subst (λ it. get_or (get_or rows place []) it 0 ≡ get_or row it 0) (sym same) here
+]
