@@ -28,6 +28,27 @@ pub then_walks : {A B : Type 0} (first : Course CatalogueError A) (next : A → 
 then_walks first next value (Ok more) goes walks = then_goes first next value more goes walks
 then_walks first next value (Err error) goes walks = then_stops first next value goes walks
 
+-- two steps that are one, and then what follows
+pub regroup : {A B C : Type 0} (first : Course CatalogueError A) (next : A → Course CatalogueError B) (last : B → Course CatalogueError C)
+    (result : Result C CatalogueError) → Walks (and_then (and_then first next) last) result → Walks (and_then first (λ a. and_then (next a) last)) result
+unfolding and_then
+regroup first next last (Ok value) (more, (here, goes, on), rest) = (here, goes, (more, on, rest))
+regroup first next last (Err error) (is_free is) = is_free is
+regroup first next last (Err error) (refused because (inl (inl stops))) = refused because (inl stops)
+regroup first next last (Err error) (refused because (inl (inr (here, goes, stops)))) = refused because (inr (here, goes, inl stops))
+regroup first next last (Err error) (refused because (inr (more, (here, goes, on), stops))) = refused because (inr (here, goes, inr (more, on, stops)))
+
+-- what follows a step, by another course
+pub then_lead : {A B : Type 0} (first : Course CatalogueError A) (next other : A → Course CatalogueError B) (result : Result B CatalogueError)
+    → ((value : A) (rest : Result B CatalogueError) → Walks (next value) rest → Walks (other value) rest) → Walks (and_then first next) result
+    → Walks (and_then first other) result
+unfolding and_then
+then_lead first next other (Ok result) leads (value, goes, more) = (value, goes, leads value (Ok result) more)
+then_lead first next other (Err error) leads (is_free is) = is_free is
+then_lead first next other (Err error) leads (refused because (inl stops)) = refused because (inl stops)
+then_lead first next other (Err error) leads (refused because (inr (value, goes, stops))) = then_stops first other value goes
+    (leads value (Err error) (refused because stops))
+
 -- want of memory is free
 pub memory_stops : {A : Type 0} (course : Course CatalogueError A) (error : CatalogueError) → error ≡ OutOfMemory → Stops IsWant IsAny course error
 memory_stops course error is = is_free is
@@ -98,15 +119,18 @@ module _ (answer test : Bool) (fault : CatalogueError) where
 -- a value that a condition lets pass
 module _ {A : Type 0} (value : A) (checked : Result (Unit {0}) CatalogueError) (result : Result A CatalogueError)
     (is : result ≡ result_and checked (Ok value)) where
-  pub checked_walks : (condition : Type 0) (fault : CatalogueError) → Walks (demands condition fault) checked
-      → Walks (and_then (demands condition fault) (λ _. gives value)) result
-  checked_walks condition fault walks = subst (Walks (and_then (demands condition fault) (λ _. gives value))) (sym is) (passes condition fault checked walks)
-    where
-      passes : (condition : Type 0) (fault : CatalogueError) (checked : Result (Unit {0}) CatalogueError) → Walks (demands condition fault) checked
-          → Walks (and_then (demands condition fault) (λ _. gives value)) (result_and checked (Ok value))
-      passes condition fault (Ok unit) goes =
-          then_goes (demands condition fault) (λ _. gives value) unit value goes (gives_goes CatalogueError value value refl)
-      passes condition fault (Err error) stops = first_stops (demands condition fault) (λ _. gives value) stops
+  passes : (checks : Course CatalogueError (Unit {0})) (checked : Result (Unit {0}) CatalogueError) → Walks checks checked
+      → Walks (and_then checks (λ _. gives value)) (result_and checked (Ok value))
+  passes checks (Ok unit) goes = then_goes checks (λ _. gives value) unit value goes (gives_goes CatalogueError value value refl)
+  passes checks (Err error) stops = first_stops checks (λ _. gives value) stops
+
+  pub checked_walks : (checks : Course CatalogueError (Unit {0})) → Walks checks checked → Walks (and_then checks (λ _. gives value)) result
+  checked_walks checks walks = subst (Walks (and_then checks (λ _. gives value))) (sym is) (passes checks checked walks)
+
+  -- two checks in a row
+  pub both_walk : (first second : Course CatalogueError (Unit {0})) → Walks (and_then first (λ _. second)) checked
+      → Walks (and_then first (λ _. and_then second (λ _. gives value))) result
+  both_walk first second walks = regroup first (λ _. second) (λ _. gives value) result (checked_walks (and_then first (λ _. second)) walks)
 
   pub checked_holds : (P : A → Type 0) → P value → IfOk result P
   checked_holds P holds = subst (λ (it : Result A CatalogueError). IfOk it P) (sym is) (keeps checked) where

@@ -69,6 +69,10 @@ pattern_row place view entry =
     and_then (demands (IsLayout (length view.head) (entries_of pattern.entries)) (fault_at BadPattern place (codes "pattern"))) (λ _.
     gives pattern)))
 
+-- No layout and no pattern are written, in this order; else Unfit.
+abbrev pub plain_rows : Place → List Field → Course CatalogueError (Unit {0})
+plain_rows place entry = and_then (unfit_row (codes "layout") place entry) (λ _. unfit_row (codes "pattern") place entry)
+
 -- The rows of a table's shape, in order: columns, layout, pattern.
 abbrev pub table_row : Place → Query → List Field → Course CatalogueError Shape
 table_row place view entry =

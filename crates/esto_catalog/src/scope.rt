@@ -117,8 +117,9 @@ fn words_of(alloc: Global, datasets: &[Dataset]) -> Result<Vocabulary, OutOfMemo
 {
     let mut words = List::new(alloc);
     'datasets: for dataset in datasets {
+        let name = dataset.name.copy(alloc)?;
         words.push(Word {
-            name: dataset.name.copy(alloc)?,
+            name,
             model: dataset.model,
             base: dataset.base,
         })?;

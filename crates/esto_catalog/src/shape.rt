@@ -5,6 +5,7 @@ ghost use Rattle.esto_mapping.specs.Datasets.{AreColumns};
 ghost use Rattle.esto_catalog.specs.Rows.{Walks};
 ghost use Rattle.esto_catalog.specs.Shapes.{column_of, head_columns, name_at, AreDistinctNames, store_columns, store_columns_row, reads_pattern, pattern_row};
 ghost use Rattle.esto_catalog.specs.Shapes.{table_row, documents_row, keys_row, shape_row};
+ghost use Rattle.esto_catalog.specs.Shapes.{plain_rows};
 ghost use Rattle.esto_settings.specs.declared.setting.Setting.TheVariants.{Texts};
 
 use crate::fault::{CatalogueError, Place, demand, fault};
@@ -48,7 +49,8 @@ fn head_columns(alloc: Global, view: &Query) -> Result<TextRow, OutOfMemory>
 {
     let mut columns = List::new(alloc);
     'terms: for term in view.head.items() {
-        columns.push(column_of(alloc, view.names.items(), term)?)?;
+        let column = column_of(alloc, view.names.items(), term)?;
+        columns.push(column)?;
     }
     Ok(columns)
 }
@@ -93,6 +95,14 @@ fn columns(
     }
 }
 
+// No layout and no pattern are written, since they are for documents; else Unfit.
+fn is_plain(alloc: Global, place: Place, entry: &[Field]) -> Result<(), CatalogueError>
+    ensures { Walks (plain_rows place entry.now) result }
+{
+    unfit(alloc, "layout", place, entry)?;
+    unfit(alloc, "pattern", place, entry)
+}
+
 // The shape of a table.
 fn table(
     alloc: Global,
@@ -103,9 +113,7 @@ fn table(
     ensures { Walks (table_row place view.now entry.now) result }
 {
     let columns = columns(alloc, place, view, entry)?;
-    unfit(alloc, "layout", place, entry)?;
-    unfit(alloc, "pattern", place, entry)?;
-    Ok(Shape::Table(columns))
+    is_plain(alloc, place, entry).and(Ok(Shape::Table(columns)))
 }
 
 // The names of the columns that are named as the variables of the view's head are.
@@ -114,7 +122,8 @@ fn head_names(alloc: Global, view: &Query) -> Result<Names, OutOfMemory>
 {
     let mut names = List::new(alloc);
     'terms: for term in view.head.items() {
-        names.push(Name::Given(column_of(alloc, view.names.items(), term)?))?;
+        let column = column_of(alloc, view.names.items(), term)?;
+        names.push(Name::Given(column))?;
     }
     Ok(names)
 }
@@ -187,9 +196,7 @@ fn keys(alloc: Global, place: Place, entry: &[Field]) -> Result<Shape, Catalogue
     ensures { Walks (keys_row place entry.now) result }
 {
     unfit(alloc, "columns", place, entry)?;
-    unfit(alloc, "layout", place, entry)?;
-    unfit(alloc, "pattern", place, entry)?;
-    Ok(Shape::Keys)
+    is_plain(alloc, place, entry).and(Ok(Shape::Keys))
 }
 
 /// The shape of a store of this model: the columns of a table, the layout and the pattern of

@@ -18,7 +18,7 @@ pub returns-clause-view : goal.returns-clause-view
 returns-clause-view c =
     then_walks _ _ _ _ c.in_ok-text.ensures.goes
     (then_walks _ _ _ _ c.in_ok-view.ensures.view
-    (checked_walks c.in_ok-view.view _ _ c.and.ensures _ _ (not_walks _ _ _ _ c.demand.ensures (ap not c.is_taken-is_taken.ensures))))
+    (checked_walks c.in_ok-view.view _ _ c.and.ensures _ (not_walks _ _ _ _ c.demand.ensures (ap not c.is_taken-is_taken.ensures))))
 
 pub returns-clause-sound : goal.returns-clause-sound
 returns-clause-sound c = checked_holds c.in_ok-view.view _ _ c.and.ensures _ c.in_ok-view.ensures.sound

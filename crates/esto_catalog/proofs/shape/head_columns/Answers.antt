@@ -4,4 +4,4 @@ use Rattle.esto_catalog.proofs.shape.head_columns.Goals as goal
 pub terms-preserved : goal.terms-preserved
 terms-preserved c =
     column_turn c.args.view.now.names _ c.terms.term-index c.term-item.result _ c.terms-test.true c.term-item.is
-    (rw c.items.ensures at c.in_ok-column_of.ensures) c.terms.columns _ c.terms.invariant c.in_ok-push.ensures.ok
+    (rw c.items.ensures at c.in_ok-column.ensures) c.terms.columns _ c.terms.invariant c.in_ok-push.ensures.ok

@@ -16,5 +16,5 @@ pub returns : goal.returns
 returns c =
     then_walks _ _ _ _ c.in_ok-text.ensures.goes
     (then_walks _ _ _ _ c.in_ok-pattern.ensures
-    (checked_walks c.in_ok-pattern.pattern _ _ c.and.ensures _ _
+    (checked_walks c.in_ok-pattern.pattern _ _ c.and.ensures _
     (same_walks _ _ _ (rw c.len.ensures at c.is_layout-is_layout.ensures) _ c.demand.ensures)))
