@@ -1,6 +1,6 @@
 -- What a loop reads, and what holds after a success.
 use Rattle.std.proofs.Common.{◌≡◌, ℕ, ◌<◌, List, length, get_or, Contains, subst}
-use Rattle.std.specs.Prelude.{Result, Ok, Err, IfOk, OnOk}
+use Rattle.std.specs.Prelude.{Result, Ok, Err, OnOk}
 use Rattle.esto_term.proofs.ListLemmas.{Contains-read}
 
 -- what is read of the items is one of the things
@@ -12,7 +12,3 @@ item_inside things items place thing same within is = subst (λ it. Contains it 
 pub on_ok_both : {T E P Q R : Type 0} (result : Result T E) → (P → Q → R) → OnOk result P → OnOk result Q → OnOk result R
 on_ok_both (Ok value) f one other = f one other
 on_ok_both (Err error) f one other = tt
-
-pub if_ok_both : {T E : Type 0} {P Q R : T → Type 0} (result : Result T E) → ((value : T) → P value → Q value → R value) → IfOk result P → IfOk result Q → IfOk result R
-if_ok_both (Ok value) f one other = f value one other
-if_ok_both (Err error) f one other = tt

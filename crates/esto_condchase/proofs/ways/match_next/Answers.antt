@@ -1,7 +1,7 @@
 use Rattle.std.proofs.Common.{◌≡◌, List, length, sym, subst}
 use Rattle.esto_term.specs.declared.term.Term.{Term}
 use Rattle.esto_condchase.proofs.FoundLemmas.{next_level}
-use Rattle.esto_condchase.proofs.MeetLemmas.{if_ok_both}
+use Rattle.esto_term.proofs.ResultLemmas.{if_ok_both}
 use Rattle.esto_condchase.proofs.ways.match_next.Goals as goal
 
 pub kept_of-requires-clause-lengths : goal.kept_of-requires-clause-lengths
