@@ -100,6 +100,5 @@ pub fn chase(
     finished_runs_decide();
     clashes_receive_nothing();
     terms_nest_within_ranks();
-    let outcome = run(alloc, start, rules, ranks)?;
-    Ok(outcome)
+    run(alloc, start, rules, ranks)
 }

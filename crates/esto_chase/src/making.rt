@@ -17,7 +17,8 @@ fn values_of(alloc: Global, valuation: &Valuation, terms: &[Term]) -> Result<Ter
 {
     let mut values = List::new(alloc);
     'terms: for term in terms {
-        values.push(value_of(valuation, term).copy(alloc)?)?;
+        let value = value_of(valuation, term).copy(alloc)?;
+        values.push(value)?;
     }
     Ok(values)
 }
@@ -58,7 +59,8 @@ fn make_row(
 {
     let mut made = List::new(alloc);
     'terms: for term in row {
-        made.push(make_term(alloc, number, values, valuation, term)?)?;
+        let term = make_term(alloc, number, values, valuation, term)?;
+        made.push(term)?;
     }
     Ok(made)
 }
@@ -100,6 +102,5 @@ pub fn made_facts(
     rules_are_sound();
     let shared = frontier_of(alloc, rule.body.items(), rule.head.items())?;
     let values = values_of(alloc, valuation, shared.items())?;
-    let facts = make_all(alloc, number, &values, valuation, rule.head.items())?;
-    Ok(facts)
+    make_all(alloc, number, &values, valuation, rule.head.items())
 }

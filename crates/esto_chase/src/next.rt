@@ -77,8 +77,7 @@ fn next_in(
     if let Some(broken) = denial {
         return Ok(Some(broken));
     }
-    let tuple = first_of(alloc, rules, facts, Kind::Tuple)?;
-    Ok(tuple)
+    first_of(alloc, rules, facts, Kind::Tuple)
 }
 
 /// The match that is next: the least active match of the first rule that has one, where equality rules come first, then
@@ -89,6 +88,5 @@ pub fn next(alloc: Global, rules: &Rules, facts: &Facts) -> Result<Option<Broken
         broken.found.valuation broken.found.places)) }
 {
     let indexed = IndexedFacts::of(alloc, facts)?;
-    let outcome = next_in(alloc, rules, &indexed)?;
-    Ok(outcome)
+    next_in(alloc, rules, &indexed)
 }

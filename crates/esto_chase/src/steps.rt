@@ -40,8 +40,7 @@ fn add_made(
         (trace_of instance.new ≡ trace_of instance.old ++ Added number found ∷ []) }
 {
     let facts = made_facts(alloc, number, rule, &found.valuation)?;
-    instance.add(alloc, number, found, &facts)?;
-    Ok(())
+    instance.add(alloc, number, found, &facts)
 }
 
 /// The values of the two sides, the lesser first.

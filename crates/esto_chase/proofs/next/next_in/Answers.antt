@@ -1,3 +1,4 @@
+use Rattle.std.proofs.lemmas.Result.{IfOk-weaker}
 use Rattle.std.proofs.lemmas.Option.{MatchOption-at_none, MatchOption-at_some}
 use Rattle.esto_chase.proofs.NextLemmas.{Met, First, equality_next, denial_next, last_of_all}
 use Rattle.esto_chase.proofs.next.next_in.Goals as goal
@@ -19,7 +20,7 @@ returns-in-Some-denial c = denial_next c.least_active_matches_are_least.ensures 
 
 -- src/next.rt:61:1
 pub returns : goal.returns
-returns c = last_of_all c.least_active_matches_are_least.ensures c.args.rules.now c.args.facts.now
+returns c = IfOk-weaker c.first_of-3.result _ _ (last_of_all c.least_active_matches_are_least.ensures c.args.rules.now c.args.facts.now
     (MatchOption-at_none (Met c.args.rules.now c.args.facts.now 0) (First c.args.rules.now c.args.facts.now 0) c.in_default.is c.in_ok-equality.ensures)
-    (MatchOption-at_none (Met c.args.rules.now c.args.facts.now 1) (First c.args.rules.now c.args.facts.now 1) c.in_default-denial.is c.in_ok-denial.ensures)
-    c.in_ok-tuple.tuple c.in_ok-tuple.ensures
+    (MatchOption-at_none (Met c.args.rules.now c.args.facts.now 1) (First c.args.rules.now c.args.facts.now 1) c.in_default-denial.is c.in_ok-denial.ensures))
+    c.first_of-3.ensures
