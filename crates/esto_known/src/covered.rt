@@ -15,8 +15,8 @@ fn put(alloc: Global, from: &[Term], term: &Term, these: &mut Terms) -> Result<(
     if has_term(these.items(), term) {
         return Ok(());
     }
-    these.push(term.copy(alloc)?)?;
-    Ok(())
+    let own = term.copy(alloc)?;
+    these.push(own)
 }
 
 /// Those of the terms that stand in `from`, each once.

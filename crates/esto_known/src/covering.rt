@@ -53,8 +53,8 @@ pub fn add(alloc: Global, entries: &mut Known, entry: &Entry) -> Result<(), OutO
     if is_covered(entries, &entry.claim, &entry.product) {
         return Ok(());
     }
-    entries.push(alloc, entry.copy(alloc)?)?;
-    Ok(())
+    let own = entry.copy(alloc)?;
+    entries.push(alloc, own)
 }
 
 /// Adds the entry of which it is the turn, unless the entries cover it.
@@ -72,8 +72,7 @@ fn add_at(
     let Some(entry) = asked.get(turn.place) else {
         return Ok(());
     };
-    add(alloc, entries, entry)?;
-    Ok(())
+    add(alloc, entries, entry)
 }
 
 /// Adds what is asked for and follows, in these turns, where the entries do not cover it.

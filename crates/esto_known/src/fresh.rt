@@ -112,8 +112,7 @@ fn put_fresh(
     if !is_fresh(alloc, known, place, since)? {
         return Ok(());
     }
-    places.push(place)?;
-    Ok(())
+    places.push(place)
 }
 
 /// Those of the facts that may make something new of what is old.

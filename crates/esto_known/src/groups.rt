@@ -78,7 +78,8 @@ fn begin(
 {
     widen(alloc, groups.as_slice(), keys)?;
     keys.add(&entry.claim)?;
-    push(groups, begun(alloc, place, entry)?)
+    let group = begun(alloc, place, entry)?;
+    push(groups, group)
 }
 
 /// Puts the entry that comes after the entries into the group of its claim.

@@ -208,7 +208,8 @@ fn group_way(
         return put_way(alloc, place, product, group);
     }
     index.add(&[key])?;
-    push(groups, begun(alloc, key, place, product)?)
+    let group = begun(alloc, key, place, product)?;
+    push(groups, group)
 }
 
 /// Whether the products of a group tell at once that none of them is within the set.

@@ -35,10 +35,7 @@ fn put_group(groups: &[Group], at: usize, places: &mut Places) -> Result<(), Out
 {
     match group_at(groups, at) {
         None => Ok(()),
-        Some(group) => {
-            put_all(group.places.items(), places)?;
-            Ok(())
-        }
+        Some(group) => put_all(group.places.items(), places),
     }
 }
 

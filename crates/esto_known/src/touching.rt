@@ -37,8 +37,7 @@ fn linked(
     let Some(group) = groups.linking(term, other) else {
         return Ok(Products::new(alloc, sets.count()));
     };
-    let kept = both(alloc, sets, &group.by)?;
-    Ok(kept)
+    both(alloc, sets, &group.by)
 }
 
 /// Keeps of the sets those in whose worlds the two terms touch.
@@ -62,8 +61,7 @@ fn touch(
     if sets.is_empty() {
         return Ok(());
     }
-    let kept = linked(alloc, groups, term, other, sets)?;
-    *sets = kept;
+    *sets = linked(alloc, groups, term, other, sets)?;
     Ok(())
 }
 

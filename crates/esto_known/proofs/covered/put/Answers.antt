@@ -1,5 +1,6 @@
 use Rattle.std.proofs.Common.{Contains, sym, subst, ◌∙◌}
 use Rattle.std.proofs.lemmas.Bool.{false≢true}
+use Rattle.std.proofs.lemmas.Result.{on_ok_weaker}
 use Rattle.esto_known.proofs.TellLemmas.{put_apart, put_there, put_last}
 use Rattle.esto_known.proofs.covered.put.Goals as goal
 
@@ -12,5 +13,5 @@ returns-then-has_term c = put_there c.args.from.now c.args.these.now c.args.term
     (subst (λ its. Contains its c.args.term.now) c.items.ensures (c.has_term-2.ensures.0 c.if-has_term.true))
 
 pub returns : goal.returns
-returns c = put_last c.args.from.now c.args.these.now c.args.term.now c.push.new.self _ c.in_ok-push.ensures.ok c.in_ok-copy.ensures
-    (c.has_term.ensures.0 c.if-not-has_term.false)
+returns c = on_ok_weaker c.push.result (λ pushed. put_last c.args.from.now c.args.these.now c.args.term.now c.push.new.self _ pushed c.in_ok-own.ensures
+    (c.has_term.ensures.0 c.if-not-has_term.false)) c.push.ensures.ok

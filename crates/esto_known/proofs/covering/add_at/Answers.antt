@@ -1,4 +1,5 @@
 use Rattle.std.proofs.Common.{inl, sym, ◌∙◌}
+use Rattle.std.proofs.lemmas.Result.{on_ok_weaker}
 use Rattle.esto_term.proofs.ListLemmas.{Contains-at}
 use Rattle.esto_known.proofs.CoverLemmas.{read_at}
 use Rattle.esto_known.proofs.covering.add_at.Goals as goal
@@ -9,8 +10,8 @@ add-requires c entry inside =
     c.requires.counts entry inside ∙ sym (c.requires.asked c.in-Some.entry.now (Contains-at c.args.asked.now c.args.turn.now.place c.in-Some.entry.now at))
 
 pub returns : goal.returns
-returns c = inl (
+returns c = on_ok_weaker c.add.result (λ added. inl (
   c.in-Some.entry.now,
   read_at c.args.asked.now c.args.turn.now.place c.in-Some.entry.now c.in-Some.ensures.lookup.0 c.in-Some.ensures.lookup.1,
-  c.in_ok-add.ensures,
-)
+  added,
+)) c.add.ensures

@@ -1,3 +1,4 @@
+use Rattle.std.proofs.lemmas.Result.{IfOk-weaker}
 use Rattle.esto_known.proofs.TouchLemmas.{linked_by, linked_never}
 use Rattle.esto_known.proofs.touching.linked.Goals as goal
 
@@ -9,6 +10,6 @@ pub both-requires : goal.both-requires
 both-requires c = c.requires.counted c.in-Some.group.now c.in-Some.ensures.0
 
 pub returns-clause-covers : goal.returns-clause-covers
-returns-clause-covers c =
-    linked_by c.args.sets.now.count c.args.groups.now c.requires c.args.sets.now.sets c.in_ok-kept.kept.sets c.args.term.now c.args.other.now
-    c.in-Some.group.now c.in-Some.ensures.0 c.in-Some.ensures.1 c.in_ok-kept.ensures.covers
+returns-clause-covers c = IfOk-weaker c.both.result _ _ (λ kept covers.
+    linked_by c.args.sets.now.count c.args.groups.now c.requires c.args.sets.now.sets kept.sets c.args.term.now c.args.other.now
+    c.in-Some.group.now c.in-Some.ensures.0 c.in-Some.ensures.1 covers) c.both.ensures.covers
