@@ -6,8 +6,13 @@ use Rattle.esto_fill.proofs.trial.bodies_of.Goals as goal
 
 pub fragments-preserved : goal.fragments-preserved
 fragments-preserved c =
-    made_more (λ (fragment : FragmentDef). (query_of fragment.view).body) c.args.fragments.now c.fragments.fragment-index c.fragments.bodies (map (λ (fragment : FragmentDef). (query_of fragment.view).body) c.args.fragments.now) c.fragments.invariant
-    c.fragment-item.result c.fragments-test.true _ (c.in_ok-push.ensures.ok ∙ ap (λ it. c.fragments.bodies ++ it ∷ []) (c.in_ok-body.ensures ∙ ap (λ (fragment : FragmentDef). (query_of fragment.view).body) c.fragment-item.is))
+    made_more (λ (fragment : FragmentDef). (query_of fragment.view).body) c.args.fragments.now c.fragments.fragment-index c.fragments.bodies
+    (map (λ (fragment : FragmentDef). (query_of fragment.view).body) c.args.fragments.now) c.fragments.invariant
+    c.fragment-item.result c.fragments-test.true _
+    (c.in_ok-push.ensures.ok ∙ ap (λ it. c.fragments.bodies ++ it ∷ [])
+    (c.in_ok-body.ensures ∙ ap (λ (fragment : FragmentDef). (query_of fragment.view).body) c.fragment-item.is))
 
 pub returns : goal.returns
-returns c = made_all (λ (fragment : FragmentDef). (query_of fragment.view).body) c.args.fragments.now c.fragments.fragment-index c.fragments.bodies (map (λ (fragment : FragmentDef). (query_of fragment.view).body) c.args.fragments.now) c.fragments.invariant c.fragments-test.false
+returns c =
+    made_all (λ (fragment : FragmentDef). (query_of fragment.view).body) c.args.fragments.now c.fragments.fragment-index c.fragments.bodies
+    (map (λ (fragment : FragmentDef). (query_of fragment.view).body) c.args.fragments.now) c.fragments.invariant c.fragments-test.false
