@@ -204,7 +204,8 @@ fn push_get(
 {
     let get = get_of(alloc, atom, patterns, bound.items(), codes)?;
     gets.push(get)?;
-    bound.append(atom.terms.copy(alloc)?)
+    let terms = atom.terms.copy(alloc)?;
+    bound.append(terms)
 }
 
 /// The steps of the atoms of these numbers, in order.
@@ -252,6 +253,5 @@ pub fn plan_of(
         (ordered (plan_query plan.now) order.now)) }
     ensures grown { Grows codes.old codes.new }
 {
-    let steps = steps_of(alloc, order, plan, fragments, codes)?;
-    Ok(steps)
+    steps_of(alloc, order, plan, fragments, codes)
 }

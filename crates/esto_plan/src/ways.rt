@@ -34,7 +34,8 @@ pub fn ways_of(alloc: Global, patterns: &AccessList) -> Result<Ways, OutOfMemory
 {
     let mut ways = List::new(alloc);
     'patterns: for pattern in patterns.items() {
-        ways.push(inputs_of(alloc, pattern)?)?;
+        let inputs = inputs_of(alloc, pattern)?;
+        ways.push(inputs)?;
     }
     Ok(ways)
 }

@@ -23,4 +23,4 @@ returns-clause-get c = on_ok_weaker c.append.result
 
 pub returns-clause-bound : goal.returns-clause-bound
 returns-clause-bound c = on_ok_weaker c.append.result
-    (λ appended. appended ∙ ap (λ them. c.args.bound.now ++ them) c.in_ok-copy.ensures) c.append.ensures.ok
+    (λ appended. appended ∙ ap (λ them. c.args.bound.now ++ them) c.in_ok-terms.ensures) c.append.ensures.ok
