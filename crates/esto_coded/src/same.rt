@@ -133,8 +133,8 @@ fn are_marked(
     Ok(true)
 }
 
-/// Whether each row of one of the two is a row of the other, by an index of the one and marks of its rows, none of which
-/// is marked before.
+/// Whether each row of one of the two is a row of the other, by an index of the one and marks of its rows, none of
+/// which is marked before.
 fn are_one_by(
     alloc: Global,
     one: &Rows,

@@ -60,7 +60,8 @@ pub(crate) fn push_copy(alloc: Global, term: &Term, terms: &mut Terms) -> Result
     terms.push(own)
 }
 
-/// Puts the link of the column at the end, if its term is a constant or one of the bound ones, and the term after these.
+/// Puts the link of the column at the end, if its term is a constant or one of the bound ones, and the term after
+/// these.
 fn push_column(
     alloc: Global,
     term: &Term,

@@ -182,8 +182,8 @@ fn firsts(alloc: Global, rows: &Rows, cells: &Sources) -> Result<Rows, OutOfMemo
 }
 
 /// What is kept of the rows so far, each with every one of the rows that follows it after it, where few of the rows are
-/// made to stand for all. Each row that follows one so far meets the links, and the cells are those of the rows that the
-/// join reads.
+/// made to stand for all. Each row that follows one so far meets the links, and the cells are those of the rows that
+/// the join reads.
 fn joined_by(
     alloc: Global,
     join: &Join,

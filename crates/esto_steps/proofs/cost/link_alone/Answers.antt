@@ -16,4 +16,5 @@ pub returns-then-number-len : goal.returns-then-number-len
 returns-then-number-len c = λ link inside. absurd (Contains-nil link (subst (λ (them : List Link). Contains them link) c.new-alone.ensures inside))
 
 pub returns : goal.returns
-returns c = one_of c.args.links.now c.new-alone.result c.push.new.self c.args.number c.item.result.now c.new-alone.ensures c.in_ok-push.ensures.ok c.item.ensures
+returns c = one_of c.args.links.now c.new-alone.result c.push.new.self c.args.number c.item.result.now c.new-alone.ensures
+    c.in_ok-push.ensures.ok c.item.ensures
