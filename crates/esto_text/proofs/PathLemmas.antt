@@ -1,6 +1,9 @@
 -- Steps and paths, as the readers take them.
 use Rattle.std.proofs.Common.{◌≡◌, ◌≢◌, ◌≤◌, ℕ, arith, List, [], ◌∷◌, ◌++◌, length, drop, inl, inr, refl, sym, ap, ◌∙◌, append_assoc}
+use Rattle.std.proofs.Common.{◌<◌, Bor, Result}
+use Rattle.std.specs.Result.{IfOk, IfErr}
 use Rattle.std.proofs.lemmas.List.{append-nil}
+use Rattle.std.proofs.lemmas.Result.{IfOk-weaker, IfErr-weaker}
 use Rattle.esto_text.specs.declared.stop.Stop.{Stop}
 use Rattle.esto_text.specs.declared.stop.Stop.TheVariants.{Syntax}
 use Rattle.esto_text.specs.declared.token.Token.{Token}
@@ -53,6 +56,21 @@ later_next tokens left s p (t, e, h) =
 
 pub first_fails : (tokens : List Token) (e : Stop) → NoneStands tokens e → class_at tokens ≢ LeftBracket → (n : ℕ) → Fails (AnEntry n ∷ []) tokens e
 first_fails tokens e (q, h) g n s = fails_here (AnEntry n) s tokens e refl (not_entry n (class_at tokens) h g) q
+
+-- a first step that is the next token
+module _ (tokens : List Token) (result : Result (StepSyntax × Bor (List Token)) Stop) where
+  abbrev Stands : StepSyntax × Bor (List Token) → Type 0
+  Stands x = (t : Token) × (tokens ≡ t ∷ x.1.now) × IsNext x.0 t
+
+  pub first_stands : IfOk result Stands → IfOk result (λ x. Takes (IsFirst x.0) tokens x.1.now)
+  first_stands ok = IfOk-weaker result Stands (λ x. Takes (IsFirst x.0) tokens x.1.now) (λ x stands. first_next tokens x.1.now x.0 stands) ok
+
+  pub first_shorter : IfOk result Stands → IfOk result (λ x. length x.1.now < length tokens)
+  first_shorter ok = IfOk-weaker result Stands (λ x. length x.1.now < length tokens) (λ x stands. omega (arith, ap length stands.1)) ok
+
+  pub first_stops : class_at tokens ≢ LeftBracket → IfErr result (NoneStands tokens) → IfErr result (λ e. (n : ℕ) → Fails (AnEntry n ∷ []) tokens e)
+  first_stops apart err = IfErr-weaker result (NoneStands tokens) (λ e. (n : ℕ) → Fails (AnEntry n ∷ []) tokens e)
+      (λ e none. first_fails tokens e none apart) err
 
 pub dot_fails : (tokens : List Token) (e : Stop) → class_at tokens ≡ Dot → NoneStands (drop 1 tokens) e → (n : ℕ) → Fails (PathRest n ∷ []) tokens e
 dot_fails tokens e p (q, h) n s =

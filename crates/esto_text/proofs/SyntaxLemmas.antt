@@ -7,10 +7,12 @@ use Rattle.std.proofs.Math.Seq.{drop-append_seam}
 use Rattle.esto_text.specs.declared.fault.ReadError.{ReadError}
 use Rattle.esto_text.specs.declared.fault.ReadError.TheVariants.{Fault, OutOfMemory}
 use Rattle.esto_text.specs.declared.fault.TextKind.TheVariants as kind
+use Rattle.esto_text.specs.declared.stop.Stop.{Stop}
+use Rattle.esto_text.specs.declared.stop.Stop.TheVariants as stop
 use Rattle.esto_text.specs.declared.stop.Stop.TheVariants.{Syntax}
 use Rattle.esto_text.specs.declared.token.Token.{Token}
 use Rattle.esto_text.specs.Faults.{IsErrorOf, IsViable, Leaves, StopsAt, place_of, IsTextOf, IsFaultOf, IsOnlyTree, IsGrammarFault, IsLayoutGrammarFault}
-use Rattle.esto_text.specs.Faults.{IsUnionGrammarFault, HaveOneTree, HaveNoFault, HaveOneFault}
+use Rattle.esto_text.specs.Faults.{LeavesWithin, error_of, IsUnionGrammarFault, HaveOneTree, HaveNoFault, HaveOneFault}
 use Rattle.esto_text.specs.Grammar.{class_of, IsLayout, IsQuery, IsConstraint}
 use Rattle.esto_text.specs.Limits.{is_close, is_name, in_room, limited_row, limited, Reached, Nothing, Part, Head, reached_then, limited_token, limited_after}
 use Rattle.esto_text.specs.Limits.{limited_union}
@@ -150,6 +152,43 @@ union_syntax_fault bytes ts left offset h (rest, (front, e, viable, leaves), n) 
     let q : offset ≡ place_of rest (length bytes) = p ∙ ap (λ (i : ℕ). place_of (drop (length ts - i) ts) (length bytes)) n
     ∙ sym (place_same limited_union (starts_after Nothing) ts front rest e (length bytes)) in
     inr (ts, rest, h, (front, e, viable, leaves), ap (λ (i : ℕ). record { offset = i; kind = kind.Syntax }) q)
+
+-- why a text is not read, whose tokens were not read for this cause
+pub query_within : (ts : List Token) (cause : Stop) → FailsAt start (limited ts) cause → LeavesWithin ts cause
+query_within ts stop.OutOfMemory fails = tt
+query_within ts (Syntax left) fails = left_fits ts left fails
+
+pub query_error : (bytes : List ℕ) (ts : List Token) (cause : Stop) → AreTokens bytes ts → FailsAt start (limited ts) cause
+    → IsErrorOf IsGrammarFault bytes (error_of ts (length bytes) cause)
+query_error bytes ts stop.OutOfMemory tokens fails = tokens.0
+query_error bytes ts (Syntax left) tokens fails = syntax_fault bytes ts left _ tokens fails refl
+
+pub layout_within : (ts : List Token) (cause : Stop) → FailsAt layout_start ts cause → LeavesWithin ts cause
+layout_within ts stop.OutOfMemory fails = tt
+layout_within ts (Syntax left) fails = layout_left_fits ts left fails
+
+pub layout_error : (bytes : List ℕ) (ts : List Token) (cause : Stop) → AreTokens bytes ts → FailsAt layout_start ts cause
+    → IsErrorOf IsLayoutGrammarFault bytes (error_of ts (length bytes) cause)
+layout_error bytes ts stop.OutOfMemory tokens fails = tokens.0
+layout_error bytes ts (Syntax left) tokens fails = layout_syntax_fault bytes ts left _ tokens fails refl
+
+pub union_within : (ts : List Token) (cause : Stop) → UnionFails ts cause → LeavesWithin ts cause
+union_within ts stop.OutOfMemory fails = tt
+union_within ts (Syntax left) fails = union_left_fits ts left fails
+
+pub union_error : (bytes : List ℕ) (ts : List Token) (cause : Stop) → AreTokens bytes ts → UnionFails ts cause
+    → IsErrorOf IsUnionGrammarFault bytes (error_of ts (length bytes) cause)
+union_error bytes ts stop.OutOfMemory tokens fails = tokens.0
+union_error bytes ts (Syntax left) tokens fails = union_syntax_fault bytes ts left _ tokens fails refl
+
+pub constraint_within : (IsFalse : Token → Type 0) (ts : List Token) (cause : Stop) → ConstraintFails IsFalse ts cause → LeavesWithin ts cause
+constraint_within IsFalse ts stop.OutOfMemory fails = tt
+constraint_within IsFalse ts (Syntax left) fails = constraint_left_fits IsFalse ts left fails
+
+pub constraint_error : (IsFalse : Token → Type 0) (bytes : List ℕ) (ts : List Token) (cause : Stop) → AreTokens bytes ts → ConstraintFails IsFalse ts cause
+    → IsErrorOf (IsFaultOf (IsConstraint IsFalse) unmarked) bytes (error_of ts (length bytes) cause)
+constraint_error IsFalse bytes ts stop.OutOfMemory tokens fails = tokens.0
+constraint_error IsFalse bytes ts (Syntax left) tokens fails = constraint_syntax_fault IsFalse ts left fails bytes _ tokens refl
 
 -- ---- one tree, or one fault
 

@@ -1,10 +1,12 @@
 -- The texts of the grammar, and the first place at which a text leaves it.
-use Rattle.std.specs.Prelude.{◌≡◌, ◌⊎◌, ◌↔◌, ℕ, true, List, [], ◌∷◌, ◌++◌, length, codes, IsUtf8}
+use Rattle.std.specs.Prelude.{◌≡◌, ◌≤◌, ◌-◌, ◌⊎◌, ◌↔◌, ℕ, true, drop, List, [], ◌∷◌, ◌++◌, length, codes, IsUtf8}
 use Rattle.std.specs.List.{AllByRecursion}
 use Rattle.esto_text.specs.declared.fault.ReadError.{ReadError}
 use Rattle.esto_text.specs.declared.fault.ReadError.TheVariants.{Fault, OutOfMemory}
 use Rattle.esto_text.specs.declared.fault.TextFault.{TextFault}
 use Rattle.esto_text.specs.declared.fault.TextKind.TheVariants.{Syntax}
+use Rattle.esto_text.specs.declared.stop.Stop.{Stop}
+use Rattle.esto_text.specs.declared.stop.Stop.TheVariants as stop
 use Rattle.esto_text.specs.declared.token.Token.{Token}
 use Rattle.esto_text.specs.declared.token.TokenKind.TheVariants.{Name, Quoted}
 use Rattle.esto_text.specs.declared.version.Version.{Version}
@@ -31,6 +33,16 @@ StopsAt IsTree tokens rest = (front : List Token) × (tokens ≡ front ++ rest) 
 abbrev pub place_of : List Token → ℕ → ℕ
 place_of [] bytes = bytes
 place_of (token ∷ rest) bytes = token.start
+
+-- Where tokens were not read for this cause, no more are left than there are.
+abbrev pub LeavesWithin : List Token → Stop → Type 0
+LeavesWithin tokens stop.OutOfMemory = Unit {0}
+LeavesWithin tokens (stop.Syntax left) = left ≤ length tokens
+
+-- Why a text of so many bytes is not read, whose tokens were not read for this cause.
+abbrev pub error_of : List Token → ℕ → Stop → ReadError
+error_of tokens bytes stop.OutOfMemory = OutOfMemory
+error_of tokens bytes (stop.Syntax left) = Fault (record { offset = place_of (drop (length tokens - left) tokens) bytes; kind = Syntax })
 
 -- The bytes are a text of the grammar, which sees their tokens as they are marked, with this tree.
 abbrev pub IsTextOf : {T : Type 0} → (T → List Token → Type 0) → (List Token → List Token) → List ℕ → T → Type 0

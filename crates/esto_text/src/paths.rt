@@ -22,10 +22,7 @@ fn first_step(tokens: &[Token]) -> Result<(StepSyntax, &[Token]), Stop>
             let (_, rest) = sign(rest, TokenKind::RightBracket)?;
             Ok((StepSyntax::Item, rest))
         }
-        _ => {
-            let (step, rest) = next_step(tokens)?;
-            Ok((step, rest))
-        }
+        _ => next_step(tokens),
     }
 }
 

@@ -94,8 +94,7 @@ fn head(alloc: Global, bytes: &[u8], tokens: &[Token], version: Version) -> Resu
     if is_denial(bytes, tokens, version) {
         return Ok(HeadSyntax::Never);
     }
-    let head = rule_head(alloc, tokens)?;
-    Ok(head)
+    rule_head(alloc, tokens)
 }
 
 /// The constraint that the tokens of the bytes are.

@@ -2,6 +2,7 @@
 ghost use Rattle.std.specs.Prelude.{◌≡◌, ◌≤◌, ◌-◌, length, drop, map, IfOk, IfErr};
 ghost use Rattle.esto_text.specs.Faults.{place_of, IsErrorOf, IsOnlyTree, IsQueryText, IsGrammarFault, StandsAt, IsConstraintText, IsConstraintGrammarFault};
 ghost use Rattle.esto_text.specs.Faults.{ConstraintStandsAt, IsLayoutText, IsLayoutGrammarFault, LayoutStandsAt, IsUnionText, IsUnionGrammarFault};
+ghost use Rattle.esto_text.specs.Faults.{error_of, LeavesWithin};
 ghost use Rattle.esto_text.specs.Faults.{UnionStandsAt, UnionOfOneIsQueryText, HaveOneTree, HaveNoFault, HaveOneFault};
 ghost use Rattle.esto_text.specs.View.{entries_of, tree_of, constraint_of};
 
@@ -30,19 +31,18 @@ fn place(tokens: &[Token], left: usize, bytes: usize) -> u64
     }
 }
 
-/// The error of a text of so many bytes, where the last `left` tokens begin at the first that does not fit.
-fn syntax_error(tokens: &[Token], left: usize, bytes: usize) -> ReadError
-    requires { left ≤ length tokens.now }
-    ensures { result ≡ ReadError.Fault (record {
-      offset = place_of (drop (length tokens.now - left) tokens.now) bytes;
-      kind =
-          TextKind.Syntax;
-    }) }
+/// Why a text of so many bytes is not read, whose tokens were not read for this cause.
+fn read_error(stop: Stop, tokens: &[Token], bytes: usize) -> ReadError
+    requires { LeavesWithin tokens.now stop }
+    ensures { result ≡ error_of tokens.now bytes stop }
 {
-    ReadError::Fault(TextFault {
-        offset: place(tokens, left, bytes),
-        kind: TextKind::Syntax,
-    })
+    match stop {
+        Stop::OutOfMemory => ReadError::OutOfMemory,
+        Stop::Syntax(left) => ReadError::Fault(TextFault {
+            offset: place(tokens, left, bytes),
+            kind: TextKind::Syntax,
+        }),
+    }
 }
 
 /// The syntax tree of a query or a view. The fault Utf8, at offset 0, comes exactly where the bytes are not UTF-8;
@@ -61,8 +61,7 @@ pub fn read_query_tree(alloc: Global, bytes: &[u8]) -> Result<QuerySyntax, ReadE
     let tokens = tokens.items();
     match query(alloc, tokens) {
         Ok(query) => Ok(query),
-        Err(Stop::OutOfMemory) => Err(ReadError::OutOfMemory),
-        Err(Stop::Syntax(left)) => Err(syntax_error(tokens, left, bytes.len())),
+        Err(stop) => Err(read_error(stop, tokens, bytes.len())),
     }
 }
 
@@ -84,8 +83,7 @@ pub fn read_union_tree(alloc: Global, bytes: &[u8]) -> Result<List<QuerySyntax>,
     let tokens = tokens.items();
     match queries(alloc, tokens) {
         Ok(queries) => Ok(queries),
-        Err(Stop::OutOfMemory) => Err(ReadError::OutOfMemory),
-        Err(Stop::Syntax(left)) => Err(syntax_error(tokens, left, bytes.len())),
+        Err(stop) => Err(read_error(stop, tokens, bytes.len())),
     }
 }
 
@@ -112,8 +110,7 @@ pub fn read_constraint_tree(
     let tokens = tokens.items();
     match constraint(alloc, bytes, tokens, version) {
         Ok(constraint) => Ok(constraint),
-        Err(Stop::OutOfMemory) => Err(ReadError::OutOfMemory),
-        Err(Stop::Syntax(left)) => Err(syntax_error(tokens, left, bytes.len())),
+        Err(stop) => Err(read_error(stop, tokens, bytes.len())),
     }
 }
 
@@ -134,8 +131,7 @@ pub fn read_layout_tree(alloc: Global, bytes: &[u8]) -> Result<List<EntrySyntax>
     let tokens = tokens.items();
     match layout(alloc, tokens) {
         Ok(entries) => Ok(entries),
-        Err(Stop::OutOfMemory) => Err(ReadError::OutOfMemory),
-        Err(Stop::Syntax(left)) => Err(syntax_error(tokens, left, bytes.len())),
+        Err(stop) => Err(read_error(stop, tokens, bytes.len())),
     }
 }
 

@@ -1,7 +1,7 @@
-use Rattle.std.proofs.Common.{map, sym, refl}
+use Rattle.std.proofs.Common.{map, sym}
 use Rattle.std.proofs.lemmas.Result.{err_from_is_err_and}
 use Rattle.esto_text.specs.View.{tree_of}
-use Rattle.esto_text.proofs.SyntaxLemmas.{token_error, union_left_fits, union_syntax_fault, only_tree}
+use Rattle.esto_text.proofs.SyntaxLemmas.{token_error, union_within, union_error, only_tree}
 use Rattle.esto_text.proofs.LeafLemmas.{union_stands}
 use Rattle.esto_text.proofs.UnionLemmas.{union_one}
 use Rattle.esto_text.specs.Grammar.{IsUnion}
@@ -17,14 +17,6 @@ pub returns-in-Ok-clause-tokens : goal.returns-in-Ok-clause-tokens
 returns-in-Ok-clause-tokens c = union_stands c.args.bytes.now c.in_ok-tokens.tokens (map tree_of c.in-Ok.queries) c.in_ok-tokens.ensures.tokens.1
     (rw c.items-tokens.ensures at c.in-Ok.ensures.ok)
 
-pub syntax_error-requires : goal.syntax_error-requires
-syntax_error-requires c = union_left_fits c.items-tokens.result.now c.in-Err-Syntax.left (rw c.in-Err-Syntax.field-0-is at c.in-Err-Syntax.ensures.err)
-
-pub returns-clause-error : goal.returns-clause-error
-returns-clause-error c =
-    rw c.syntax_error.ensures (union_syntax_fault c.args.bytes.now c.items-tokens.result.now c.in-Err-Syntax.left _
-    (rw (sym c.items-tokens.ensures) at c.in_ok-tokens.ensures.tokens) (rw c.in-Err-Syntax.field-0-is at c.in-Err-Syntax.ensures.err) refl)
-
 pub returns-in-Ok-clause-trees : goal.returns-in-Ok-clause-trees
 returns-in-Ok-clause-trees c = (c.in_ok-tokens.tokens, c.in_ok-tokens.ensures.tokens, rw c.items-tokens.ensures at c.in-Ok.ensures.ok)
 
@@ -32,3 +24,12 @@ pub returns-in_err-tokens-clause-error : goal.returns-in_err-tokens-clause-error
 returns-in_err-tokens-clause-error c =
     let p = err_from_is_err_and c.from_residual.result c.from_residual.ensures.1 in
     rw (p.1, p.2) (token_error IsUnion limited_union c.args.bytes.now _ c.in_err-tokens.ensures.error)
+
+pub read_error-requires : goal.read_error-requires
+read_error-requires c = union_within c.items-tokens.result.now c.in-Err.stop c.in-Err.ensures.err
+
+pub returns-clause-error : goal.returns-clause-error
+returns-clause-error c =
+    rw c.read_error.ensures
+    (union_error c.args.bytes.now c.items-tokens.result.now c.in-Err.stop (rw (sym c.items-tokens.ensures) at c.in_ok-tokens.ensures.tokens)
+    c.in-Err.ensures.err)
