@@ -38,17 +38,6 @@ regroup first next last (Err error) (refused because (inl (inl stops))) = refuse
 regroup first next last (Err error) (refused because (inl (inr (here, goes, stops)))) = refused because (inr (here, goes, inl stops))
 regroup first next last (Err error) (refused because (inr (more, (here, goes, on), stops))) = refused because (inr (here, goes, inr (more, on, stops)))
 
--- what follows a step, by another course
-pub then_lead : {A B : Type 0} (first : Course CatalogueError A) (next other : A → Course CatalogueError B) (result : Result B CatalogueError)
-    → ((value : A) (rest : Result B CatalogueError) → Walks (next value) rest → Walks (other value) rest) → Walks (and_then first next) result
-    → Walks (and_then first other) result
-unfolding and_then
-then_lead first next other (Ok result) leads (value, goes, more) = (value, goes, leads value (Ok result) more)
-then_lead first next other (Err error) leads (is_free is) = is_free is
-then_lead first next other (Err error) leads (refused because (inl stops)) = refused because (inl stops)
-then_lead first next other (Err error) leads (refused because (inr (value, goes, stops))) = then_stops first other value goes
-    (leads value (Err error) (refused because stops))
-
 -- want of memory is free
 pub memory_stops : {A : Type 0} (course : Course CatalogueError A) (error : CatalogueError) → error ≡ OutOfMemory → Stops IsWant IsAny course error
 memory_stops course error is = is_free is

@@ -1,10 +1,9 @@
 -- Sections that fit.
-use Rattle.std.proofs.Common.{◌≡◌, ◌<◌, ◌≤◌, ℕ, Bool, List, Option, Some, None, codes, length, subst, sym, arith, Result, Ok}
-use Rattle.std.specs.Result.{result_and}
-use Rattle.esto_course.specs.Course.{Stops, and_then, demands, gives, refuses}
-use Rattle.esto_catalog.proofs.RowLemmas.{checked_walks, demands_goes, demands_stops, refuses_stops, regroup, then_lead}
-use Rattle.esto_catalog.specs.Rows.{IsAny, IsFault, IsWant, Walks, fault_at, top}
-use Rattle.esto_catalog.specs.Whole.{fits_section, fits_sections, reads_top, tables_of}
+use Rattle.std.proofs.Common.{◌≡◌, ◌<◌, ◌≤◌, ℕ, Bool, List, Option, Some, None, codes, length, subst, sym, arith}
+use Rattle.esto_course.specs.Course.{Stops, and_then, demands, refuses}
+use Rattle.esto_catalog.proofs.RowLemmas.{demands_goes, demands_stops, refuses_stops}
+use Rattle.esto_catalog.specs.Rows.{IsAny, IsFault, IsWant, fault_at, top}
+use Rattle.esto_catalog.specs.Whole.{fits_section, reads_top, tables_of}
 use Rattle.esto_catalog.specs.declared.fault.CatalogueError.{CatalogueError}
 use Rattle.esto_status.specs.declared.fault.CatalogueKind.TheVariants.{TooMany, WrongType}
 use Rattle.esto_catalog.specs.declared.whole.TheConstants.{MAX_ENTRIES}
@@ -40,19 +39,3 @@ pub datasets_few : (document : Document) (version : Version) (core : Bool) → (
 unfolding and_then
 datasets_few document version core (unit, known, (version', at, (core', asked, (fits, few, rest)))) =
     section_few (codes "dataset") document.datasets fits few
-
--- the sections, and then what the rows before them gave
-pub sections_walk : {A : Type 0} (document : Document) (value : A) (checked : Result (Unit {0}) CatalogueError) (result : Result A CatalogueError)
-    → result ≡ result_and checked (Ok value) → Walks (fits_sections document) checked
-    → Walks (and_then (fits_section (codes "dataset") document.datasets) (λ _.
-    and_then (fits_section (codes "fragment") document.fragments) (λ _.
-    and_then (fits_section (codes "constraint") document.constraints) (λ _. gives value)))) result
-sections_walk document value checked result is walks =
-    let datasets = fits_section (codes "dataset") document.datasets in
-    let fragments = fits_section (codes "fragment") document.fragments in
-    let constraints = fits_section (codes "constraint") document.constraints in
-    let grouped = regroup datasets (λ _. and_then fragments (λ _. constraints)) (λ _. gives value) result
-    (checked_walks value checked result is (fits_sections document) walks) in
-    then_lead datasets (λ _. and_then (and_then fragments (λ _. constraints)) (λ _. gives value))
-    (λ _. and_then fragments (λ _. and_then constraints (λ _. gives value))) result
-    (λ _ rest. regroup fragments (λ _. constraints) (λ _. gives value) rest) grouped
