@@ -52,7 +52,8 @@ add-requires c =
     let at = read_at c.args.entries.now c.args.first c.in-Some.one.now c.in-Some.ensures.lookup.0 c.in-Some.ensures.lookup.1 in
     let at_other = read_at c.args.entries.now c.args.second c.in-Some-get.two.now c.in-Some-get.ensures.lookup.0
     c.in-Some-get.ensures.lookup.1 in
-    ap length c.in_ok-product.ensures ∙ (union_count c.args.entries.now c.args.first c.args.second c.in-Some.one.now c.in-Some-get.two.now c.args.from.now c.args.to.now at at_other
+    ap length c.in_ok-product.ensures ∙ (union_count c.args.entries.now c.args.first c.args.second c.in-Some.one.now c.in-Some-get.two.now c.args.from.now
+        c.args.to.now at at_other
     (c.requires.meet c.in-Some.one.now c.in-Some-get.two.now at at_other)
     c.args.sets.now.count c.requires.counts).1
 
@@ -77,7 +78,8 @@ returns-then-not-branch-clause-met c =
     (subst (Covers c.args.sets.now.sets) c.in_ok-product.ensures (c.in_ok-add.ensures.answer.0 c.if-not-branch.true))
 
 pub returns-clause-tell : goal.returns-clause-tell
-returns-clause-tell c = on_ok_weaker c.push.result (λ is. tell_more c.args.entries.now c.args.more.now _ c.in_ok-entry.entry c.args.sets.now.sets c.add.new.self.sets _ c.args.from.now c.args.to.now is
+returns-clause-tell c = on_ok_weaker c.push.result
+    (λ is. tell_more c.args.entries.now c.args.more.now _ c.in_ok-entry.entry c.args.sets.now.sets c.add.new.self.sets _ c.args.from.now c.args.to.now is
     c.in_ok-entry.ensures.claim c.in_ok-entry.ensures.product c.in_ok-add.ensures.covers c.requires.tell) c.push.ensures.ok
 
 pub returns-clause-asks : goal.returns-clause-asks

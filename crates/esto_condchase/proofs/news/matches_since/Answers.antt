@@ -4,7 +4,8 @@ use Rattle.esto_condchase.proofs.NewsLemmas.{settled_anew}
 use Rattle.esto_condchase.proofs.news.matches_since.Goals as goal
 
 pub returns-then-not-has_news-clause-found : goal.returns-then-not-has_news-clause-found
-returns-then-not-has_news-clause-found c = settled_anew c.args.entries.now c.args.since c.args.body.now c.args.asked.now c.args.sides.now c.new.result c.new.ensures
+returns-then-not-has_news-clause-found c = settled_anew c.args.entries.now c.args.since c.args.body.now c.args.asked.now c.args.sides.now c.new.result
+    c.new.ensures
     (subst (λ it. IsSettled it c.args.since c.args.body.now) c.items.ensures (c.has_news.ensures c.if-not-has_news.true))
 
 pub returns-in-Some-clause-found : goal.returns-in-Some-clause-found

@@ -23,7 +23,8 @@ is_settled-requires-clause-counted c = counted_union c.args.kept.now c.args.befo
     c.in_ok-product.ensures c.requires.counted
 
 pub returns-then-is_settled-clause-grown : goal.returns-then-is_settled-clause-grown
-returns-then-is_settled-clause-grown c own goal says = grown_same (IsLonger c.args.step.now.known.now own goal c.args.before.now) c.args.next.now c.args.next.now refl
+returns-then-is_settled-clause-grown c own goal says = grown_same (IsLonger c.args.step.now.known.now own goal c.args.before.now) c.args.next.now
+    c.args.next.now refl
 
 pub returns-then-is_settled-clause-goes : goal.returns-then-is_settled-clause-goes
 returns-then-is_settled-clause-goes c set within its_within = inr (told_wider _ _ _ _ _ c.in_ok-product.product set (c.is_settled.ensures c.if-is_settled.true)
@@ -31,10 +32,12 @@ returns-then-is_settled-clause-goes c set within its_within = inr (told_wider _ 
     (within_united c.args.before.now.product c.args.entry.now.product set within its_within)))
 
 pub returns-clause-grown : goal.returns-clause-grown
-returns-clause-grown c = on_ok_weaker c.push.result (λ pushed own goal says. added_grown c.args.step.now.known.now c.args.before.now c.args.place c.args.entry.now c.requires.at
+returns-clause-grown c = on_ok_weaker c.push.result
+    (λ pushed own goal says. added_grown c.args.step.now.known.now c.args.before.now c.args.place c.args.entry.now c.requires.at
     (sym (c.requires.counts c.args.entry.now (Contains-at c.args.step.now.known.now c.args.place c.args.entry.now c.requires.at))) own goal
     says c.in_ok-product.product _ c.args.next.now _ c.in_ok-product.ensures c.in_ok-longer.ensures pushed) c.push.ensures.ok
 
 pub returns-clause-goes : goal.returns-clause-goes
-returns-clause-goes c = on_ok_weaker c.push.result (λ pushed set within its_within. inl (added_goes c.args.before.now c.in_ok-product.product c.args.entry.now.product c.args.place _ c.args.next.now _
+returns-clause-goes c = on_ok_weaker c.push.result
+    (λ pushed set within its_within. inl (added_goes c.args.before.now c.in_ok-product.product c.args.entry.now.product c.args.place _ c.args.next.now _
     c.in_ok-product.ensures c.in_ok-longer.ensures pushed set within its_within)) c.push.ensures.ok

@@ -11,7 +11,8 @@ pub match_next-requires-clause-given : goal.match_next-requires-clause-given
 match_next-requires-clause-given c = subst (AreCounted c.args.count) (sym c.items-2.ensures) c.requires.counted
 
 pub returns-clause-next : goal.returns-clause-next
-returns-clause-next c = on_ok_weaker c.put_terms.result (λ added. next_items c.args.known.now 0 c.args.from.now c.args.atom.now _ c.items.result.now c.args.sides.now
+returns-clause-next c = on_ok_weaker c.put_terms.result
+    (λ added. next_items c.args.known.now 0 c.args.from.now c.args.atom.now _ c.items.result.now c.args.sides.now
     c.args.ways.now c.items-2.result.now _ (c.items.ensures ∙ c.in_ok-live.ensures) c.items-2.ensures c.in_ok-ways.ensures.next) c.put_terms.ensures
 
 pub returns-clause-counted : goal.returns-clause-counted
