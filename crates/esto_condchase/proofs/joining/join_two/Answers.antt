@@ -53,7 +53,7 @@ add-requires c =
     let at_other = read_at c.args.entries.now c.args.second c.in-Some-get.two.now c.in-Some-get.ensures.lookup.0
     c.in-Some-get.ensures.lookup.1 in
     ap length c.in_ok-product.ensures ∙ (union_count c.args.entries.now c.args.first c.args.second c.in-Some.one.now c.in-Some-get.two.now c.args.from.now
-        c.args.to.now at at_other
+    c.args.to.now at at_other
     (c.requires.meet c.in-Some.one.now c.in-Some-get.two.now at at_other)
     c.args.sets.now.count c.requires.counts).1
 

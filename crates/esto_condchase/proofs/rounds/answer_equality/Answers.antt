@@ -15,7 +15,7 @@ returns-clause-grows c =
     let right = side_is _ c.args.from.now (terms_of c.args.rule.now.body) _ c.args.way.now.to c.args.rule.now.right _ c.items-3.ensures
     c.requires.from_is c.items-4.ensures c.taken_term-right.ensures in
     on_ok_weaker c.ask.result (λ noted. asked_asks c.args.entries.now c.args.number
-        (equality c.args.rule.now.body c.args.rule.now.left c.args.rule.now.right) c.args.way.now c.requires.found
+    (equality c.args.rule.now.body c.args.rule.now.left c.args.rule.now.right) c.args.way.now c.requires.found
     (rules_of c.args.rules.now) c.requires.at c.args.more.now
     c.in_ok-claim.claim (c.in_ok-claim.ensures ∙ (λ i. Same (left i) (right i))) c.ask.new.more noted) c.ask.ensures
 
