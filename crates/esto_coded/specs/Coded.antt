@@ -1,5 +1,5 @@
 -- Facts as rows of codes, relation by relation, read as sets.
-use Rattle.std.specs.Prelude.{◌≡◌, ◌≢◌, ◌⊎◌, ℕ, ◌+◌, ◌≤◌, List, Some, map, slice_get, length, Contains, AllPairs}
+use Rattle.std.specs.Prelude.{◌≡◌, ◌≢◌, ◌⊎◌, ◌==◌, ℕ, ◌+◌, ◌≤◌, List, Some, filter, map, slice_get, length, Contains, AllPairs}
 use Rattle.std.specs.List.{AllZip}
 use Rattle.esto_term.specs.declared.term.Term.{Term}
 use Rattle.esto_term.specs.declared.term.Term.TheVariants.{Const, Plain}
@@ -38,6 +38,16 @@ pub record StandFor (coded : Coded) (facts : List (Fact Term)) : Type 0 where
       → (codes : List ℕ) × AreCodesOf coded.texts fact.terms codes × Contains (rows_in coded.relations fact.relation) codes
   pub only : (relation : ℕ) (codes : List ℕ) → Contains (rows_in coded.relations relation) codes
       → (fact : Fact Term) × Contains facts fact × (fact.relation ≡ relation) × AreCodesOf coded.texts fact.terms codes
+
+-- Of the facts those over the relation of a number, in order.
+abbrev pub facts_over : ℕ → List (Fact Term) → List (Fact Term)
+facts_over relation facts = filter (λ (fact : Fact Term). fact.relation == relation) facts
+
+-- The rows of codes stand for the facts in order: those of each relation are the rows of the facts over it, one each.
+abbrev pub StandInOrder : Coded → List (Fact Term) → Type 0
+StandInOrder coded facts =
+    (relation : ℕ)
+    → AllZip (λ (fact : Fact Term) (codes : List ℕ). AreCodesOf coded.texts fact.terms codes) (facts_over relation facts) (rows_in coded.relations relation)
 
 -- How many columns each relation has.
 abbrev pub arities_of : Coded → List ℕ

@@ -1,4 +1,7 @@
 //! Patterns of trees.
+ghost use Rattle.std.specs.Prelude.{◌≡◌, IfOk};
+ghost use Rattle.esto_docmodel.specs.declared.pattern.Entry.TheVariants as entry;
+
 use esto_term::{List, OutOfMemory, Replicate, Term, Text};
 use std::alloc::Global;
 
@@ -47,24 +50,52 @@ impl Replicate for Step {
     }
 }
 
+// A copy of an entry that has a value.
+fn copied_value(alloc: Global, path: &Path, term: &Term) -> Result<Entry, OutOfMemory>
+    ensures { IfOk result (λ it. it ≡ entry.Value path.now term.now) }
+{
+    let path = path.copy(alloc)?;
+    let term = term.copy(alloc)?;
+    Ok(Entry::Value(path, term))
+}
+
+// A copy of the entry.
+#[cycle(copy)]
+fn copied(alloc: Global, entry: &Entry) -> Result<Entry, OutOfMemory>
+    ensures { IfOk result (λ it. it ≡ entry.now) }
+{
+    match entry {
+        Entry::Value(path, term) => copied_value(alloc, path, term),
+        Entry::Group(path, entries) => copied_group(alloc, path, entries.items()),
+    }
+}
+
+// A copy of an entry that is a group of these.
+#[cycle(copy)]
+fn copied_group(alloc: Global, path: &Path, entries: &[Entry]) -> Result<Entry, OutOfMemory>
+    ensures { IfOk result (λ it. it ≡ entry.Group path.now entries.now) }
+{
+    let entries = copied_entries(alloc, entries)?;
+    let path = path.copy(alloc)?;
+    Ok(Entry::Group(path, entries))
+}
+
+// A copy of the entries.
+#[cycle(copy)]
+fn copied_entries(alloc: Global, entries: &[Entry]) -> Result<Entries, OutOfMemory>
+    ensures { IfOk result (λ it. it ≡ entries.now) }
+{
+    let mut own = List::new(alloc);
+    'entries: for entry in entries {
+        let entry = copied(alloc, entry)?;
+        own.push(entry)?;
+    }
+    Ok(own)
+}
+
 impl Replicate for Entry {
     fn copy(&self, alloc: Global) -> Result<Entry, OutOfMemory> {
-        match self {
-            Entry::Value(path, term) => {
-                let path = path.copy(alloc)?;
-                let term = term.copy(alloc)?;
-                Ok(Entry::Value(path, term))
-            }
-            Entry::Group(path, entries) => {
-                let path = path.copy(alloc)?;
-                let mut copied = List::new(alloc);
-                'entries: for entry in entries.items() {
-                    let entry = entry.copy(alloc)?;
-                    copied.push(entry)?;
-                }
-                Ok(Entry::Group(path, copied))
-            }
-        }
+        copied(alloc, self)
     }
 }
 

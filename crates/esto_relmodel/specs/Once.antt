@@ -6,6 +6,10 @@ abbrev pub StandsBefore : {X : Type 0} → List X → X → X → Type 0
 StandsBefore things one other =
     (place : ℕ) × (slice_get things place ≡ Some one) × ((later : ℕ) → slice_get things later ≡ Some other → place < later)
 
+-- Where one of the things first stands before another, it does so among the others too.
+abbrev pub KeepOrder : {X : Type 0} → List X → List X → Type 0
+KeepOrder {X} things others = (one other : X) → Contains things other → StandsBefore things one other → StandsBefore others one other
+
 -- What is kept are the things, each once, since none stands before itself, in the order in which they first stand.
 pub record AreEachOnce {X : Type 0} (things kept : List X) : Type 0 where
   pub same : (thing : X) → Contains kept thing ↔ Contains things thing

@@ -7,6 +7,7 @@ ghost use Rattle.esto_term.specs.Finite.{AreFinite};
 ghost use Rattle.esto_term.specs.Kinds.{IsConstant};
 ghost use Rattle.esto_term.specs.Order.{replaced, term_cmp};
 ghost use Rattle.esto_term.specs.declared.term.Term.{Term};
+ghost use Rattle.esto_term.specs.declared.term.Term.TheVariants as term;
 
 use crate::list::{List, OutOfMemory, Replicate};
 use crate::text::Text;
@@ -178,20 +179,49 @@ pub fn compare_terms(terms: &[Term], others: &[Term]) -> Ordering
     terms.len().cmp(&others.len())
 }
 
+// A copy of a constant.
+fn copied_constant(alloc: Global, text: &Text) -> Result<Term, OutOfMemory>
+    ensures { IfOk result (λ it. it ≡ term.Const text.now) }
+{
+    let text = text.copy(alloc)?;
+    Ok(Term::Const(text))
+}
+
+// A copy of the term.
+#[cycle(copy)]
+fn copied(alloc: Global, term: &Term) -> Result<Term, OutOfMemory>
+    ensures { IfOk result (λ it. it ≡ term.now) }
+{
+    match term {
+        Term::Const(text) => copied_constant(alloc, text),
+        Term::Plain(number) => Ok(Term::Plain(*number)),
+        Term::Made(rule, variable, frontier) => {
+            copied_made(alloc, *rule, *variable, frontier.items())
+        }
+    }
+}
+
+// A copy of a made term.
+#[cycle(copy)]
+fn copied_made(
+    alloc: Global,
+    rule: u64,
+    variable: u64,
+    frontier: &[Term],
+) -> Result<Term, OutOfMemory>
+    ensures { IfOk result (λ it. it ≡ term.Made rule variable frontier.now) }
+{
+    let mut own = List::new(alloc);
+    'frontier: for part in frontier {
+        let part = copied(alloc, part)?;
+        own.push(part)?;
+    }
+    Ok(Term::Made(rule, variable, own))
+}
+
 impl Replicate for Term {
     fn copy(&self, alloc: Global) -> Result<Term, OutOfMemory> {
-        match self {
-            Term::Const(text) => Ok(Term::Const(text.copy(alloc)?)),
-            Term::Plain(number) => Ok(Term::Plain(*number)),
-            Term::Made(rule, variable, frontier) => {
-                let mut copied = List::new(alloc);
-                'frontier: for part in frontier.items() {
-                    let copy = part.copy(alloc)?;
-                    copied.push(copy)?;
-                }
-                Ok(Term::Made(*rule, *variable, copied))
-            }
-        }
+        copied(alloc, self)
     }
 }
 
