@@ -14,3 +14,4 @@ pub mod MovedLemmas
 pub mod LawfulLemmas
 pub mod TriedLemmas
 pub mod TrialLemmas
+pub mod PartLemmas

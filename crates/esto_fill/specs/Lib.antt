@@ -10,4 +10,5 @@ pub mod Differences
 pub mod Placing
 pub mod Nodes
 pub mod Judging
+pub mod Parts
 pub mod Laws

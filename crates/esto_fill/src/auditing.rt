@@ -19,11 +19,11 @@ ghost use Rattle.esto_fill.specs.Trials.{IsEnoughFor};
 
 use crate::apart::{Apart, first_apart, ordered_rows};
 use crate::loaded::Loaded;
-use crate::record::record_of;
-use crate::rows::{counted, text_row};
+use crate::part::difference_of;
+use crate::rows::text_row;
 use crate::tried::{add_rules, first_broken};
 use crate::views::add_views;
-use esto_constraint::{Constraint, Rules, least_active_matches_are_least, rules_are_sound};
+use esto_constraint::{Constraint, Rules, rules_are_sound};
 use esto_mapping::Catalogue;
 use esto_ports::Difference;
 use esto_query::{Columns, IndexedFacts, queries_are_sound};
@@ -49,14 +49,10 @@ fn broken_rule(
 {
     databases_stand_for_facts();
     rules_are_sound();
-    least_active_matches_are_least();
     let Some(broken) = first_broken(alloc, &catalogue.rules, laws, facts)? else {
         return Ok(None);
     };
-    let rule = catalogue.rules.item(broken.rule);
-    let number = counted(broken.rule)?;
-    let cells = record_of(alloc, rule, &broken.found.valuation)?;
-    Ok(Some(Difference::Rule(number, cells)))
+    difference_of(alloc, catalogue, broken.rule, &broken.found.valuation)
 }
 
 // The fragment of the name lacks the row of the texts of the terms.

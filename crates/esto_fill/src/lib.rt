@@ -12,6 +12,7 @@ mod lawful;
 mod laws;
 mod loaded;
 mod nodes;
+mod part;
 mod record;
 mod rows;
 mod trial;
@@ -29,6 +30,7 @@ pub use laws::{
     documents_are_lawful, facts_stand_as_databases, loaded_facts_are_flat, outcomes_are_one,
 };
 pub use loaded::{Loaded, nothing_loaded};
+pub use part::difference_in;
 pub use rows::{AnswerError, node_at};
 pub use trial::{Trial, trial_of};
 pub use tried::is_law;

@@ -1,10 +1,12 @@
 use Rattle.std.proofs.Common.{arith}
 use Rattle.std.proofs.lemmas.List.{length-map}
 use Rattle.std.proofs.lemmas.Option.{slice_get_within}
+use Rattle.std.proofs.lemmas.Result.{IfOk-weaker}
 use Rattle.esto_constraint.specs.Constraints.{rule_of, rules_of}
 use Rattle.esto_views.specs.Fragments.{views_of}
 use Rattle.esto_fill.proofs.DifferenceLemmas.{are_rules}
-use Rattle.esto_fill.proofs.TrialLemmas.{rule_broken, rules_met}
+use Rattle.esto_fill.proofs.PartLemmas.{judged_by_match}
+use Rattle.esto_fill.proofs.TrialLemmas.{rules_met}
 use Rattle.esto_fill.proofs.auditing.broken_rule.Goals as goal
 
 pub returns-in_default : goal.returns-in_default
@@ -14,8 +16,8 @@ returns-in_default c = λ all enough.
     rules_met c.databases_stand_for_facts.ensures.rules rules (rules_of c.args.laws.now) (views_of c.args.catalogue.now.fragments) all c.args.facts.now enough
     (are_rules c.rules_are_sound.ensures.rules rules) passed
 
-pub item-rule-requires : goal.item-rule-requires
-item-rule-requires c =
+pub difference_of-requires : goal.difference_of-requires
+difference_of-requires c =
     let rules = c.args.catalogue.now.rules in
     let broken = rw c.in-Some.is at c.in_ok-broken.ensures in
     let within = slice_get_within (rules_of rules) c.in-Some.broken.rule broken.rule broken.there in
@@ -23,10 +25,10 @@ item-rule-requires c =
     omega (arith, within, long)
 
 pub returns : goal.returns
-returns c = λ all enough.
-    let rules = c.args.catalogue.now.rules in
+returns c =
     let broken = rw c.in-Some.is at c.in_ok-broken.ensures in
-    rule_broken c.databases_stand_for_facts.ensures.rules rules (rules_of c.args.laws.now) (views_of c.args.catalogue.now.fragments) all c.args.facts.now
-    enough (are_rules c.rules_are_sound.ensures.rules rules) c.least_active_matches_are_least.ensures c.in-Some.broken.rule c.in_ok-number.number
-    c.item-rule.result.now c.in-Some.broken.found.valuation c.in-Some.broken.found.places c.in_ok-cells.cells c.in_ok-number.ensures c.item-rule.ensures
-    broken c.in_ok-cells.ensures
+    IfOk-weaker c.difference_of.result _ _
+    (λ outcome told all enough.
+    judged_by_match c.args.catalogue.now c.in-Some.broken.rule c.in-Some.broken.found.valuation (rules_of c.args.laws.now) all c.args.facts.now
+    c.in-Some.broken.found.places enough broken outcome told)
+    c.difference_of.ensures
