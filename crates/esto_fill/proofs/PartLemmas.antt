@@ -18,7 +18,8 @@ use Rattle.esto_relmodel.specs.Parts.{IsPartFor}
 use Rattle.esto_semantics.specs.Facts.{image}
 use Rattle.esto_semantics.specs.Maps.{Keeps, Sends}
 use Rattle.esto_semantics.specs.Matches.{IsAtMost, IsMatch}
-use Rattle.esto_semantics.specs.Rules.{Rule, tuple, equality, denial, Concludes, IsMet, body_of}
+use Rattle.esto_semantics.specs.Queries.{ConjunctiveQuery}
+use Rattle.esto_semantics.specs.Rules.{Rule, IsMet, body_of}
 use Rattle.esto_semantics.specs.Valuations.{Assignment, Extends, map_of}
 use Rattle.esto_semantics.specs.declared.fact.Fact.{Fact}
 use Rattle.esto_semantics.proofs.FactLemmas.{Sends-match, decided_fact}
@@ -28,10 +29,12 @@ use Rattle.esto_term.proofs.ChoiceLemmas.{Decided}
 use Rattle.esto_term.proofs.ListLemmas.{Contains-at, Contains-cases, Contains-head, Contains-nil, Contains-rest, map_at}
 use Rattle.esto_term.specs.declared.term.Term.{Term}
 use Rattle.esto_term.specs.declared.term.Term.TheVariants.{Const}
+use Rattle.esto_fill.specs.Differences.{Audits}
 use Rattle.esto_fill.specs.Judging.{IsFirstTried, JudgesRules}
-use Rattle.esto_fill.specs.Parts.{IsFirstByMatch, IsFirstByPart}
+use Rattle.esto_fill.specs.Parts.{IsFirstByMatch, IsFirstByPart, IsFirstByRule}
 use Rattle.esto_fill.specs.Trials.{IsEnoughFor}
 use Rattle.esto_ports.specs.declared.difference.Difference.{Difference}
+use Rattle.esto_fill.proofs.TrialLemmas.{concludes_among}
 
 -- ---- where a thing first stands
 
@@ -84,42 +87,35 @@ first_match m (atom ∷ body) facts (place ∷ places) (here, rest) = (here.ther
 -- where the images of one map come before those of another in the part, they do so among all facts
 module _ (facts part : List (Fact Term)) (m other : Term → Term)
     (in_order : (one other : Fact Term) → one.relation ≡ other.relation → Contains part other → StandsBefore part one other → StandsBefore facts one other)
-    where
-  earlier : (atom : Fact Term) (place seen one its : ℕ) → slice_get part place ≡ Some (image m atom) → IsFirstAt part (image other atom) seen
-      → place < seen → IsFirstAt facts (image m atom) one → slice_get facts its ≡ Some (image other atom) → one < its
-  earlier atom place seen one its here sees less own there =
-      let stands = in_order (image m atom) (image other atom) refl (Contains-at part seen (image other atom) sees.there)
-      (place, here, λ later at. (let more = sees.least later at in omega (arith, less, more))) in
-      let low = own.least stands.0 stands.1 in
-      let high = stands.2 its there in
-      omega (arith, low, high)
+  where
+    earlier : (atom : Fact Term) (place seen one its : ℕ) → slice_get part place ≡ Some (image m atom) → IsFirstAt part (image other atom) seen
+        → place < seen → IsFirstAt facts (image m atom) one → slice_get facts its ≡ Some (image other atom) → one < its
+    earlier atom place seen one its here sees less own there =
+        let stands = in_order (image m atom) (image other atom) refl (Contains-at part seen (image other atom) sees.there)
+        (place, here, λ later at. (let more = sees.least later at in omega (arith, less, more))) in
+        let low = own.least stands.0 stands.1 in
+        let high = stands.2 its there in
+        omega (arith, low, high)
 
-  at_most_all : (body : List (Fact Term)) (places seen ones others : List ℕ) → IsMatch m body part places → AreFirst other body part seen
-      → IsAtMost places seen → AreFirst m body facts ones → IsMatch other body facts others → IsAtMost ones others
-  at_most_all [] places seen [] others match sees less own there = IsAtMost-nil others
-  at_most_all [] places seen (one ∷ ones) others match sees less own there = absurd own
-  at_most_all (atom ∷ body) [] seen ones others match sees less own there = absurd match
-  at_most_all (atom ∷ body) (place ∷ places) [] ones others match sees less own there = absurd sees
-  at_most_all (atom ∷ body) (place ∷ places) (first ∷ seen) [] others match sees less own there = absurd own
-  at_most_all (atom ∷ body) (place ∷ places) (first ∷ seen) (one ∷ ones) [] match sees less own there = absurd there
-  at_most_all (atom ∷ body) (place ∷ places) (first ∷ seen) (one ∷ ones) (its ∷ others) match sees less own there =
-      elim ((IsAtMost-cons place first places seen).0 less) [
-        | inl before ↦ (IsAtMost-cons one its ones others).1 (inl (earlier atom place first one its match.0 sees.0 before own.0 there.0))
-        | inr both ↦
-            let same : image m atom ≡ image other atom = same_Some (image m atom) (image other atom)
-            (sym match.0 ∙ ap (slice_get part) both.0 ∙ sees.0.there) in
-            IsAtMost-least one its ones others (own.0.least its (there.0 ∙ ap Some (sym same)))
-            (λ _. at_most_all body places seen ones others match.1 sees.1 both.1 own.1 there.1)
-      ]
+    at_most_all : (body : List (Fact Term)) (places seen ones others : List ℕ) → IsMatch m body part places → AreFirst other body part seen
+        → IsAtMost places seen → AreFirst m body facts ones → IsMatch other body facts others → IsAtMost ones others
+    at_most_all [] places seen [] others match sees less own there = IsAtMost-nil others
+    at_most_all [] places seen (one ∷ ones) others match sees less own there = absurd own
+    at_most_all (atom ∷ body) [] seen ones others match sees less own there = absurd match
+    at_most_all (atom ∷ body) (place ∷ places) [] ones others match sees less own there = absurd sees
+    at_most_all (atom ∷ body) (place ∷ places) (first ∷ seen) [] others match sees less own there = absurd own
+    at_most_all (atom ∷ body) (place ∷ places) (first ∷ seen) (one ∷ ones) [] match sees less own there = absurd there
+    at_most_all (atom ∷ body) (place ∷ places) (first ∷ seen) (one ∷ ones) (its ∷ others) match sees less own there =
+        elim ((IsAtMost-cons place first places seen).0 less) [
+          | inl before ↦ (IsAtMost-cons one its ones others).1 (inl (earlier atom place first one its match.0 sees.0 before own.0 there.0))
+          | inr both ↦
+              let same : image m atom ≡ image other atom = same_Some (image m atom) (image other atom)
+              (sym match.0 ∙ ap (slice_get part) both.0 ∙ sees.0.there) in
+              IsAtMost-least one its ones others (own.0.least its (there.0 ∙ ap Some (sym same)))
+              (λ _. at_most_all body places seen ones others match.1 sees.1 both.1 own.1 there.1)
+        ]
 
 -- ---- the least active match
-
-concludes_among : (facts part : List (Fact Term)) → ((fact : Fact Term) → Contains part fact → Contains facts fact) → (rule : Rule) (m : Term → Term)
-    → Concludes Const ◌≡◌ (Contains part) rule m → Concludes Const ◌≡◌ (Contains facts) rule m
-concludes_among facts part among (tuple body head) m (more, keeps, agree, sends) =
-    (more, keeps, agree, λ it inside. among (image more it) (sends it inside))
-concludes_among facts part among (equality body left right) m same = same
-concludes_among facts part among (denial body) m never = never
 
 module _ (rule : Rule) (facts part : List (Fact Term)) (valuation : Assignment) (places : List ℕ) (is_part : IsPartFor rule facts part)
     (active : IsLeastActive rule part valuation places) where
@@ -131,7 +127,8 @@ module _ (rule : Rule) (facts part : List (Fact Term)) (valuation : Assignment) 
 
   -- the first places of its images
   ones : (ones : List ℕ) × AreFirst m (body_of rule) facts ones
-  ones = first_places m (body_of rule) facts (λ atom inside. is_part.among (image m atom) (Sends-match m (body_of rule) part places match_in_part atom inside))
+  ones = first_places m (body_of rule) facts
+      (λ atom inside. is_part.among (image m atom) (Sends-match m (body_of rule) part places match_in_part atom inside))
 
   match_in_all : IsMatch m (body_of rule) facts ones.0
   match_in_all = first_match m (body_of rule) facts ones.0 ones.1
@@ -203,3 +200,10 @@ pub met_in_part : (rules : List Constraint) (number : ℕ) (constraint : Constra
     → IsMet part (rule_of constraint) → (rule : Rule) → slice_get (rules_of rules) number ≡ Some rule → IsMet part rule
 met_in_part rules number constraint part at met rule there =
     subst (IsMet part) (same_Some (rule_of constraint) rule (sym (map_at rule_of rules number constraint at) ∙ there)) met
+
+-- what is the first by a rule is the first of an audit, whatever the fragments hold
+pub first_audited : (catalogue : Catalogue) (names : List (List ℕ)) (views : List ConjunctiveQuery) (facts : List (Fact Term))
+    (Holds : Fact (List ℕ) → Type 0) (difference : Difference) → IsFirstByRule catalogue facts difference
+    → Audits (rules_of catalogue.rules) (map written catalogue.rules) names views facts Holds (Some difference)
+first_audited catalogue names views facts Holds difference first =
+    subst (λ it. Audits (rules_of catalogue.rules) (map written catalogue.rules) names views facts Holds (Some it)) (sym first.2) first.3

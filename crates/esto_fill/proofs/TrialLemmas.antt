@@ -147,6 +147,14 @@ body_part (tuple body head) = Contains-head body (head ∷ [])
 body_part (equality body left right) = Contains-head body []
 body_part (denial body) = Contains-head body []
 
+-- what some of the facts conclude, all conclude
+pub concludes_among : (facts some : List (Fact Term)) → ((fact : Fact Term) → Contains some fact → Contains facts fact) → (rule : Rule) (m : Term → Term)
+    → Concludes Const ◌≡◌ (Contains some) rule m → Concludes Const ◌≡◌ (Contains facts) rule m
+concludes_among facts some among (tuple body head) m (more, keeps, agree, sends) =
+    (more, keeps, agree, λ it inside. among (image more it) (sends it inside))
+concludes_among facts some among (equality body left right) m same = same
+concludes_among facts some among (denial body) m never = never
+
 module _ (bodies : List (List (Fact Term))) (facts some : List (Fact Term)) (drops : DropsUnasked bodies facts some) where
   -- to the image of an atom the atom can go
   image_asked : (m : Term → Term) → Keeps Const m → (part : List (Fact Term)) → Contains bodies part → (atom : Fact Term) → Contains part atom
@@ -160,13 +168,8 @@ module _ (bodies : List (List (Fact Term))) (facts some : List (Fact Term)) (dro
   image_left m keeps part inside atom in_part there =
       (drops_has bodies facts some drops).1 (image m atom) there (image_asked m keeps part inside atom in_part)
 
-  image_there : (m : Term → Term) (atom : Fact Term) → Contains some (image m atom) → Contains facts (image m atom)
-  image_there m atom there = (drops_has bodies facts some drops).0 (image m atom) there
-
   concludes_all : (rule : Rule) (m : Term → Term) → Concludes Const ◌≡◌ (Contains some) rule m → Concludes Const ◌≡◌ (Contains facts) rule m
-  concludes_all (tuple body head) m (more, keeps, agree, sends) = (more, keeps, agree, λ it inside. image_there more it (sends it inside))
-  concludes_all (equality body left right) m same = same
-  concludes_all (denial body) m never = never
+  concludes_all = concludes_among facts some (drops_has bodies facts some drops).0
 
   concludes_left : (rule : Rule) → HaveParts bodies rule → (m : Term → Term) → Concludes Const ◌≡◌ (Contains facts) rule m
       → Concludes Const ◌≡◌ (Contains some) rule m

@@ -12,6 +12,6 @@ returns-in-Some c =
     let least = rw c.in-Some.is at c.in_ok-active.ensures in
     IfOk-weaker c.difference_of.result _ _
     (λ outcome told.
-    first_by_part c.args.catalogue.now c.args.number c.in-Some.found.valuation c.item.result.now c.args.part.now c.in-Some.found.places c.item.ensures least
-    outcome told)
+    first_by_part c.args.catalogue.now c.args.number c.in-Some.found.valuation c.item.result.now c.args.part.now c.in-Some.found.places c.item.ensures
+    least outcome told)
     c.difference_of.ensures
