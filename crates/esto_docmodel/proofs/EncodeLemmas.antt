@@ -1,5 +1,5 @@
 -- The loops of the encodings, a turn at a time.
-use Rattle.std.proofs.Common.{◌≡◌, true, false, filter, ℕ, suc, ◌+◌, ◌<◌, ◌≤◌, List, [], ◌∷◌, ◌++◌, map, drop, length, get_or, Some, None, refl, sym, ap, ◌∙◌, subst, arith, append_assoc}
+use Rattle.std.proofs.Common.{◌≡◌, true, false, filter, ℕ, suc, ◌+◌, ◌<◌, ◌≤◌, List, [], ◌∷◌, ◌++◌, map, drop, length, get_or, Option, Some, None, refl, sym, ap, ◌∙◌, subst, arith, append_assoc}
 use Rattle.std.proofs.lemmas.List.{append-nil, drop_all, map-append}
 use Rattle.std.proofs.lemmas.List.Elements.{filter-append}
 use Rattle.std.proofs.lemmas.Option.{slice_get-get_or}
@@ -10,7 +10,7 @@ use Rattle.esto_term.specs.declared.term.Term.TheVariants.{Const, Plain, outs-Co
 use Rattle.esto_term.proofs.PlaceLemmas.{drop-item, drop-there}
 use Rattle.esto_semantics.specs.declared.fact.Fact.{Fact}
 use Rattle.esto_docmodel.specs.DocumentFacts.{DocFact, root, field, item, value, below, flat}
-use Rattle.esto_docmodel.specs.Encodings.{size, entering, belows, holding, facts_from, every, has_term, has_text, is_among_kind, is_kept, kept, kept_of, end}
+use Rattle.esto_docmodel.specs.Encodings.{size, entering, belows, holding, facts_from, every, has_any, has_term, has_text, is_among_kind, is_kept, kept, kept_of, end}
 use Rattle.esto_docmodel.specs.Encodings.{step_atoms, atoms, used}
 use Rattle.esto_docmodel.specs.Patterns.{done, group}
 use Rattle.esto_docmodel.specs.Forests.{Label, name, place, Forest, none, kid, Node, node}
@@ -64,6 +64,16 @@ pub has_constant : (texts : KeptTexts) (text : List ℕ) → has_term texts (Con
 has_constant Every text = refl
 has_constant (These texts) text = ap (is_among_kind texts) (outs-Const text)
 
+-- where facts of no text are kept, none is kept of what a node holds
+pub none_held : (relations : Kept) (text : Option (List ℕ)) (n : ℕ) → has_any relations.value ≡ false → kept relations (holding text n) ≡ []
+none_held relations None n lacks = refl
+none_held relations (Some text) n lacks =
+    kept_none relations (value (Plain n) (Const text)) (has_constant relations.value text ∙ has_none relations.value lacks) where
+  has_none : (texts : KeptTexts) → has_any texts ≡ false → has_text texts text ≡ false
+  has_none Every e = cc e
+  has_none (These []) e = refl
+  has_none (These (own ∷ more)) e = cc e
+
 pub belows_all : (relations : Kept) (above : List ℕ) (n : ℕ) → relations.below ≡ true → kept relations (belows above n) ≡ map (flat relations.base) (belows above n)
 belows_all relations [] n is = refl
 belows_all relations (parent ∷ above) n is =
@@ -111,7 +121,7 @@ kid_count n all t rest l known = omega (arith, known)
 
 -- the facts of a node, kind by kind, after those of the nodes above
 module _ (relations : Kept) (n : ℕ) (above : List ℕ) where
-  node_rest : (t : Node) → kept relations (belows (turned above) n) ++ kept relations (holding t.content n ++ facts_from (n ∷ turned above) (suc n) t.inside)
+  pub node_rest : (t : Node) → kept relations (belows (turned above) n) ++ kept relations (holding t.content n ++ facts_from (n ∷ turned above) (suc n) t.inside)
       ≡ kept relations (node_facts (turned above) n t)
   node_rest t = sym (kept-append relations (belows (turned above) n) (holding t.content n ++ facts_from (n ∷ turned above) (suc n) t.inside))
 
@@ -235,10 +245,10 @@ module _ (v next : ℕ) (path : List Step) (last later : ℕ) (numbers : ◌≡�
 
 -- the facts of the first of the fields or items that are left, and those of the others
 module _ (relations : Kept) (number next later : ℕ) (above inner : List ℕ) (is_inner : inner ≡ above ++ number ∷ []) where
-  inside_turned : number ∷ turned above ≡ turned inner
+  pub inside_turned : number ∷ turned above ≡ turned inner
   inside_turned = sym (ap turned is_inner ∙ turned_last above number)
 
-  first_facts : (l : Label) (t : Node) (rest : Forest) → later ≡ suc next + size t.inside
+  pub first_facts : (l : Label) (t : Node) (rest : Forest) → later ≡ suc next + size t.inside
       → kept relations (facts_from (number ∷ turned above) next (kid l t.content t.inside rest))
       ≡ (kept relations (entering (number ∷ turned above) l next ∷ []) ++ kept relations (node_facts (turned inner) next t))
       ++ kept relations (facts_from (number ∷ turned above) later rest)

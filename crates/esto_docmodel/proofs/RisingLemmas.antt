@@ -57,14 +57,14 @@ less_of Less b h = (refl, h)
 less_of Equal b h = absurd (false≢true h)
 less_of Greater b h = absurd (false≢true h)
 
-rising_fields : (fs : List (FieldOf Tree)) → Rise fs → AreInside (named_row (map shaped_field fs)) → IsRising (named_row (map shaped_field fs))
+pub rising_fields : (fs : List (FieldOf Tree)) → Rise fs → AreInside (named_row (map shaped_field fs)) → IsRising (named_row (map shaped_field fs))
 rising_fields [] rise inside = tt
 rising_fields (f ∷ []) rise inside = (tt, (inside.0, tt))
 rising_fields (f ∷ g ∷ fs) rise inside =
     let both = less_of (slice_cmp nat_cmp f.name g.name) (rise_from g.name (names_of fs)) rise in
     (both.0, (inside.0, rising_fields (g ∷ fs) both.1 inside.1))
 
-rising_items : (ts : List Tree) → AreInside (row (map shape ts)) → IsRising (row (map shape ts))
+pub rising_items : (ts : List Tree) → AreInside (row (map shape ts)) → IsRising (row (map shape ts))
 rising_items [] inside = tt
 rising_items (t ∷ []) inside = (tt, (inside.0, tt))
 rising_items (t ∷ u ∷ ts) inside = (tt, (inside.0, rising_items (u ∷ ts) inside.1))

@@ -52,6 +52,12 @@ facts_of base first forest = map (flat base) (facts_from [] first forest)
 abbrev pub every : ℕ → Kept
 every base = record { base = base; root = true; field = Every; item = true; value = Every; below = true }
 
+-- Whether facts of some text are kept.
+abbrev pub has_any : KeptTexts → Bool
+has_any Every = true
+has_any (These []) = false
+has_any (These (text ∷ more)) = true
+
 -- Whether facts of the text are kept.
 abbrev pub has_text : KeptTexts → List ℕ → Bool
 has_text Every text = true

@@ -1,7 +1,7 @@
 //! Which facts of documents are kept.
 ghost use Rattle.std.specs.Prelude.{◌≡◌, bytes_eq};
 ghost use Rattle.std.specs.List.{list_any};
-ghost use Rattle.esto_docmodel.specs.Encodings.{has_text};
+ghost use Rattle.esto_docmodel.specs.Encodings.{has_any, has_text};
 
 use esto_term::{List, Text};
 
@@ -41,6 +41,16 @@ fn is_one_of(texts: &[Text], text: &str) -> bool
 }
 
 impl KeptTexts {
+    /// Whether facts of some text are kept.
+    pub fn has_any(&self) -> bool
+        ensures { result ≡ has_any self.now }
+    {
+        match self {
+            KeptTexts::Every => true,
+            KeptTexts::These(texts) => !texts.is_empty(),
+        }
+    }
+
     /// Whether facts of the text are kept.
     pub fn has(&self, text: &str) -> bool
         ensures { result ≡ has_text self.now text.now }
