@@ -69,10 +69,10 @@ pub none_held : (relations : Kept) (text : Option (List ℕ)) (n : ℕ) → has_
 none_held relations None n lacks = refl
 none_held relations (Some text) n lacks =
     kept_none relations (value (Plain n) (Const text)) (has_constant relations.value text ∙ has_none relations.value lacks) where
-  has_none : (texts : KeptTexts) → has_any texts ≡ false → has_text texts text ≡ false
-  has_none Every e = cc e
-  has_none (These []) e = refl
-  has_none (These (own ∷ more)) e = cc e
+      has_none : (texts : KeptTexts) → has_any texts ≡ false → has_text texts text ≡ false
+      has_none Every e = cc e
+      has_none (These []) e = refl
+      has_none (These (own ∷ more)) e = cc e
 
 pub belows_all : (relations : Kept) (above : List ℕ) (n : ℕ) → relations.below ≡ true → kept relations (belows above n) ≡ map (flat relations.base) (belows above n)
 belows_all relations [] n is = refl
