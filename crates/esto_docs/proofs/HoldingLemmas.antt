@@ -27,7 +27,7 @@ use Rattle.esto_docs.proofs.FieldLemmas.{node_of, node_string, node_object, node
 
 -- ---- texts
 
-node_nothing : shape Nothing ≡ node None none
+pub node_nothing : shape Nothing ≡ node None none
 node_nothing = ap shape (sym rolls-Nothing) ∙ fold-roll-Tree Node shape_step Tree-F.Nothing
 
 number_content : (n : Num) → is_some (value_node (number n)).content ≡ is_whole n
@@ -145,7 +145,7 @@ items_unnamed k (t ∷ ts) found (inr h) = items_unnamed k ts found h
 nothing_inside : (n : Node) (content : Option (List ℕ)) → n ≡ node content none → n.inside ≡ none
 nothing_inside n content e = ap (λ (x : Node). x.inside) e
 
-number_inside : (n : Num) → (value_node (number n)).inside ≡ none
+pub number_inside : (n : Num) → (value_node (number n)).inside ≡ none
 number_inside (unsigned n) = nothing_inside _ _ (node_string _)
 number_inside (negative z) = nothing_inside _ _ (node_string _)
 number_inside (float x) = nothing_inside _ _ node_nothing

@@ -16,5 +16,6 @@ pub mod PlaceLemmas
 pub mod GroupLemmas
 pub mod WriteLemmas
 pub mod EncodingLemmas
+pub mod FactLemmas
 pub mod StoreLemmas
 pub mod CodedStoreLemmas

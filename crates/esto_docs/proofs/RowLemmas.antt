@@ -1,6 +1,6 @@
 -- The rows of documents, and those of written ones.
 use Rattle.std.proofs.Common.{◌≡◌, ◌<◌, ◌⊎◌, ◌↔◌, ◌∙◌, ◌++◌, ◌∷◌, [], ℕ, List, Some, length, map, get_or, true, false, inl, inr, refl, sym, ap, subst, arith}
-use Rattle.std.specs.Prelude.{Contains, All, Ok}
+use Rattle.std.specs.Prelude.{Contains, All}
 use Rattle.std.proofs.lemmas.List.{same_lists, get_or_default}
 use Rattle.std.proofs.lemmas.List.Elements.{All-contains, Contains-append_cases, Contains-append_left, Contains-append_right}
 use Rattle.esto_term.proofs.ListLemmas.{Contains-rest, Contains-cases, Contains-map, Contains-map_from}
@@ -15,7 +15,6 @@ use Rattle.esto_docs.specs.Trees.{tree_of}
 use Rattle.esto_docs.specs.Rows.{Row, text_by_kind, text_in, row_map, IsRowOf, Gains}
 use Rattle.esto_docs.specs.Documents.{document}
 use Rattle.esto_docs.specs.Files.{file_trees, is_bad, is_blank, json_of, trees_of_line}
-use Rattle.esto_docs.specs.Parsing.{ParsesTree}
 use Rattle.esto_docs.specs.Laws.{TreesJoin, RowsJoin}
 use Rattle.esto_docmodel.specs.declared.file.Layout.TheVariants.{Lines}
 use Rattle.esto_lines.specs.Lines.{with_feed}
@@ -97,12 +96,6 @@ gains_append P old more are row = (
 -- A line that is a value has its tree alone.
 pub line_value : (line : List ℕ) (d : Data) → is_blank line ≡ false → json_of line ≡ Some d → (is_bad line ≡ false) × (trees_of_line line ≡ tree_of d ∷ [])
 line_value line d blank json = rw (blank, json) (refl, refl)
-
-pub line_tree : (line : List ℕ) (tree : Tree) → is_blank line ≡ false → ParsesTree line (Ok tree)
-    → (is_bad line ≡ false) × (trees_of_line line ≡ tree ∷ [])
-line_tree line tree blank (d, json, is) =
-    let read = line_value line d blank json in
-    (read.0, read.1 ∙ ap (λ (it : Tree). it ∷ []) (sym is))
 
 pub blank_line : (line : List ℕ) → is_blank line ≡ true → (is_bad line ≡ false) × (trees_of_line line ≡ [])
 blank_line line blank = rw blank (refl, refl)

@@ -45,3 +45,13 @@ pub rises : (es : List Entry) (e : Entry) (more : List Entry) → IsStrictlySort
     → Rise (fields_of (members_view (es ++ e ∷ [])))
 rises [] e more h = refl
 rises (f ∷ es) e more h = rises_from f es e more h
+
+all_rise_from : (first : Entry) (es : List Entry) → IsStrictlySortedBy string_cmp (keys_of (first ∷ es))
+    → rise_from (string_bytes first.0) (names_of (fields_of (members_view es))) ≡ true
+unfolding IsStrictlySortedBy
+all_rise_from first [] h = refl
+all_rise_from first (e ∷ es) h = rw h.0.0 (all_rise_from e es h.1)
+
+pub all_rise : (es : List Entry) → IsStrictlySortedBy string_cmp (keys_of es) → Rise (fields_of (members_view es))
+all_rise [] h = refl
+all_rise (e ∷ es) h = all_rise_from e es h

@@ -1,10 +1,12 @@
 -- The facts of the documents of a JSON file.
-use Rattle.std.specs.Prelude.{◌≡◌, ◌+◌, ℕ, false, true, List, Option, Some, None, Result, Ok, Err}
+use Rattle.std.specs.Prelude.{◌≡◌, ◌+◌, ℕ, suc, false, true, List, Option, Some, None, Result, Ok, Err}
 use Rattle.esto_term.specs.declared.term.Term.{Term}
 use Rattle.esto_semantics.specs.declared.fact.Fact.{Fact}
-use Rattle.esto_docmodel.specs.Encodings.{kept_of, size}
-use Rattle.esto_docmodel.specs.Putting.{PutsDocuments}
-use Rattle.esto_docmodel.specs.Rising.{AreRising}
+use Rattle.esto_docmodel.specs.Encodings.{facts_from, kept, kept_of, size}
+use Rattle.esto_docmodel.specs.Forests.{Forest, Node}
+use Rattle.esto_docmodel.specs.Gaining.{Gains}
+use Rattle.esto_docmodel.specs.Putting.{PutsDocuments, node_facts}
+use Rattle.esto_docmodel.specs.Rising.{AreRising, IsRising}
 use Rattle.esto_docmodel.specs.Shapes.{documents}
 use Rattle.esto_docmodel.specs.declared.encode.Encoded.{Encoded}
 use Rattle.esto_docmodel.specs.declared.kept.Kept.{Kept}
@@ -45,3 +47,18 @@ EncodesLine Holds arities relations line first old new (Ok next) =
     (is_bad line ≡ false) × PutsDocuments Holds arities relations (trees_of_line line) first next old new
 EncodesLine Holds arities relations line first old new (Err parse.BadJson) = is_bad line ≡ true
 EncodesLine Holds arities relations line first old new (Err parse.OutOfMemory) = Unit {0}
+
+-- The sink has gained the facts of this row, as far as they are kept; it stands below these nodes, the innermost first, its nodes are numbered from `first`
+-- on, and `later` is the first number that is no node's. Its names rise.
+pub record PutsRow {S : Type 0} (Holds : S → List (Fact Term) → Type 0) (arities : S → Option (List ℕ)) (relations : Kept) (above : List ℕ) (first : ℕ)
+    (row : Forest) (later : ℕ) (old new : S) : Type 0 where
+  pub facts : Gains Holds arities (kept relations (facts_from above first row)) old new
+  pub next : later ≡ first + size row
+  pub rising : IsRising row
+
+-- The same of the node of this number, below these nodes, and of all that stands inside it, but for how it is entered.
+pub record PutsNode {S : Type 0} (Holds : S → List (Fact Term) → Type 0) (arities : S → Option (List ℕ)) (relations : Kept) (above : List ℕ) (number : ℕ)
+    (node : Node) (later : ℕ) (old new : S) : Type 0 where
+  pub facts : Gains Holds arities (kept relations (node_facts above number node)) old new
+  pub next : later ≡ suc number + size node.inside
+  pub rising : IsRising node.inside

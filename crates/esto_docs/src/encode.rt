@@ -1,17 +1,16 @@
 //! The facts of the documents of JSON files.
-ghost use Rattle.std.specs.Prelude.{◌∷◌, [], IfOk};
-ghost use Rattle.serde_json.specs.View.{view, items_view};
+ghost use Rattle.std.specs.Prelude.{IfOk};
+ghost use Rattle.serde_json.specs.View.{items_view};
 ghost use Rattle.esto_docmodel.specs.Gaining.{HaveRoom};
 ghost use Rattle.esto_docmodel.specs.Putting.{PutsDocuments};
 ghost use Rattle.esto_lines.specs.Lines.{lines_of};
 ghost use Rattle.esto_docs.specs.Encoding.{EncodesLine, GivesEncoded, GivesNext};
 ghost use Rattle.esto_docs.specs.Files.{json_of, lines_fault, trees_of_lines, array_fault, trees_of_array, trees_fault, file_trees};
-ghost use Rattle.esto_docs.specs.Trees.{tree_of, trees_of};
+ghost use Rattle.esto_docs.specs.Trees.{trees_of};
 
-use crate::from_json::tree_of;
-use crate::parse::{ParseError, is_blank, parse_array};
-use crate::trees::parse_tree;
-use esto_docmodel::{Encoded, FactSink, Kept, Layout, put_document};
+use crate::facts::put_document;
+use crate::parse::{ParseError, is_blank, parse, parse_array};
+use esto_docmodel::{Encoded, FactSink, Kept, Layout};
 use esto_lines::{cut_line, fault};
 use esto_ports::{FileError, FileKind};
 use esto_term::{List, OutOfMemory};
@@ -32,14 +31,14 @@ fn encode_line<S: FactSink>(
     if is_blank(line) {
         return Ok(first);
     }
-    let tree = parse_tree(alloc, line)?;
-    match put_document(alloc, sink, relations, &tree, first) {
+    let value = parse(alloc, line)?;
+    match put_document(alloc, sink, relations, &value, first) {
         Ok(next) => Ok(next),
         Err(_) => Err(ParseError::OutOfMemory),
     }
 }
 
-// Puts the facts of a file of lines. A line's tree is let go once its facts are put.
+// Puts the facts of a file of lines. A line's value is let go once its facts are put.
 fn encode_lines<S: FactSink>(
     alloc: Global,
     bytes: &[u8],
@@ -68,22 +67,6 @@ fn encode_lines<S: FactSink>(
     Ok(next)
 }
 
-// Puts the facts of a JSON value.
-fn encode_value<S: FactSink>(
-    alloc: Global,
-    value: &Value,
-    relations: &Kept,
-    sink: &mut S,
-    first: u64,
-) -> Result<u64, OutOfMemory>
-    requires { HaveRoom (S.arities sink.old) relations.now.base }
-    ensures { IfOk result (λ next. PutsDocuments S.Holds S.arities relations.now
-        (tree_of (view value.now) ∷ []) first next sink.old sink.new) }
-{
-    let tree = tree_of(alloc, value)?;
-    put_document(alloc, sink, relations, &tree, first)
-}
-
 // Puts the facts of JSON values.
 fn encode_items<S: FactSink>(
     alloc: Global,
@@ -98,7 +81,7 @@ fn encode_items<S: FactSink>(
 {
     let mut next = first;
     'items: for item in items {
-        next = encode_value(alloc, item, relations, sink, next)?;
+        next = put_document(alloc, sink, relations, item, next)?;
     }
     Ok(next)
 }

@@ -6,6 +6,7 @@
 mod coded_store;
 mod document;
 mod encode;
+mod facts;
 mod filling;
 mod from_json;
 mod holding;

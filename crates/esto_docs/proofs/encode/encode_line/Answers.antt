@@ -1,8 +1,9 @@
 use Rattle.std.proofs.Common.{◌∙◌, List, sym, subst}
+use Rattle.serde_json.specs.View.{view}
 use Rattle.esto_docmodel.specs.Putting.{PutsDocuments}
 use Rattle.esto_docmodel.specs.declared.tree.Tree.{Tree}
 use Rattle.esto_docmodel.proofs.GainLemmas.{puts_none}
-use Rattle.esto_docs.proofs.RowLemmas.{blank_line, line_tree}
+use Rattle.esto_docs.proofs.RowLemmas.{blank_line, line_value}
 use Rattle.esto_docs.proofs.encode.encode_line.Goals as goal
 
 pub returns-then-is_blank : goal.returns-then-is_blank
@@ -15,7 +16,7 @@ returns-then-is_blank g c =
 
 pub returns-in-Ok : goal.returns-in-Ok
 returns-in-Ok g c =
-    let read = line_tree c.args.line.now c.in_ok-tree.tree (sym c.is_blank.ensures ∙ c.if-is_blank.false) c.in_ok-tree.ensures in (
+    let read = line_value c.args.line.now (view c.in_ok-value.value) (sym c.is_blank.ensures ∙ c.if-is_blank.false) c.in_ok-value.ensures in (
       read.0,
       subst (λ (trees : List Tree). PutsDocuments g.S.FactSink.Holds g.S.FactSink.arities c.args.relations.now trees c.args.first c.in-Ok.next c.args.sink.now
           c.put_document.new.sink) (sym read.1) c.in-Ok.ensures,
