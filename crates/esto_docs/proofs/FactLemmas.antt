@@ -2,7 +2,7 @@
 use Rattle.std.proofs.Common.{◌≡◌, ℕ, Bool, suc, ◌+◌, List, [], ◌∷◌, ◌++◌, map, Option, Some, None, String, Vec, BTreeMap, refl, sym, ap, ◌∙◌, subst, arith, rules, string_bytes}
 use Rattle.std.proofs.lemmas.Option.{none-some}
 use Rattle.std.specs.Fmt.{signed_decimal}
-use Rattle.std.specs.Prelude.{ℤ, decimal, option_map, Result, Ok, Err, IfOk, OnOk}
+use Rattle.std.specs.Prelude.{ℤ, decimal, option_map, Result, Ok, IfOk, OnOk}
 use Rattle.std.specs.declared.alloc.Global.{Global}
 use Rattle.serde_json.specs.Data.{Num, unsigned, negative, float, Data, null, boolean, number, string, array, object}
 use Rattle.serde_json.specs.Find.{as_i64, as_u64}
@@ -12,13 +12,13 @@ use Rattle.serde_json.specs.declared.value.Value.{Value, the_lemmas}
 use Rattle.serde_json.specs.declared.value.Value as json
 use Rattle.serde_json.proofs.Views.{view-Array, view-Object}
 use Rattle.esto_term.specs.declared.term.Term.{Term}
-use Rattle.esto_term.specs.declared.term.Term.TheVariants.{Const, Plain}
+use Rattle.esto_term.specs.declared.term.Term.TheVariants.{Plain}
 use Rattle.esto_semantics.specs.declared.fact.Fact.{Fact}
-use Rattle.esto_docmodel.specs.DocumentFacts.{DocFact, root, value}
+use Rattle.esto_docmodel.specs.DocumentFacts.{root}
 use Rattle.esto_docmodel.specs.Encodings.{belows, entering, facts_from, holding, kept, size}
 use Rattle.esto_docmodel.specs.Forests.{Label, Forest, none, kid, Node, node}
 use Rattle.esto_docmodel.specs.Gaining.{Gains}
-use Rattle.esto_docmodel.specs.Putting.{PutsDocuments, node_facts, turned}
+use Rattle.esto_docmodel.specs.Putting.{PutsDocuments, turned}
 use Rattle.esto_docmodel.specs.Rising.{IsRising, AreInside}
 use Rattle.esto_docmodel.specs.Shapes.{shape, row, named_row, shaped_field}
 use Rattle.esto_docmodel.specs.declared.kept.Kept.{Kept}

@@ -1,4 +1,4 @@
-//! The facts of a JSON value, as far as they are kept, put as the value is walked: no tree of it is made.
+//! The facts of the document that a JSON value is, put as the value is walked, with no tree of it.
 ghost use Rattle.std.specs.Prelude.{◌≡◌, ◌≤◌, ◌+◌, [], ◌∷◌, map, Some, decimal, IfOk, OnOk};
 ghost use Rattle.std.specs.Fmt.{signed_decimal};
 ghost use Rattle.serde_json.specs.Data.{number as number_data};
@@ -11,8 +11,9 @@ ghost use Rattle.esto_docs.specs.Encoding.{PutsNode, PutsRow};
 ghost use Rattle.esto_docs.specs.Filling.{value_node};
 ghost use Rattle.esto_docs.specs.Trees.{tree_of, trees_of, fields_of};
 
-use esto_docmodel::{FactSink, Kept, LAST_BASE, after, put_belows, put_field, put_item, put_root};
-use esto_docmodel::put_value;
+use esto_docmodel::{
+    FactSink, Kept, LAST_BASE, after, put_belows, put_field, put_item, put_root, put_value,
+};
 use esto_term::{OutOfMemory, Values};
 use serde_json::{Map, Number, Value};
 use std::alloc::Global;
@@ -103,7 +104,7 @@ fn put_content<S: FactSink>(
 }
 
 // Puts the facts of the node of a value and of all that stands inside it, but for how it is entered: the first number that
-// is not used. The nodes above are those that were there.
+// is not used. The nodes above, the outermost first, are afterwards what they were.
 #[cycle(put)]
 fn put_node<S: FactSink>(
     alloc: Global,
@@ -144,16 +145,24 @@ fn put_inside<S: FactSink>(
         next sink.old sink.new) }
 {
     match value {
-        Value::Array(items) => {
-            put_items(alloc, sink, relations, items.as_slice(), above, number, first)
-        }
-        Value::Object(members) => {
-            put_members(alloc, sink, relations, members, above, number, first)
-        }
         Value::Null => Ok(first),
         Value::Bool(_) => Ok(first),
         Value::Number(_) => Ok(first),
         Value::String(_) => Ok(first),
+        Value::Array(items) => {
+            put_items(
+                alloc,
+                sink,
+                relations,
+                items.as_slice(),
+                above,
+                number,
+                first,
+            )
+        }
+        Value::Object(members) => {
+            put_members(alloc, sink, relations, members, above, number, first)
+        }
     }
 }
 
@@ -234,7 +243,9 @@ fn put_whole<S: FactSink>(
     put_node(alloc, sink, relations, value, &mut above, first)
 }
 
-/// Puts the facts of the document that a JSON value is, as `put_document` of the model puts those of its tree.
+/// Puts the facts of the document that a JSON value is into the sink, as `put_document` of `esto_docmodel` puts those of
+/// its tree: the first number that is not used. OutOfMemory comes too where a relation or a node has no number of 64 bits.
+/// After an error some of the facts may be put.
 pub fn put_document<S: FactSink>(
     alloc: Global,
     sink: &mut S,

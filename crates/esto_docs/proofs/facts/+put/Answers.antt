@@ -1,4 +1,4 @@
-use Rattle.std.proofs.Common.{◌≡◌, ◌+◌, ◌∷◌, [], ◌∙◌, List, map, take, drop, take_at, refl, sym, ap, arith}
+use Rattle.std.proofs.Common.{◌+◌, ◌∷◌, [], ◌∙◌, List, map, take, drop, take_at, refl, sym, ap, arith}
 use Rattle.std.proofs.lemmas.List.{drop_all}
 use Rattle.std.proofs.lemmas.Result.{IfOk-weaker}
 use Rattle.serde_json.specs.View.{view, items_view, members_view}
@@ -6,14 +6,13 @@ use Rattle.serde_json.specs.declared.value.Value.{Value}
 use Rattle.serde_json.proofs.Views.{Entry}
 use Rattle.esto_term.proofs.PlaceLemmas.{drop-item}
 use Rattle.esto_docmodel.specs.Forests.{name, place}
-use Rattle.esto_docmodel.specs.Putting.{turned}
 use Rattle.esto_docmodel.specs.Shapes.{shape, row, named_row, shaped_field}
 use Rattle.esto_docmodel.proofs.GainLemmas.{room_stays}
 use Rattle.esto_docmodel.proofs.RisingLemmas.{rising_fields, rising_items}
 use Rattle.esto_docs.specs.Filling.{value_node}
 use Rattle.esto_docs.specs.Trees.{trees_of, fields_of}
-use Rattle.esto_docs.proofs.FactLemmas.{inside_puts, items_node, members_node, node_puts, no_row, turns_start, turns_more, turns_end}
-use Rattle.esto_docs.proofs.FactLemmas.{bare, bool_node, null_node, number_bare, string_node}
+use Rattle.esto_docs.proofs.FactLemmas.{bare, bool_node, items_node, members_node, null_node, number_bare, string_node}
+use Rattle.esto_docs.proofs.FactLemmas.{inside_puts, no_row, node_puts, turns_end, turns_more, turns_start}
 use Rattle.esto_docs.proofs.TreeLemmas.{all_rise}
 use Rattle.esto_docs.proofs.facts.+put.Goals as goal
 
