@@ -121,7 +121,8 @@ kid_count n all t rest l known = omega (arith, known)
 
 -- the facts of a node, kind by kind, after those of the nodes above
 module _ (relations : Kept) (n : ℕ) (above : List ℕ) where
-  pub node_rest : (t : Node) → kept relations (belows (turned above) n) ++ kept relations (holding t.content n ++ facts_from (n ∷ turned above) (suc n) t.inside)
+  pub node_rest : (t : Node)
+      → kept relations (belows (turned above) n) ++ kept relations (holding t.content n ++ facts_from (n ∷ turned above) (suc n) t.inside)
       ≡ kept relations (node_facts (turned above) n t)
   node_rest t = sym (kept-append relations (belows (turned above) n) (holding t.content n ++ facts_from (n ∷ turned above) (suc n) t.inside))
 
@@ -245,7 +246,7 @@ module _ (v next : ℕ) (path : List Step) (last later : ℕ) (numbers : ◌≡�
 
 -- the facts of the first of the fields or items that are left, and those of the others
 module _ (relations : Kept) (number next later : ℕ) (above inner : List ℕ) (is_inner : inner ≡ above ++ number ∷ []) where
-  pub inside_turned : number ∷ turned above ≡ turned inner
+  inside_turned : number ∷ turned above ≡ turned inner
   inside_turned = sym (ap turned is_inner ∙ turned_last above number)
 
   pub first_facts : (l : Label) (t : Node) (rest : Forest) → later ≡ suc next + size t.inside

@@ -48,8 +48,8 @@ EncodesLine Holds arities relations line first old new (Ok next) =
 EncodesLine Holds arities relations line first old new (Err parse.BadJson) = is_bad line ≡ true
 EncodesLine Holds arities relations line first old new (Err parse.OutOfMemory) = Unit {0}
 
--- The sink has gained the facts of this row, as far as they are kept; it stands below these nodes, the innermost first, its nodes are numbered from `first`
--- on, and `later` is the first number that is no node's. Its names rise.
+-- The sink has gained the facts of this row, as far as they are kept. The row stands below these nodes, the innermost first; its nodes are numbered from
+-- `first` on, and `later` is the first number that is no node's. Its names rise.
 pub record PutsRow {S : Type 0} (Holds : S → List (Fact Term) → Type 0) (arities : S → Option (List ℕ)) (relations : Kept) (above : List ℕ) (first : ℕ)
     (row : Forest) (later : ℕ) (old new : S) : Type 0 where
   pub facts : Gains Holds arities (kept relations (facts_from above first row)) old new

@@ -76,7 +76,8 @@ put_members-put_field-requires-clause-room g t c =
 
 pub put_items-put_item-requires-clause-room : goal.put_items-put_item-requires-clause-room
 put_items-put_item-requires-clause-room g t c =
-    room_stays g.S.FactSink.Holds g.S.FactSink.arities c.args.relations.now.base c.args.sink.now c.items.sink c.items.invariant.1.leads.same c.requires.room
+    room_stays g.S.FactSink.Holds g.S.FactSink.arities c.args.relations.now.base c.args.sink.now c.items.sink c.items.invariant.1.leads.same
+    c.requires.room
 
 pub put_members-members-preserved : goal.put_members-members-preserved
 put_members-members-preserved g t c = (
@@ -93,7 +94,8 @@ put_items-items-preserved g t c = (
   turns_more g.S.FactSink.Holds g.S.FactSink.arities c.args.relations.now c.args.above.now _ c.args.number c.args.first c.items.next _ _ _
       (row (map shape (trees_of (items_view (drop (c.items.item-index + 1) c.args.items.now))))) place (value_node (view c.item-item.result)) _ _ _ _
       c.items.invariant.0
-      (ap (λ (vs : List Value). row (map shape (trees_of (items_view vs)))) (drop-item c.args.items.now c.items.item-index _ c.items-test.true c.item-item.is))
+      (ap (λ (vs : List Value). row (map shape (trees_of (items_view vs))))
+      (drop-item c.args.items.now c.items.item-index _ c.items-test.true c.item-item.is))
       c.in_ok-put_item.ensures c.in_ok-next.ensures.puts c.items.invariant.1,
 )
 
@@ -117,5 +119,6 @@ put_members-returns-clause-puts g t c =
 pub put_items-returns-clause-puts : goal.put_items-returns-clause-puts
 put_items-returns-clause-puts g t c =
     turns_end g.S.FactSink.Holds g.S.FactSink.arities c.args.relations.now _ _ c.items.next _ _ _ _
-    (ap (λ (vs : List Value). row (map shape (trees_of (items_view vs)))) (drop_all c.items.item-index c.args.items.now (omega (arith, c.items-test.false))))
+    (ap (λ (vs : List Value). row (map shape (trees_of (items_view vs))))
+    (drop_all c.items.item-index c.args.items.now (omega (arith, c.items-test.false))))
     (rising_items (trees_of (items_view c.args.items.now))) c.items.invariant.1
