@@ -9,9 +9,9 @@ use Rattle.esto_semantics.specs.declared.fact.Fact.{Fact}
 use Rattle.esto_term.specs.declared.term.Term.{Term}
 use Rattle.esto_term.proofs.ListLemmas.{Contains-nil, Contains-head, Contains-rest, Contains-cases, Contains-map_from, map_at-from}
 use Rattle.esto_term.proofs.PlaceLemmas.{item_at}
-use Rattle.esto_coded.specs.Coded.{StandFor, arities_of, rows_in}
+use Rattle.esto_coded.specs.Coded.{StandFor, StandInOrder, arities_of, rows_in}
 use Rattle.esto_coded.specs.Relations.{AreWhole, coded_of, no_rows}
-use Rattle.esto_coded.proofs.StandLemmas.{IsRowFor, stand_put}
+use Rattle.esto_coded.proofs.StandLemmas.{IsFactRow, IsRowFor, order_put, stand_put}
 
 -- ---- relations without rows
 
@@ -40,6 +40,11 @@ none_stand texts arities relations are = record {
   only = λ relation codes inside. absurd (Contains-nil codes (subst (λ them. Contains them codes)
       (ap (λ them. rows_in (map (λ (stored : StoredRows). stored.rows) them) relation) are ∙ none_held arities relation) inside));
 }
+
+pub none_ordered : (texts : List (List ℕ)) (arities : List ℕ) (relations : List StoredRows) → relations ≡ map no_rows arities
+    → StandInOrder (coded_of texts relations) []
+none_ordered texts arities relations are relation = subst (AllZip (IsFactRow texts) [])
+    (sym (ap (λ them. rows_in (map (λ (stored : StoredRows). stored.rows) them) relation) are ∙ none_held arities relation)) tt
 
 -- ---- a relation and its number
 
@@ -112,4 +117,13 @@ module _ (own new : StoredRows) where
       → StandFor (coded_of more (set relations number new)) (facts ++ others)
   stand_set texts more relations number added grown at are facts others codes stand =
       stand_put (coded_of texts relations) (coded_of more (set relations number new)) number added grown (rows_here relations number added at are)
+      (λ other apart. rows_others relations number other apart) facts others codes stand
+
+  -- and so in order
+  pub order_set : (texts more : List (List ℕ)) (relations : List StoredRows) (number : ℕ) (added : List (List ℕ)) → Grows texts more
+      → slice_get relations number ≡ Some own → new.rows.rows ≡ own.rows.rows ++ added → (facts others : List (Fact Term))
+      → AllZip (IsRowFor more number) others added → StandInOrder (coded_of texts relations) facts
+      → StandInOrder (coded_of more (set relations number new)) (facts ++ others)
+  order_set texts more relations number added grown at are facts others codes stand =
+      order_put (coded_of texts relations) (coded_of more (set relations number new)) number added grown (rows_here relations number added at are)
       (λ other apart. rows_others relations number other apart) facts others codes stand

@@ -8,10 +8,10 @@ use Rattle.esto_columns.specs.declared.stored.StoredRows.{StoredRows}
 use Rattle.esto_docmodel.specs.Gaining.{Gains, fact_over}
 use Rattle.esto_term.specs.declared.term.Term.{Term}
 use Rattle.esto_term.specs.declared.term.Term.TheVariants.{Const, Plain}
-use Rattle.esto_coded.specs.Coded.{AreCodesOf, Coded, IsCodeOf, StandFor, arities_of}
+use Rattle.esto_coded.specs.Coded.{AreCodesOf, Coded, IsCodeOf, StandInOrder, arities_of}
 use Rattle.esto_coded.specs.Relations.{PutsRow, coded_of}
 use Rattle.esto_coded.specs.declared.coded.TheConstants.{FIRST_NODE}
-use Rattle.esto_coded.proofs.StandLemmas.{stand_grow}
+use Rattle.esto_coded.proofs.StandLemmas.{order_grow}
 
 -- the code of a node, and that of a text
 pub node_code : (texts : List (List ℕ)) (node code : ℕ) → code ≡ FIRST_NODE + node → IsCodeOf texts (Plain node) code
@@ -24,15 +24,15 @@ text_code texts text code is = inl (text, refl, is)
 module _ {E : Type 0} (start : Coded) (texts more : List (List ℕ)) (old new : List StoredRows) (number : ℕ) (terms : List Term) (codes : List ℕ)
     (result : Result (Unit {0}) E) (is : coded_of texts old ≡ start) where
   pub text_row : Grows texts more → AreCodesOf more terms codes → OnOk result (PutsRow number codes old new)
-      → OnOk result (Gains StandFor (λ (it : Coded). Some (arities_of it)) (fact_over number terms ∷ []) start (coded_of more new))
+      → OnOk result (Gains StandInOrder (λ (it : Coded). Some (arities_of it)) (fact_over number terms ∷ []) start (coded_of more new))
   text_row grown are = on_ok_weaker result (λ puts. subst
-      (λ it. Gains StandFor (λ (it : Coded). Some (arities_of it)) (fact_over number terms ∷ []) it (coded_of more new)) is (record {
-        held = λ before stand. puts.facts more terms are before (stand_grow (coded_of texts old) (coded_of more old) before grown refl stand);
+      (λ it. Gains StandInOrder (λ (it : Coded). Some (arities_of it)) (fact_over number terms ∷ []) it (coded_of more new)) is (record {
+        held = λ before stand. puts.facts more terms are before (order_grow (coded_of texts old) (coded_of more old) before grown refl stand);
         same = ap Some puts.arities;
       }))
 
 -- and so where no text comes to those that have codes
 pub node_row : {E : Type 0} (start : Coded) (texts : List (List ℕ)) (old new : List StoredRows) (number : ℕ) (terms : List Term) (codes : List ℕ)
     (result : Result (Unit {0}) E) → coded_of texts old ≡ start → AreCodesOf texts terms codes → OnOk result (PutsRow number codes old new)
-    → OnOk result (Gains StandFor (λ (it : Coded). Some (arities_of it)) (fact_over number terms ∷ []) start (coded_of texts new))
+    → OnOk result (Gains StandInOrder (λ (it : Coded). Some (arities_of it)) (fact_over number terms ∷ []) start (coded_of texts new))
 node_row start texts old new number terms codes result is = text_row start texts texts old new number terms codes result is ([], sym (append-nil texts))

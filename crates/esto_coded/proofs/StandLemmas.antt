@@ -1,21 +1,22 @@
 -- Codes that stand for terms, and rows of codes that stand for facts.
 use Rattle.std.proofs.Common.{◌≡◌, ◌≢◌, ◌⊎◌, inl, inr, ℕ, ◌+◌, ◌≤◌, ◌<◌, List, [], ◌∷◌, ◌++◌, map, length, get_or, take, Some, slice_get, Contains, refl, sym, ap, ◌∙◌, subst}
-use Rattle.std.proofs.Common.{arith}
+use Rattle.std.proofs.Common.{arith, ◌==◌, Bool, true, false, cond}
 use Rattle.std.specs.Prelude.{AllPairs}
 use Rattle.std.specs.List.{AllZip}
 use Rattle.std.proofs.lemmas.Bool.{cases_eq}
-use Rattle.std.proofs.lemmas.List.{append_assoc}
-use Rattle.std.proofs.lemmas.List.Elements.{Contains-append_left, Contains-append_right, Contains-append_cases}
+use Rattle.std.proofs.lemmas.Bool.Decides.{Decides-eqb}
+use Rattle.std.proofs.lemmas.List.{append-nil, append_assoc}
+use Rattle.std.proofs.lemmas.List.Elements.{Contains-append_left, Contains-append_right, Contains-append_cases, filter-append}
 use Rattle.std.proofs.lemmas.Option.{same_Some, slice_get_within}
 use Rattle.esto_columns.specs.Interned.{Grows, AreCodedRows}
 use Rattle.esto_relmodel.specs.RowFacts.{row_fact}
 use Rattle.esto_semantics.specs.declared.fact.Fact.{Fact}
 use Rattle.esto_term.specs.declared.term.Term.{Term}
 use Rattle.esto_term.specs.declared.term.Term.TheVariants.{Const, Plain}
-use Rattle.esto_term.proofs.ListLemmas.{at_left}
+use Rattle.esto_term.proofs.ListLemmas.{at_left, Contains-filter, Contains-filter_from, Contains-head, Contains-rest}
 use Rattle.esto_term.proofs.PlaceLemmas.{one_place, take-item}
 use Rattle.esto_term.proofs.ZipLemmas.{zip_weaker, zip_append, zip_left, zip_right}
-use Rattle.esto_coded.specs.Coded.{Coded, IsCodeOf, AreCodesOf, StandFor, rows_in}
+use Rattle.esto_coded.specs.Coded.{Coded, IsCodeOf, AreCodesOf, OrderedStand, StandFor, StandInOrder, facts_over, rows_in}
 use Rattle.esto_coded.specs.declared.coded.TheConstants.{FIRST_NODE}
 
 -- ---- texts that come after the old ones
@@ -51,6 +52,31 @@ stand_grow old new facts grown same stand = record {
   only = λ relation codes inside.
       let own = stand.only relation codes (subst (λ them. Contains (rows_in them relation) codes) same inside) in
       (own.0, own.1, own.2, codes_grow old.texts new.texts grown own.0.terms codes own.3);
+}
+
+-- the codes are those of the terms of the fact
+abbrev pub IsFactRow : List (List ℕ) → Fact Term → List ℕ → Type 0
+IsFactRow texts = λ (fact : Fact Term) (codes : List ℕ). AreCodesOf texts fact.terms codes
+
+-- and so in order
+pub order_grow : (old new : Coded) (facts : List (Fact Term)) → Grows old.texts new.texts → new.relations ≡ old.relations → StandInOrder old facts
+    → StandInOrder new facts
+order_grow old new facts grown same stand relation =
+    subst (λ them. AllZip (IsFactRow new.texts) (facts_over relation facts) (rows_in them relation)) (sym same)
+    (zip_weaker (IsFactRow old.texts) (IsFactRow new.texts) (facts_over relation facts) (rows_in old.relations relation)
+    (λ fact codes inside are. codes_grow old.texts new.texts grown fact.terms codes are) (stand relation))
+
+-- in order they stand for the facts too
+pub ordered_stand : OrderedStand
+ordered_stand coded facts stand = record {
+  has = λ fact inside.
+      let own = zip_left (IsFactRow coded.texts) (facts_over fact.relation facts) (rows_in coded.relations fact.relation) (stand fact.relation) fact
+      (Contains-filter (λ (it : Fact Term). it.relation == fact.relation) facts fact inside ((Decides-eqb fact.relation fact.relation).1 refl)) in
+      (own.0, own.2, own.1);
+  only = λ relation codes inside.
+      let own = zip_right (IsFactRow coded.texts) (facts_over relation facts) (rows_in coded.relations relation) (stand relation) codes inside in
+      let from = Contains-filter_from (λ (it : Fact Term). it.relation == relation) facts own.0 own.1 in
+      (own.0, from.0, (Decides-eqb own.0.relation relation).0 from.1, own.2);
 }
 
 -- ---- a code tells its term, and a term its code
@@ -105,6 +131,25 @@ one_codes texts distinct (term ∷ terms) (code ∷ codes) (other ∷ others) ar
 abbrev pub IsRowFor : List (List ℕ) → ℕ → Fact Term → List ℕ → Type 0
 IsRowFor texts number fact codes = (fact.relation ≡ number) × AreCodesOf texts fact.terms codes
 
+-- of facts over one relation all are over it, and none is over another
+over_all : (number : ℕ) (facts : List (Fact Term)) → ((fact : Fact Term) → Contains facts fact → fact.relation ≡ number) → facts_over number facts ≡ facts
+over_all number [] each = refl
+over_all number (fact ∷ rest) each =
+    let here : (fact.relation == number) ≡ true = (Decides-eqb fact.relation number).1 (each fact (Contains-head fact rest)) in
+    ap (λ it. cond it (fact ∷ facts_over number rest) (facts_over number rest)) here
+    ∙ ap (λ them. fact ∷ them) (over_all number rest (λ other inside. each other (Contains-rest fact rest other inside)))
+
+over_none : (other number : ℕ) → other ≢ number → (facts : List (Fact Term)) → ((fact : Fact Term) → Contains facts fact → fact.relation ≡ number)
+    → facts_over other facts ≡ []
+over_none other number apart [] each = refl
+over_none other number apart (fact ∷ rest) each =
+    ap (λ it. cond it (fact ∷ facts_over other rest) (facts_over other rest)) (not_here (fact.relation == other) refl)
+    ∙ over_none other number apart rest (λ it inside. each it (Contains-rest fact rest it inside))
+  where
+    not_here : (answer : Bool) → (fact.relation == other) ≡ answer → answer ≡ false
+    not_here true told = absurd (apart (sym ((Decides-eqb fact.relation other).0 told) ∙ each fact (Contains-head fact rest)))
+    not_here false told = refl
+
 module _ (old new : Coded) (number : ℕ) (added : List (List ℕ)) (grown : Grows old.texts new.texts)
     (here : rows_in new.relations number ≡ rows_in old.relations number ++ added)
     (others : (other : ℕ) → other ≢ number → rows_in new.relations other ≡ rows_in old.relations other) where
@@ -145,6 +190,33 @@ module _ (old new : Coded) (number : ℕ) (added : List (List ℕ)) (grown : Gro
           (own.0, Contains-append_right facts more own.0 own.1, own.2.0 ∙ sym same, own.2.1)
     ];
   }
+
+  -- and so in order, each after those that were there
+  pub order_put : (facts more : List (Fact Term)) → AllZip (IsRowFor new.texts number) more added → StandInOrder old facts
+      → StandInOrder new (facts ++ more)
+  order_put facts more are stand relation = subst (λ them. AllZip (IsFactRow new.texts) them (rows_in new.relations relation))
+      (sym (filter-append (λ (fact : Fact Term). fact.relation == relation) facts more)) (elim (cases_eq relation number) [
+        | inl same ↦ subst (λ it. AllZip (IsFactRow new.texts) (facts_over it facts ++ facts_over it more) (rows_in new.relations it)) (sym same) changed
+        | inr apart ↦ unchanged relation apart
+      ])
+    where
+      over : (fact : Fact Term) → Contains more fact → fact.relation ≡ number
+      over fact inside = (zip_left (IsRowFor new.texts number) more added are fact inside).2.0
+
+      before : (it : ℕ) → AllZip (IsFactRow new.texts) (facts_over it facts) (rows_in old.relations it)
+      before it = zip_weaker (IsFactRow old.texts) (IsFactRow new.texts) (facts_over it facts) (rows_in old.relations it)
+          (λ fact codes inside own. codes_grow old.texts new.texts grown fact.terms codes own) (stand it)
+
+      changed : AllZip (IsFactRow new.texts) (facts_over number facts ++ facts_over number more) (rows_in new.relations number)
+      changed = subst (AllZip (IsFactRow new.texts) (facts_over number facts ++ facts_over number more)) (sym here)
+          (zip_append (IsFactRow new.texts) (facts_over number facts) (facts_over number more) (rows_in old.relations number) added (before number)
+          (subst (λ them. AllZip (IsFactRow new.texts) them added) (sym (over_all number more over))
+          (zip_weaker (IsRowFor new.texts number) (IsFactRow new.texts) more added (λ fact codes inside own. own.1) are)))
+
+      unchanged : (it : ℕ) → it ≢ number → AllZip (IsFactRow new.texts) (facts_over it facts ++ facts_over it more) (rows_in new.relations it)
+      unchanged it apart = subst (AllZip (IsFactRow new.texts) (facts_over it facts ++ facts_over it more)) (sym (others it apart))
+          (subst (λ them. AllZip (IsFactRow new.texts) them (rows_in old.relations it))
+          (sym (append-nil (facts_over it facts)) ∙ ap (λ them. facts_over it facts ++ them) (sym (over_none it number apart more over))) (before it))
 
 -- the first facts after others, and one more
 pub one_more : {X : Type 0} (all facts : List X) (count : ℕ) (fact : X) → count < length facts → fact ≡ get_or facts count fact

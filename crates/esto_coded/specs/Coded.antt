@@ -49,6 +49,10 @@ StandInOrder coded facts =
     (relation : ℕ)
     → AllZip (λ (fact : Fact Term) (codes : List ℕ). AreCodesOf coded.texts fact.terms codes) (facts_over relation facts) (rows_in coded.relations relation)
 
+-- Rows of codes that stand for facts in order stand for them.
+abbrev pub OrderedStand : Type 0
+OrderedStand = (coded : Coded) (facts : List (Fact Term)) → StandInOrder coded facts → StandFor coded facts
+
 -- How many columns each relation has.
 abbrev pub arities_of : Coded → List ℕ
 arities_of coded = map (λ (relation : CodedRows). relation.arity) coded.relations

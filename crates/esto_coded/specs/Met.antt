@@ -4,12 +4,14 @@ use Rattle.esto_term.specs.declared.term.Term.{Term}
 use Rattle.esto_columns.specs.Interned.{Grows}
 use Rattle.esto_semantics.specs.Rules.{Rule, IsMet}
 use Rattle.esto_semantics.specs.declared.fact.Fact.{Fact}
-use Rattle.esto_coded.specs.Coded.{Coded, StandFor, arities_of}
+use Rattle.esto_coded.specs.Coded.{Coded, StandFor, StandInOrder, arities_of}
 
--- The new one has as many columns in each relation as the old one, it stands for all facts for which that does, and perhaps more texts have codes.
+-- The new one has as many columns in each relation as the old one, it stands for all facts for which that does, in order where that does so, and perhaps
+-- more texts have codes.
 pub record StaysFor (old new : Coded) : Type 0 where
   pub arities : arities_of new ≡ arities_of old
   pub facts : (facts : List (Fact Term)) → StandFor old facts → StandFor new facts
+  pub ordered : (facts : List (Fact Term)) → StandInOrder old facts → StandInOrder new facts
   pub grown : Grows old.texts new.texts
 
 -- The answer is whether the facts for which the rows stand meet the rule, whichever these are.

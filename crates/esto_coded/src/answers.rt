@@ -9,7 +9,7 @@ ghost use Rattle.esto_steps.specs.declared.steps.Get.{Get};
 ghost use Rattle.esto_term.specs.declared.term.Term.{Term};
 ghost use Rattle.esto_term.specs.declared.term.Term.TheVariants.{Const};
 ghost use Rattle.esto_coded.specs.Answered.{AreCodedAnswers};
-ghost use Rattle.esto_coded.specs.Coded.{AreTelling, StandFor, arities_of};
+ghost use Rattle.esto_coded.specs.Coded.{AreTelling, StandFor, StandInOrder, arities_of};
 ghost use Rattle.esto_coded.specs.Relations.{AreWhole, coded_of};
 ghost use Rattle.esto_coded.specs.Whole.{AreWholeSteps, TakeWhole, TellsOver, TellsAllOver};
 
@@ -128,6 +128,8 @@ impl CodedFacts {
         requires { (term : Term) → Contains head.now term → IsFixedBy body.now term }
         ensures arities { arities_of self.new ≡ arities_of self.old }
         ensures facts { (facts : List (Fact Term)) → StandFor self.old facts → StandFor self.new facts }
+        ensures ordered { (facts : List (Fact Term)) → StandInOrder self.old facts
+            → StandInOrder self.new facts }
         ensures grown { Grows self.old.texts self.new.texts }
         ensures texts { IfOk result (λ _. AreTelling self.new.texts) }
         ensures constants { IfOk result (λ _. (text : List ℕ) → Contains head.now (Const text)

@@ -7,7 +7,7 @@ ghost use Rattle.esto_stores.specs.Coded.{CodesRows};
 ghost use Rattle.esto_stores.specs.Keys.{key_fault, key_rows};
 ghost use Rattle.esto_stores.specs.Table.{table_fault, table_rows};
 ghost use Rattle.esto_term.specs.declared.term.Term.{Term};
-ghost use Rattle.esto_coded.specs.Coded.{StandFor, arities_of};
+ghost use Rattle.esto_coded.specs.Coded.{OrderedStand, StandFor, StandInOrder, arities_of};
 ghost use Rattle.esto_coded.specs.Relations.{AreWhole, coded_of};
 
 use crate::relations::{no_relations, put_rows};
@@ -22,7 +22,8 @@ use std::marker::Model;
 pub const FIRST_NODE: u64 = 9_223_372_036_854_775_808;
 
 /// Facts over constants and plain terms, which are nodes, as rows of codes: contracts see the texts in the order of
-/// their codes, and for each relation its rows. For which facts they stand, read as a set, says `StandFor`.
+/// their codes, and for each relation its rows. For which facts they stand, read as a set, says `StandFor`, and in
+/// which order `StandInOrder`.
 #[derive(Drop)]
 pub struct CodedFacts {
     pub(crate) codes: Codes,
@@ -55,6 +56,10 @@ fn put_codes(
         → AreCodedRows texts rows.rows list → (facts : List (Fact Term))
         → StandFor (coded_of texts relations.old.items) facts
         → StandFor (coded_of texts relations.new.items) (facts ++ map (row_fact number) list)) }
+    ensures ordered { OnOk result ((texts : List (List ℕ)) (list : List (List (List ℕ)))
+        → AreCodedRows texts rows.rows list → (facts : List (Fact Term))
+        → StandInOrder (coded_of texts relations.old.items) facts
+        → StandInOrder (coded_of texts relations.new.items) (facts ++ map (row_fact number) list)) }
 {
     let relation = &mut relations[number];
     put_rows(alloc, rows, &mut relation.rows)
@@ -65,6 +70,7 @@ impl CodedFacts {
     pub fn none(alloc: Global, arities: &[usize]) -> Result<CodedFacts, OutOfMemory>
         ensures arities { IfOk result (λ it. arities_of it ≡ arities.now) }
         ensures facts { IfOk result (λ it. StandFor it []) }
+        ensures ordered { IfOk result (λ it. StandInOrder it []) }
     {
         let relations = no_relations(alloc, arities)?;
         Ok(CodedFacts {
@@ -88,6 +94,10 @@ impl CodedFacts {
             → AreCodedRows self.old.texts rows.rows list
             → (facts : List (Fact Term)) → StandFor self.old facts
             → StandFor self.new (facts ++ map (row_fact relation) list)) }
+        ensures ordered { OnOk result ((list : List (List (List ℕ)))
+            → AreCodedRows self.old.texts rows.rows list
+            → (facts : List (Fact Term)) → StandInOrder self.old facts
+            → StandInOrder self.new (facts ++ map (row_fact relation) list)) }
     {
         put_codes(alloc, relation, rows, &mut self.relations)
     }
@@ -102,6 +112,8 @@ impl CodedFacts {
         requires { (row : List (List ℕ)) → Contains rows row → length row ≡ arity }
         ensures arities { arities_of self.new ≡ arities_of self.old }
         ensures facts { (facts : List (Fact Term)) → StandFor self.old facts → StandFor self.new facts }
+        ensures ordered { (facts : List (Fact Term)) → StandInOrder self.old facts
+            → StandInOrder self.new facts }
         ensures grown { Grows self.old.texts self.new.texts }
         ensures rows { IfOk result (λ it. (it.arity ≡ arity) × AreCodedRows self.new.texts it.rows rows) }
     {
@@ -118,6 +130,8 @@ impl CodedFacts {
     ) -> Result<Rows, FileError>
         ensures arities { arities_of self.new ≡ arities_of self.old }
         ensures facts { (facts : List (Fact Term)) → StandFor self.old facts → StandFor self.new facts }
+        ensures ordered { (facts : List (Fact Term)) → StandInOrder self.old facts
+            → StandInOrder self.new facts }
         ensures grown { Grows self.old.texts self.new.texts }
         ensures rows { CodesRows (table_rows columns.now bytes.now)
             (table_fault columns.now bytes.now) (length columns.now) self.new.texts result }
@@ -135,6 +149,8 @@ impl CodedFacts {
     ) -> Result<Rows, FileError>
         ensures arities { arities_of self.new ≡ arities_of self.old }
         ensures facts { (facts : List (Fact Term)) → StandFor self.old facts → StandFor self.new facts }
+        ensures ordered { (facts : List (Fact Term)) → StandInOrder self.old facts
+            → StandInOrder self.new facts }
         ensures grown { Grows self.old.texts self.new.texts }
         ensures rows { CodesRows (key_rows bytes.now) (key_fault cells bytes.now) cells
             self.new.texts result }
@@ -142,3 +158,8 @@ impl CodedFacts {
         code_keys(alloc, bytes, cells, &mut self.codes)
     }
 }
+
+/// A law: rows of codes that stand for facts in order stand for these facts, read as a set.
+pub fn rows_in_order_stand_for_facts()
+    ensures { OrderedStand }
+{}

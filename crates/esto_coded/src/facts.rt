@@ -1,7 +1,7 @@
 //! Facts put as rows of codes.
 ghost use Rattle.std.specs.Prelude.{◌≡◌, ◌+◌, [], length, slice_get, Some, IfOk, OnOk};
 ghost use Rattle.esto_columns.specs.Interned.{Grows};
-ghost use Rattle.esto_coded.specs.Coded.{StandFor, arities_of};
+ghost use Rattle.esto_coded.specs.Coded.{StandInOrder, arities_of};
 ghost use Rattle.esto_coded.specs.Relations.{AreWhole, PutsRow, coded_of};
 ghost use Rattle.esto_coded.specs.declared.coded.TheConstants.{FIRST_NODE};
 
@@ -43,9 +43,9 @@ fn put_row(number: usize, row: &[u64], relations: &mut Vec<StoredRows>) -> Resul
     relation.rows.add(row)
 }
 
-/// The rows of codes stand for the facts. Want of memory is answered too where a node's number has no code.
+/// The rows of codes stand for the facts in order. Want of memory is answered too where a node's number has no code.
 impl FactSink for CodedFacts {
-    ghost Holds = { StandFor };
+    ghost Holds = { StandInOrder };
 
     ghost arities = { λ it. Some (arities_of it) };
 

@@ -13,7 +13,7 @@ mod same;
 mod shown;
 mod steps;
 
-pub use coded::{CodedFacts, FIRST_NODE};
+pub use coded::{CodedFacts, FIRST_NODE, rows_in_order_stand_for_facts};
 pub use relations::put_rows;
 pub use same::hold_same;
 pub use shown::least_node;

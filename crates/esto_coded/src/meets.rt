@@ -9,7 +9,7 @@ ghost use Rattle.esto_term.specs.declared.term.Term.{Term};
 ghost use Rattle.esto_term.specs.declared.term.Term.TheVariants.{Const};
 ghost use Rattle.esto_chase_laws.specs.Making.{frontier};
 ghost use Rattle.esto_coded.specs.Answered.{AreCodedAnswers, IsCodedAnswer};
-ghost use Rattle.esto_coded.specs.Coded.{AreTelling, StandFor, arities_of};
+ghost use Rattle.esto_coded.specs.Coded.{AreTelling, StandFor, StandInOrder, arities_of};
 ghost use Rattle.esto_coded.specs.Met.{StaysFor, AnswersWhether};
 ghost use Rattle.esto_coded.specs.Mirrored.{IsMirrored};
 
@@ -254,6 +254,8 @@ impl CodedFacts {
     pub fn meets(&mut self, alloc: Global, rule: &Constraint) -> Result<bool, OutOfMemory>
         ensures arities { arities_of self.new ≡ arities_of self.old }
         ensures facts { (facts : List (Fact Term)) → StandFor self.old facts → StandFor self.new facts }
+        ensures ordered { (facts : List (Fact Term)) → StandInOrder self.old facts
+            → StandInOrder self.new facts }
         ensures grown { Grows self.old.texts self.new.texts }
         ensures met { IfOk result (λ it. (facts : List (Fact Term)) → StandFor self.old facts
             → IsTrue it ↔ IsMet facts (rule_of rule.now)) }

@@ -3,7 +3,7 @@ use Rattle.std.proofs.lemmas.List.{append-nil}
 use Rattle.std.proofs.lemmas.Result.{on_ok_weaker}
 use Rattle.esto_columns.specs.CodedRows.{CodedRows}
 use Rattle.esto_term.proofs.PlaceLemmas.{item_at}
-use Rattle.esto_coded.proofs.RelationLemmas.{place_within, place_long, whole_set, arities_set, stand_set}
+use Rattle.esto_coded.proofs.RelationLemmas.{place_within, place_long, whole_set, arities_set, order_set, stand_set}
 use Rattle.esto_coded.proofs.StandLemmas.{text_rows}
 use Rattle.esto_coded.proofs.coded.put_codes.Goals as goal
 
@@ -35,6 +35,16 @@ pub returns-clause-facts : goal.returns-clause-facts
 returns-clause-facts c = on_ok_weaker c.put_rows.result
     (λ is texts list are facts stand.
     stand_set c.index_mut-relation.result.now (record { rows = c.put_rows.new.into; ways = c.index_mut-relation.result.now.ways })
+    texts texts c.args.relations.now.items c.args.number c.args.rows.rows ([], sym (append-nil texts))
+    (item_at c.args.relations.now.items c.args.number c.index_mut-relation.result.now
+    (place_within [] c.args.relations.now.items c.args.number _ c.requires) c.index_mut-relation.ensures.value)
+    (ap (λ (it : CodedRows). it.rows) is) facts _ (text_rows texts c.args.number c.args.rows.rows list are) stand)
+    c.put_rows.ensures
+
+pub returns-clause-ordered : goal.returns-clause-ordered
+returns-clause-ordered c = on_ok_weaker c.put_rows.result
+    (λ is texts list are facts stand.
+    order_set c.index_mut-relation.result.now (record { rows = c.put_rows.new.into; ways = c.index_mut-relation.result.now.ways })
     texts texts c.args.relations.now.items c.args.number c.args.rows.rows ([], sym (append-nil texts))
     (item_at c.args.relations.now.items c.args.number c.index_mut-relation.result.now
     (place_within [] c.args.relations.now.items c.args.number _ c.requires) c.index_mut-relation.ensures.value)

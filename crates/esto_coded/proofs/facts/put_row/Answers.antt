@@ -1,9 +1,9 @@
-use Rattle.std.proofs.Common.{◌<◌, ◌∷◌, [], refl, sym, ap, ◌∙◌, subst}
+use Rattle.std.proofs.Common.{◌<◌, ◌∷◌, [], refl, sym, ap, subst}
 use Rattle.std.proofs.lemmas.List.{append-nil}
 use Rattle.std.proofs.lemmas.Result.{on_ok_weaker}
 use Rattle.esto_columns.specs.CodedRows.{CodedRows}
 use Rattle.esto_term.proofs.PlaceLemmas.{item_at}
-use Rattle.esto_coded.proofs.RelationLemmas.{place_within, place_long, whole_set, arities_set, stand_set}
+use Rattle.esto_coded.proofs.RelationLemmas.{place_within, place_long, whole_set, arities_set, order_set}
 use Rattle.esto_coded.proofs.facts.put_row.Goals as goal
 
 pub index_mut-relation-requires : goal.index_mut-relation-requires
@@ -28,7 +28,7 @@ returns-clause-row c =
     on_ok_weaker c.add.result
     (λ is. record {
       facts = λ texts terms are before stand.
-          stand_set c.index_mut-relation.result.now (record { rows = c.add.new.self; ways = c.index_mut-relation.result.now.ways })
+          order_set c.index_mut-relation.result.now (record { rows = c.add.new.self; ways = c.index_mut-relation.result.now.ways })
           texts texts c.args.relations.now.items c.args.number (c.args.row.now ∷ []) ([], sym (append-nil texts)) here
           (ap (λ (it : CodedRows). it.rows) is) before _ ((refl, are), tt) stand;
       arities = arities_set c.index_mut-relation.result.now (record { rows = c.add.new.self; ways = c.index_mut-relation.result.now.ways })
