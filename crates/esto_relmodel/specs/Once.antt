@@ -10,6 +10,11 @@ StandsBefore things one other =
 abbrev pub KeepOrder : {X : Type 0} → List X → List X → Type 0
 KeepOrder {X} things others = (one other : X) → Contains things other → StandsBefore things one other → StandsBefore others one other
 
+-- The others are all of the things, and no more, in the order in which these first stand.
+pub record KeepAll {X : Type 0} (things others : List X) : Type 0 where
+  pub same : (thing : X) → Contains things thing ↔ Contains others thing
+  pub in_order : KeepOrder things others
+
 -- What is kept are the things, each once, since none stands before itself, in the order in which they first stand.
 pub record AreEachOnce {X : Type 0} (things kept : List X) : Type 0 where
   pub same : (thing : X) → Contains kept thing ↔ Contains things thing
