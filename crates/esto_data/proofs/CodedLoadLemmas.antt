@@ -1,13 +1,12 @@
 -- Facts of files that are put into rows of codes.
-use Rattle.std.proofs.Common.{◌≡◌, ◌↔◌, ◌+◌, inl, inr, ℕ, List, [], ◌∷◌, ◌++◌, length, map, true, false, Some, None, slice_get}
+use Rattle.std.proofs.Common.{◌≡◌, ◌↔◌, ◌+◌, ℕ, List, [], ◌∷◌, ◌++◌, length, map, true, false, Some, None, slice_get}
 use Rattle.std.proofs.Common.{Contains, refl, sym, ap, ◌∙◌, subst, append-nil, arith}
 use Rattle.std.specs.Prelude.{OnOk, Result, Ok, Err, codes}
 use Rattle.std.proofs.lemmas.Bool.{false≢true}
-use Rattle.std.proofs.lemmas.List.Elements.{Contains-append_cases, Contains-append_left, Contains-append_right}
 use Rattle.std.proofs.lemmas.Option.{same_Some}
 use Rattle.esto_mapping.specs.Datasets.{StandFrom, model_relations, part, relations_of}
 use Rattle.esto_mapping.specs.declared.dataset.Dataset.{Dataset}
-use Rattle.esto_coded.specs.Coded.{Coded, HasPlace, StandFor, arities_of}
+use Rattle.esto_coded.specs.Coded.{Coded, HasPlace, OrderedStand, StandFor, StandInOrder, arities_of}
 use Rattle.esto_columns.specs.Interned.{AreCodedRows}
 use Rattle.esto_docmodel.specs.DocumentFacts.{DocFact, root, field, item, value, below, flat}
 use Rattle.esto_docmodel.specs.Encodings.{kept_of, size}
@@ -22,23 +21,24 @@ use Rattle.esto_ports.specs.declared.file_fault.FileError.TheVariants as content
 use Rattle.esto_query.specs.declared.schema.Relation.{Relation}
 use Rattle.esto_docmodel.specs.declared.words.DataModel.{DataModel}
 use Rattle.esto_docmodel.specs.declared.words.DataModel.TheVariants.{Table, Documents, Keys}
-use Rattle.esto_relmodel.specs.Once.{AreEachOnce}
 use Rattle.esto_relmodel.specs.RowFacts.{AreRowFacts, row_fact}
 use Rattle.esto_semantics.specs.declared.fact.Fact.{Fact}
 use Rattle.esto_stores.specs.Keys.{key_fault, key_rows}
 use Rattle.esto_stores.specs.Rows.{Row}
 use Rattle.esto_stores.specs.Table.{table_fault, table_rows}
-use Rattle.esto_term.proofs.ListLemmas.{Contains-map, Contains-map_from, Contains-nil, map_at}
+use Rattle.esto_term.proofs.ListLemmas.{Contains-nil, map_at}
 use Rattle.esto_term.specs.declared.term.Term.{Term}
 use Rattle.esto_data.specs.CodedParts.{HasPlaces, HasRelations, Puts, PutsEncoded, PutsFile, PutsKept, PutsRead, PutsTrees}
-use Rattle.esto_data.specs.Coding.{IsCodedFrom, IsOver}
+use Rattle.esto_data.specs.Coding.{IsCodedFrom, IsOver, StandKept}
 use Rattle.esto_fill.specs.Files.{AreWantedOf, FindsFault, fault_by_model}
 use Rattle.esto_fill.specs.Wanted.{IsKeptFor, is_wanted}
 use Rattle.esto_data.specs.declared.coded_data.CodedData.{CodedData}
 use Rattle.esto_fill.specs.declared.datasets.DatasetBytes.{DatasetBytes}
 use Rattle.esto_fill.specs.declared.wanted.Wanted.{Wanted}
 use Rattle.esto_fill.proofs.FileLemmas.{append_flat, documents_give, keys_give, load_more, table_gives}
-use Rattle.esto_relmodel.proofs.OnceLemmas.{rows_once}
+use Rattle.esto_relmodel.proofs.OnceLemmas.{keep_both, keep_itself, keep_on, keep_once, rows_once}
+use Rattle.esto_semantics.proofs.FactLemmas.{decided_fact}
+use Rattle.esto_semantics.proofs.TermLemmas.{decided_term}
 use Rattle.esto_fill.proofs.ValueLemmas.{flat_kept}
 use Rattle.esto_fill.proofs.WantedLemmas.{leaves_none}
 
@@ -55,45 +55,28 @@ stand_same coded facts others same stand = record {
 
 -- nothing is put
 pub puts_none : (coded : CodedData) → Puts [] coded coded
-puts_none coded = record { stand = λ facts stand. subst (StandFor coded.facts) (sym (append-nil facts)) stand; arities = refl }
+puts_none coded = record {
+  more = [];
+  ordered = λ facts stand. subst (StandInOrder coded.facts) (sym (append-nil facts)) stand;
+  kept = keep_itself [];
+  arities = refl;
+}
 
 -- rows that are coded, and put where they are coded
 pub coded_put : (relation : ℕ) (rows : List Row) (codes : List (List ℕ)) (old : CodedData) (middle last : Coded)
-    → ((facts : List (Fact Term)) → StandFor old.facts facts → StandFor middle facts) → arities_of middle ≡ arities_of old.facts
+    → ((facts : List (Fact Term)) → StandInOrder old.facts facts → StandInOrder middle facts) → arities_of middle ≡ arities_of old.facts
     → AreCodedRows middle.texts codes rows
-    → ((list : List Row) → AreCodedRows middle.texts codes list → (facts : List (Fact Term)) → StandFor middle facts
-    → StandFor last (facts ++ map (row_fact relation) list))
+    → ((list : List Row) → AreCodedRows middle.texts codes list → (facts : List (Fact Term)) → StandInOrder middle facts
+    → StandInOrder last (facts ++ map (row_fact relation) list))
     → arities_of last ≡ arities_of middle → Puts (map (row_fact relation) rows) old (record { facts = last; next = old.next })
 coded_put relation rows codes old middle last kept same are puts more = record {
-  stand = λ facts stand. puts rows are facts (kept facts stand);
+  more = map (row_fact relation) rows;
+  ordered = λ facts stand. puts rows are facts (kept facts stand);
+  kept = keep_itself (map (row_fact relation) rows);
   arities = more ∙ same;
 }
 
 -- ---- rows, each once
-
-module _ (relation : ℕ) (rows kept : List Row) (once : AreEachOnce rows kept) where
-  -- the facts of all rows are those of the rows each once
-  once_same : (facts : List (Fact Term)) (fact : Fact Term)
-      → Contains (facts ++ map (row_fact relation) rows) fact ↔ Contains (facts ++ map (row_fact relation) kept) fact
-  once_same facts fact = (there, back)
-    where
-      there : Contains (facts ++ map (row_fact relation) rows) fact → Contains (facts ++ map (row_fact relation) kept) fact
-      there inside = elim (Contains-append_cases facts (map (row_fact relation) rows) fact inside) [
-        | inl early ↦ Contains-append_left facts (map (row_fact relation) kept) fact early
-        | inr late ↦
-            let (row, among, is) = Contains-map_from (row_fact relation) rows fact late in
-            Contains-append_right facts (map (row_fact relation) kept) fact
-            (subst (Contains (map (row_fact relation) kept)) is (Contains-map (row_fact relation) kept row ((once.same row).1 among)))
-      ]
-
-      back : Contains (facts ++ map (row_fact relation) kept) fact → Contains (facts ++ map (row_fact relation) rows) fact
-      back inside = elim (Contains-append_cases facts (map (row_fact relation) kept) fact inside) [
-        | inl early ↦ Contains-append_left facts (map (row_fact relation) rows) fact early
-        | inr late ↦
-            let (row, among, is) = Contains-map_from (row_fact relation) kept fact late in
-            Contains-append_right facts (map (row_fact relation) rows) fact
-            (subst (Contains (map (row_fact relation) rows)) is (Contains-map (row_fact relation) rows row ((once.same row).0 among)))
-      ]
 
 -- of the facts of the rows, each row once, those are put that are wanted; and no node
 abbrev PutsRows : Wanted → ℕ → List Row → CodedData → CodedData → Type 0
@@ -114,8 +97,9 @@ module _ (wanted : Wanted) (relation : ℕ) (rows : List Row) where
         (λ _. refl),
         (λ none. absurd (false≢true (sym none ∙ told))),
         record {
-          stand = λ all stand. stand_same new.facts (all ++ map (row_fact relation) rows) (all ++ facts) (once_same relation rows kept once all)
-              (puts.stand all stand);
+          more = puts.more;
+          ordered = puts.ordered;
+          kept = keep_on puts.more (map (row_fact relation) rows) facts puts.kept (keep_once (row_fact relation) rows kept once);
           arities = puts.arities;
         },
         next,
@@ -177,10 +161,15 @@ module _ (dataset : Dataset) (coded : CodedData) (relations : HasRelations datas
 
 -- the documents whose facts the rows of codes have gained are put
 pub gained_put : (relations : Kept) (trees : List Tree) (old : CodedData) (facts : Coded) (next : ℕ)
-    → PutsDocuments StandFor (λ (it : Coded). Some (arities_of it)) relations trees old.next next old.facts facts
+    → PutsDocuments StandInOrder (λ (it : Coded). Some (arities_of it)) relations trees old.next next old.facts facts
     → PutsKept relations trees old (record { facts = facts; next = next })
 gained_put relations trees old facts next puts = record {
-  puts = record { stand = puts.facts.held; arities = same_Some (arities_of facts) (arities_of old.facts) puts.facts.same };
+  puts = record {
+    more = kept_of relations old.next (documents trees);
+    ordered = puts.facts.held;
+    kept = keep_itself (kept_of relations old.next (documents trees));
+    arities = same_Some (arities_of facts) (arities_of old.facts) puts.facts.same;
+  };
   next = puts.next;
   rising = puts.rising;
 }
@@ -246,29 +235,42 @@ module _ (dataset : Dataset) (wanted : Wanted) (bytes : List ℕ) (coded : Coded
 -- ---- what is loaded
 
 -- nothing
-pub none_loaded : (datasets : List Dataset) (wanted : Wanted) (coded : CodedData) → StandFor coded.facts [] → coded.next ≡ 0
+pub none_loaded : (datasets : List Dataset) (wanted : Wanted) (coded : CodedData) → StandFor coded.facts [] → StandInOrder coded.facts [] → coded.next ≡ 0
     → IsCodedFrom datasets wanted [] coded
-none_loaded datasets wanted coded stand next = (
+none_loaded datasets wanted coded stand ordered next = (
   record { facts = []; next = 0; sound = ∣ (λ term (fact, inside, at). absurd (Contains-nil fact inside)) ∣₁ },
-  record { stand = stand; next = next },
+  record { stand = stand; ordered = ([], ordered, keep_itself []); next = next },
   ([], (refl, refl), leaves_none wanted [] refl, λ file dataset inside there. absurd (Contains-nil file inside)),
+)
+
+-- what is put stands in order after what was there
+ordered_more : (facts own : List (Fact Term)) (old new : CodedData) → Puts own old new → StandKept old.facts facts → StandKept new.facts (facts ++ own)
+ordered_more facts own old new puts (all, stand, kept) = (
+  all ++ puts.more,
+  puts.ordered all stand,
+  keep_both (decided_fact decided_term) all facts puts.more own kept puts.kept,
 )
 
 -- a file more
 pub file_loaded : (datasets : List Dataset) (wanted : Wanted) (files : List DatasetBytes) (number : ℕ) (bytes : List ℕ) (dataset : Dataset)
-    (old new : CodedData) → slice_get datasets number ≡ Some dataset
+    (old new : CodedData) → OrderedStand → slice_get datasets number ≡ Some dataset
     → (encoded : Encoded) × AreWantedOf dataset.model dataset wanted bytes old.next encoded × PutsEncoded encoded old new
     → IsCodedFrom datasets wanted files old → IsCodedFrom datasets wanted (files ++ record { dataset = number; bytes = bytes } ∷ []) new
-file_loaded datasets wanted files number bytes dataset old new there (encoded, are, (puts, next)) (loaded, coded, from) = (
-  record {
-    facts = loaded.facts ++ encoded.facts;
-    next = encoded.next;
-    sound = ∣ append_flat loaded.facts encoded.facts (flat_kept loaded.facts loaded.sound) are.flat ∣₁;
-  },
-  record { stand = puts.stand loaded.facts coded.stand; next = next },
-  load_more datasets wanted files number bytes dataset loaded encoded (loaded.facts ++ encoded.facts) from there
-      (subst (λ n. AreWantedOf dataset.model dataset wanted bytes n encoded) coded.next are) refl,
-)
+file_loaded datasets wanted files number bytes dataset old new law there (encoded, are, (puts, next)) (loaded, coded, from) =
+    let (all, stand, kept) = ordered_more loaded.facts encoded.facts old new puts coded.ordered in (
+      record {
+        facts = loaded.facts ++ encoded.facts;
+        next = encoded.next;
+        sound = ∣ append_flat loaded.facts encoded.facts (flat_kept loaded.facts loaded.sound) are.flat ∣₁;
+      },
+      record {
+        stand = stand_same new.facts all (loaded.facts ++ encoded.facts) kept.same (law new.facts all stand);
+        ordered = (all, stand, kept);
+        next = next;
+      },
+      load_more datasets wanted files number bytes dataset loaded encoded (loaded.facts ++ encoded.facts) from there
+          (subst (λ n. AreWantedOf dataset.model dataset wanted bytes n encoded) coded.next are) refl,
+    )
 
 -- what a file that is put does to the relations, and to what is loaded
 module _ (datasets : List Dataset) (wanted : Wanted) (number : ℕ) (bytes : List ℕ) (dataset : Dataset) (old new : CodedData)
@@ -280,13 +282,13 @@ module _ (datasets : List Dataset) (wanted : Wanted) (number : ℕ) (bytes : Lis
       by (Ok done) (clear, (encoded, are, (its, next))) = its.arities ∙ over
       by (Err error) puts = tt
 
-  pub file_more : slice_get datasets number ≡ Some dataset → PutsFile dataset.model dataset wanted bytes old new result
+  pub file_more : OrderedStand → slice_get datasets number ≡ Some dataset → PutsFile dataset.model dataset wanted bytes old new result
       → OnOk result ((files : List DatasetBytes) → IsCodedFrom datasets wanted files old
       → IsCodedFrom datasets wanted (files ++ record { dataset = number; bytes = bytes } ∷ []) new)
-  file_more there puts = by result puts
+  file_more law there puts = by result puts
     where
       by : (it : Result (Unit {0}) FileError) → PutsFile dataset.model dataset wanted bytes old new it
           → OnOk it ((files : List DatasetBytes) → IsCodedFrom datasets wanted files old
           → IsCodedFrom datasets wanted (files ++ record { dataset = number; bytes = bytes } ∷ []) new)
-      by (Ok done) (clear, put) = λ files from. file_loaded datasets wanted files number bytes dataset old new there put from
+      by (Ok done) (clear, put) = λ files from. file_loaded datasets wanted files number bytes dataset old new law there put from
       by (Err error) puts = tt

@@ -7,7 +7,7 @@ use Rattle.std.proofs.lemmas.List.{take_all}
 use Rattle.std.proofs.lemmas.Option.{none-some, same_Some, slice_get_within}
 use Rattle.std.proofs.lemmas.List.Elements.{Contains-append_cases, Contains-append_left, Contains-append_right, Contains-push_cases}
 use Rattle.esto_coded.specs.Answered.{AreCodedAnswers}
-use Rattle.esto_coded.specs.Coded.{Coded, AreCodesOf, AreTelling, IsCodeOf, StandFor}
+use Rattle.esto_coded.specs.Coded.{Coded, AreCodesOf, AreTelling, IsCodeOf, StandFor, StandInOrder}
 use Rattle.esto_coded.specs.Shown.{HasNodeAt, LeastNode}
 use Rattle.esto_coded.specs.declared.coded.TheConstants.{FIRST_NODE}
 use Rattle.esto_coded.proofs.StandLemmas.{codes_grow, one_codes, text_codes}
@@ -54,16 +54,24 @@ stays_on old middle new first next = record {
 }
 
 -- where the rows of codes stand for the same facts
-pub stays_by : (old new : CodedData) → ((facts : List (Fact Term)) → StandFor old.facts facts → StandFor new.facts facts)
-    → interned.Grows old.facts.texts new.facts.texts → new.next ≡ old.next → Stays old new
-stays_by old new stand grown next = record {
-  kept = λ loaded its. record { stand = stand loaded.facts its.stand; next = next ∙ its.next };
-  grown = grown;
+pub coded_by : (old new : CodedData) → ((facts : List (Fact Term)) → StandFor old.facts facts → StandFor new.facts facts)
+    → ((facts : List (Fact Term)) → StandInOrder old.facts facts → StandInOrder new.facts facts) → new.next ≡ old.next → (loaded : Loaded)
+    → IsCodedOf loaded old → IsCodedOf loaded new
+coded_by old new stand ordered next loaded its = record {
+  stand = stand loaded.facts its.stand;
+  ordered = (its.ordered.0, ordered its.ordered.0 its.ordered.1, its.ordered.2);
+  next = next ∙ its.next;
 }
+
+pub stays_by : (old new : CodedData) → ((facts : List (Fact Term)) → StandFor old.facts facts → StandFor new.facts facts)
+    → ((facts : List (Fact Term)) → StandInOrder old.facts facts → StandInOrder new.facts facts)
+    → interned.Grows old.facts.texts new.facts.texts → new.next ≡ old.next → Stays old new
+stays_by old new stand ordered grown next = record { kept = coded_by old new stand ordered next; grown = grown }
 
 pub stays_same : (old new : CodedData) → new.facts ≡ old.facts → new.next ≡ old.next → Stays old new
 stays_same old new same next =
     stays_by old new (λ facts stand. subst (λ it. StandFor it facts) (sym same) stand)
+    (λ facts stand. subst (λ it. StandInOrder it facts) (sym same) stand)
     ([], ap (λ (it : Coded). it.texts) same ∙ sym (append-nil old.facts.texts)) next
 
 -- ---- codes and terms

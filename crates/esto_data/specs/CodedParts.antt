@@ -2,7 +2,7 @@
 use Rattle.std.specs.Prelude.{◌≡◌, ◌↔◌, ◌⊎◌, ℕ, ◌+◌, ◌≤◌, List, ◌++◌, map, length, slice_get, Contains, Option, Some, None, Result, Ok, Err}
 use Rattle.esto_mapping.specs.Datasets.{relations_of}
 use Rattle.esto_mapping.specs.declared.dataset.Dataset.{Dataset}
-use Rattle.esto_coded.specs.Coded.{AreCodesOf, HasPlace, StandFor, Coded, arities_of, rows_in}
+use Rattle.esto_coded.specs.Coded.{AreCodesOf, HasPlace, StandInOrder, Coded, arities_of, rows_in}
 use Rattle.esto_coded.specs.Shown.{HasNodeAt, LeastNode}
 use Rattle.esto_coded.specs.declared.coded.TheConstants.{FIRST_NODE}
 use Rattle.esto_columns.specs.Interned as interned
@@ -20,6 +20,7 @@ use Rattle.esto_query.specs.declared.schema.Relation.{Relation}
 use Rattle.esto_docmodel.specs.declared.words.DataModel.{DataModel}
 use Rattle.esto_query.specs.Making.{query_of}
 use Rattle.esto_query.specs.declared.query.Query.{Query}
+use Rattle.esto_relmodel.specs.Once.{KeepAll}
 use Rattle.esto_relmodel.specs.RowFacts.{row_fact}
 use Rattle.esto_run.specs.Answers.{AreRising}
 use Rattle.esto_semantics.specs.Queries.{ConjunctiveQuery, IsAnswerInto}
@@ -51,9 +52,12 @@ HasRelations dataset coded =
     (number : ℕ) (relation : Relation) → slice_get (relations_of dataset) number ≡ Some relation
     → slice_get (arities_of coded.facts) (dataset.base + number) ≡ Some relation.arity
 
--- For whatever facts the rows stood, they stand now for those and these; and no relation has other columns.
+-- For whatever facts the rows stood in order, they stand now for those and then for more, and these facts are all of those in their order; and no relation
+-- has other columns.
 pub record Puts (own : List (Fact Term)) (old new : CodedData) : Type 0 where
-  pub stand : (facts : List (Fact Term)) → StandFor old.facts facts → StandFor new.facts (facts ++ own)
+  pub more : List (Fact Term)
+  pub ordered : (facts : List (Fact Term)) → StandInOrder old.facts facts → StandInOrder new.facts (facts ++ more)
+  pub kept : KeepAll more own
   pub arities : arities_of new.facts ≡ arities_of old.facts
 
 -- The facts of the rows are put, and no node, and there is no fault; or it is the first fault; or memory is wanting.

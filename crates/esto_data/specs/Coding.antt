@@ -2,7 +2,7 @@
 use Rattle.std.specs.Prelude.{◌≡◌, ◌↔◌, ℕ, List, [], ◌∷◌, ◌++◌, Contains, length, Option, Some, None, Result, Ok, Err}
 use Rattle.std.specs.List.{AllZip}
 use Rattle.esto_mapping.specs.declared.dataset.Dataset.{Dataset}
-use Rattle.esto_coded.specs.Coded.{StandFor, arities_of}
+use Rattle.esto_coded.specs.Coded.{Coded, StandFor, StandInOrder, arities_of}
 use Rattle.esto_columns.specs.CodedRows.{CodedRows}
 use Rattle.esto_columns.specs.Interned.{AreCodedRows}
 use Rattle.esto_ports.specs.declared.file_fault.FileError.{FileError}
@@ -11,6 +11,9 @@ use Rattle.esto_ports.specs.declared.file_fault.FileFault.{FileFault}
 use Rattle.esto_query.specs.Schemas as schemas
 use Rattle.esto_query.specs.declared.query.Query.{Query}
 use Rattle.esto_query.specs.declared.schema.Relation.{Relation}
+use Rattle.esto_relmodel.specs.Once.{KeepAll}
+use Rattle.esto_semantics.specs.declared.fact.Fact.{Fact}
+use Rattle.esto_term.specs.declared.term.Term.{Term}
 use Rattle.esto_stores.specs.Rows.{Row}
 use Rattle.esto_fill.specs.Files.{IsLoadedFrom}
 use Rattle.esto_data.specs.declared.coded_data.CodedData.{CodedData}
@@ -18,9 +21,14 @@ use Rattle.esto_fill.specs.declared.datasets.DatasetBytes.{DatasetBytes}
 use Rattle.esto_fill.specs.declared.loaded.Loaded.{Loaded}
 use Rattle.esto_fill.specs.declared.wanted.Wanted.{Wanted}
 
--- The rows of codes stand for the facts that are loaded, and nodes are numbered on from the same number.
+-- The rows of codes stand in order for facts, and these are all of them, in the order in which they first stand.
+abbrev pub StandKept : Coded → List (Fact Term) → Type 0
+StandKept coded facts = (all : List (Fact Term)) × StandInOrder coded all × KeepAll all facts
+
+-- The rows of codes stand for the facts that are loaded, in the order of these too, and nodes are numbered on from the same number.
 pub record IsCodedOf (loaded : Loaded) (coded : CodedData) : Type 0 where
   pub stand : StandFor coded.facts loaded.facts
+  pub ordered : StandKept coded.facts loaded.facts
   pub next : coded.next ≡ loaded.next
 
 -- The rows of codes stand for something that is loaded.

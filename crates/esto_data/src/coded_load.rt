@@ -10,6 +10,7 @@ ghost use Rattle.esto_fill.specs.declared.datasets.DatasetBytes.{DatasetBytes};
 
 use crate::coded_data::CodedData;
 use crate::coded_documents::put_documents;
+use esto_coded::rows_in_order_stand_for_facts;
 use esto_docmodel::DataModel;
 use esto_fill::{KEY_CELLS, Wanted};
 use esto_mapping::{Catalogue, Dataset, catalogues_are_sound};
@@ -130,6 +131,7 @@ pub fn load_coded(
         FindsFault (dataset_fault dataset bytes.now) result) }
 {
     catalogues_are_sound();
+    rows_in_order_stand_for_facts();
     let dataset = catalogue.datasets.item(number);
     put_file(alloc, dataset, wanted, bytes.bytes(), coded)
 }

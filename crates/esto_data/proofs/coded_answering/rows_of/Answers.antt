@@ -11,4 +11,4 @@ returns-clause-rows c =
     (c.queries_are_sound.ensures c.args.query.now).query c.answers.ensures.facts c.answers.ensures.rows c.answers.ensures.texts c.answers.ensures.constants
 
 pub returns-clause-stays : goal.returns-clause-stays
-returns-clause-stays c = stays_by c.args.coded.now _ c.answers.ensures.facts c.answers.ensures.grown refl
+returns-clause-stays c = stays_by c.args.coded.now _ c.answers.ensures.facts c.answers.ensures.ordered c.answers.ensures.grown refl

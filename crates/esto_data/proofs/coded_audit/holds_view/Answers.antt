@@ -1,6 +1,6 @@
-use Rattle.std.proofs.Common.{Contains, refl, sym, subst}
+use Rattle.std.proofs.Common.{Contains, refl, subst}
 use Rattle.std.proofs.lemmas.Result.{IfOk-weaker}
-use Rattle.esto_coded.specs.Coded.{Coded, StandFor}
+use Rattle.esto_coded.specs.Coded.{Coded}
 use Rattle.esto_columns.proofs.CodingLemmas.{rows_grow}
 use Rattle.esto_columns.specs.Interned.{Grows}
 use Rattle.esto_query.specs.Making.{query_of}
@@ -21,8 +21,7 @@ returns-clause-holds c = IfOk-weaker c.hold_same.result _ _ (λ same says loaded
     let grown = subst (λ (coded : Coded). Grows coded.texts texts) c.index_joins.ensures c.rows_of.ensures.stays.grown in
     let here = rows_grow c.args.coded.now.facts.texts texts held list grown codes in
     let own = c.in_ok-own.own.rows in
-    let are = c.in_ok-own.ensures.rows loaded
-    (record { stand = subst (λ coded. StandFor coded facts) (sym c.index_joins.ensures) its.stand; next = its.next }) in (
+    let are = c.in_ok-own.ensures.rows loaded ((stays_same c.args.coded.now _ c.index_joins.ensures refl).kept loaded its) in (
       (λ yes. same_texts texts own (IsAnswerInto Const query (Contains facts)) (IsAnswer query (database_of facts)) are stand.there stand.back held list here
           (says.0 yes)),
       (λ exact. says.1 (same_rows texts own (IsAnswerInto Const query (Contains facts)) (IsAnswer query (database_of facts)) are stand.there

@@ -19,4 +19,4 @@ returns-clause-passed c = IfOk-weaker c.meets.result _ _ (λ met says loaded its
     met (says loaded.facts its.stand)) c.meets.ensures.met
 
 pub returns-clause-stays : goal.returns-clause-stays
-returns-clause-stays c = stays_by c.args.coded.now _ c.meets.ensures.facts c.meets.ensures.grown refl
+returns-clause-stays c = stays_by c.args.coded.now _ c.meets.ensures.facts c.meets.ensures.ordered c.meets.ensures.grown refl

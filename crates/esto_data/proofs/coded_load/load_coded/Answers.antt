@@ -25,7 +25,7 @@ returns-clause-loaded c =
     let catalogue = c.args.catalogue.now in
     let dataset = c.item-dataset.result.now in
     file_more catalogue.datasets c.args.wanted.now c.args.number c.args.bytes.now dataset c.args.coded.now c.put_file.new.coded
-    c.put_file.result c.item-dataset.ensures
+    c.put_file.result c.rows_in_order_stand_for_facts.ensures c.item-dataset.ensures
     (subst (λ (bytes : List ℕ). PutsFile dataset.model dataset c.args.wanted.now bytes c.args.coded.now c.put_file.new.coded c.put_file.result)
     c.bytes.ensures c.put_file.ensures)
 

@@ -12,7 +12,7 @@ pub returns : goal.returns
 returns c = (
   c.in_ok-rows.ensures.rows.0,
   coded_put c.args.dataset.now.base (table_rows c.args.dataset.now.columns c.args.bytes.now) c.in_ok-rows.rows.rows c.args.coded.now
-      c.code_table.new.self c.put_coded.new.self c.code_table.ensures.facts c.code_table.ensures.arities c.in_ok-rows.ensures.rows.2
-      c.in_ok-put_coded.ensures.facts c.in_ok-put_coded.ensures.arities,
+      c.code_table.new.self c.put_coded.new.self c.code_table.ensures.ordered c.code_table.ensures.arities c.in_ok-rows.ensures.rows.2
+      c.in_ok-put_coded.ensures.ordered c.in_ok-put_coded.ensures.arities,
   refl,
 )

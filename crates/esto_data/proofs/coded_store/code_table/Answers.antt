@@ -1,4 +1,6 @@
+use Rattle.std.proofs.Common.{refl}
 use Rattle.esto_stores.specs.Table.{table_fault, table_rows}
+use Rattle.esto_data.proofs.CodedRowLemmas.{coded_by}
 use Rattle.esto_data.proofs.CodedViewLemmas.{file_added}
 use Rattle.esto_data.proofs.coded_store.code_table.Goals as goal
 
@@ -9,10 +11,10 @@ returns-clause-rows c =
     c.in_ok-own.ensures.rows.2 c.in_ok-push.ensures.ok
 
 pub returns-in_err-own-clause-kept : goal.returns-in_err-own-clause-kept
-returns-in_err-own-clause-kept c loaded its = record { stand = c.code_table.ensures.facts loaded.facts its.stand; next = its.next }
+returns-in_err-own-clause-kept c = coded_by c.args.coded.now _ c.code_table.ensures.facts c.code_table.ensures.ordered refl
 
 pub returns-in_err-push-clause-kept : goal.returns-in_err-push-clause-kept
-returns-in_err-push-clause-kept c loaded its = record { stand = c.code_table.ensures.facts loaded.facts its.stand; next = its.next }
+returns-in_err-push-clause-kept c = coded_by c.args.coded.now _ c.code_table.ensures.facts c.code_table.ensures.ordered refl
 
 pub returns-clause-kept : goal.returns-clause-kept
-returns-clause-kept c loaded its = record { stand = c.code_table.ensures.facts loaded.facts its.stand; next = its.next }
+returns-clause-kept c = coded_by c.args.coded.now _ c.code_table.ensures.facts c.code_table.ensures.ordered refl

@@ -1,7 +1,8 @@
-use Rattle.std.proofs.Common.{List, ◌++◌, ◌∷◌, [], sym, subst}
+use Rattle.std.proofs.Common.{List, ◌++◌, ◌∷◌, [], refl, sym, subst}
 use Rattle.std.proofs.lemmas.Result.{on_ok_weaker}
 use Rattle.esto_columns.specs.CodedRows.{CodedRows}
 use Rattle.esto_data.specs.Coding.{AreCodedLists}
+use Rattle.esto_data.proofs.CodedRowLemmas.{coded_by}
 use Rattle.esto_data.proofs.CodedViewLemmas.{lists_more}
 use Rattle.esto_data.proofs.coded_store.code_texts.Goals as goal
 
@@ -12,7 +13,7 @@ returns-clause-rows c = on_ok_weaker c.push.result (λ pushed lists before.
     c.in_ok-own.ensures.rows.1 before)) c.push.ensures.ok
 
 pub returns-in_err-own-clause-kept : goal.returns-in_err-own-clause-kept
-returns-in_err-own-clause-kept c loaded its = record { stand = c.code_rows.ensures.facts loaded.facts its.stand; next = its.next }
+returns-in_err-own-clause-kept c = coded_by c.args.coded.now _ c.code_rows.ensures.facts c.code_rows.ensures.ordered refl
 
 pub returns-clause-kept : goal.returns-clause-kept
-returns-clause-kept c loaded its = record { stand = c.code_rows.ensures.facts loaded.facts its.stand; next = its.next }
+returns-clause-kept c = coded_by c.args.coded.now _ c.code_rows.ensures.facts c.code_rows.ensures.ordered refl
