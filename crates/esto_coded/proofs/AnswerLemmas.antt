@@ -26,6 +26,7 @@ use Rattle.esto_steps.specs.Rows.{IsRowOf, held_by}
 use Rattle.esto_steps.specs.declared.steps.Steps.{Steps}
 use Rattle.esto_coded.specs.Answered.{AreCodedAnswers}
 use Rattle.esto_coded.specs.Coded.{IsCodeOf, AreCodesOf, AreTelling, StandFor, rows_in}
+use Rattle.esto_coded.specs.Parted.{term_step, term_of}
 use Rattle.esto_coded.specs.Relations.{coded_of}
 use Rattle.esto_coded.specs.Whole.{AreWholeSteps, IsOver, IsVain, TellsOver}
 use Rattle.esto_coded.specs.declared.coded.TheConstants.{FIRST_NODE}
@@ -40,13 +41,6 @@ code_step code (Term-F.Made _ _ _) = 0
 
 abbrev code_of : (List ℕ → ℕ) → Term → ℕ
 code_of code term = code_step code (out-Term term)
-
-abbrev term_step : ℕ → Option (List ℕ) → Term
-term_step code (Some text) = Const text
-term_step code None = Plain (code - FIRST_NODE)
-
-abbrev term_of : List (List ℕ) → ℕ → Term
-term_of texts code = term_step code (slice_get texts code)
 
 past_none : (texts : List (List ℕ)) (place : ℕ) → length texts ≤ place → slice_get texts place ≡ None
 past_none texts place past = elim (slice_get_cases texts place).1 [
@@ -84,7 +78,7 @@ module _ (texts : List (List ℕ)) (telling : AreTelling texts) where
         ap (term_step code) none ∙ ap Plain number ∙ sym same
   ]
 
-  terms_are : (terms : List Term) (codes : List ℕ) → AreCodesOf texts terms codes → map (term_of texts) codes ≡ terms
+  pub terms_are : (terms : List Term) (codes : List ℕ) → AreCodesOf texts terms codes → map (term_of texts) codes ≡ terms
   terms_are [] [] are = refl
   terms_are [] (code ∷ codes) are = absurd are
   terms_are (term ∷ terms) [] are = absurd are
@@ -161,13 +155,13 @@ coded_rows relations = map (λ (stored : StoredRows). stored.rows) relations
 pub rows_in_is : (relations : List StoredRows) → rows_in (coded_rows relations) ≡ held_by (map rows_of relations)
 rows_in_is relations = ap held_by (map_then (λ (stored : StoredRows). stored.rows) (λ (relation : CodedRows). relation.rows) relations)
 
-rows_at : (relations : List StoredRows) (number : ℕ) (relation : StoredRows) → slice_get relations number ≡ Some relation
+pub rows_at : (relations : List StoredRows) (number : ℕ) (relation : StoredRows) → slice_get relations number ≡ Some relation
     → rows_in (coded_rows relations) number ≡ relation.rows.rows
 rows_at relations number relation at =
     ap (λ them. them number) (rows_in_is relations)
     ∙ get_or_from_slice_get (map rows_of relations) number relation.rows.rows [] (map_at rows_of relations number relation at)
 
-no_rows_at : (relations : List StoredRows) (number : ℕ) → slice_get relations number ≡ None → rows_in (coded_rows relations) number ≡ []
+pub no_rows_at : (relations : List StoredRows) (number : ℕ) → slice_get relations number ≡ None → rows_in (coded_rows relations) number ≡ []
 no_rows_at relations number none =
     ap (λ them. them number) (rows_in_is relations) ∙ get_or_past (map rows_of relations) number [] (past (slice_get_cases relations number).1)
   where

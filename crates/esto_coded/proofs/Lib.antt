@@ -7,3 +7,5 @@ pub mod MeetLemmas
 pub mod WholeLemmas
 pub mod AnswerLemmas
 pub mod MirrorLemmas
+pub mod ActiveLemmas
+pub mod PartLemmas

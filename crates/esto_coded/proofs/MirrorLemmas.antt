@@ -233,7 +233,7 @@ contrary_apart texts tell one other terms others (code ∷ key) (next ∷ rest) 
 )
 
 -- a map after another that makes the one half the other
-sends_after : (go m : Term → Term) (first second facts : List (Fact Term)) → map (image go) first ≡ second → Sends m second facts → Sends (λ term. m (go term)) first facts
+pub sends_after : (go m : Term → Term) (first second facts : List (Fact Term)) → map (image go) first ≡ second → Sends m second facts → Sends (λ term. m (go term)) first facts
 sends_after go m first second facts is sends atom inside =
     let there = subst (λ atoms. Contains atoms (image go atom)) is (Contains-map (image go) first atom inside) in
     subst (λ them. Contains facts (record { relation = atom.relation; terms = them })) (map_then go m atom.terms) (sends (image go atom) there)

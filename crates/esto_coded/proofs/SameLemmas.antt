@@ -68,7 +68,7 @@ marked_none rows marks none place = (
   λ found. absurd (Contains-nil found.0 found.1),
 )
 
-one_place : (rows : List (List ℕ)) (row : List ℕ) (place other : ℕ) → StandsLast rows row place → StandsLast rows row other → place ≡ other
+pub one_place : (rows : List (List ℕ)) (row : List ℕ) (place other : ℕ) → StandsLast rows row place → StandsLast rows row other → place ≡ other
 one_place rows row place other here there = elim (cases_order place other) [
   | inl same ↦ same
   | inr (inl under) ↦ absurd (here.last other under there.at)

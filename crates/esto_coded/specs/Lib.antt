@@ -6,3 +6,5 @@ pub mod Met
 pub mod Whole
 pub mod Mirrored
 pub mod Same
+pub mod Active
+pub mod Parted

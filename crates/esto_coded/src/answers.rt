@@ -94,7 +94,7 @@ fn answers_by(
 }
 
 /// The answers of the query over the relations. Constants of the query get codes.
-fn answers_over(
+pub(crate) fn answers_over(
     alloc: Global,
     head: &[Term],
     body: &[Atom],

@@ -24,7 +24,7 @@ use esto_term::{List, OutOfMemory, Replicate, Term, Terms, has_term};
 use std::alloc::Global;
 
 /// Both terms, in order.
-fn both_of(alloc: Global, left: &Term, right: &Term) -> Result<Terms, OutOfMemory>
+pub(crate) fn both_of(alloc: Global, left: &Term, right: &Term) -> Result<Terms, OutOfMemory>
     ensures { IfOk result (λ it. it ≡ left.now ∷ right.now ∷ []) }
 {
     let mut both = List::new(alloc);
