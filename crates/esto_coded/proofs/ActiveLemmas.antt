@@ -1,13 +1,12 @@
 -- Codes of a rule's active matches, by the rows of matches of its body.
-use Rattle.std.proofs.Common.{◌≡◌, ◌≢◌, ◌⊎◌, inl, inr, ℕ, ◌+◌, ◌<◌, ◌≤◌, Bool, true, false, cond, List, [], ◌∷◌, ◌++◌, map, length, take, Some, slice_get, Contains, refl, sym, ap, ◌∙◌}
-use Rattle.std.proofs.Common.{subst, arith, eqb, IsTrue, Result, Ok, Err}
+use Rattle.std.proofs.Common.{◌≡◌, ◌⊎◌, inl, inr, ℕ, ◌+◌, ◌≤◌, Bool, true, false, cond, List, [], ◌∷◌, ◌++◌, map, length, take, Some, slice_get, Contains, refl, sym, ap, ◌∙◌}
+use Rattle.std.proofs.Common.{subst, arith, IsTrue, Result, Ok, Err}
 use Rattle.std.specs.Prelude.{nat_eq}
-use Rattle.std.specs.List.{flat_map, list_all}
 use Rattle.std.specs.Result.{IfOk}
 use Rattle.std.specs.Set.{is_member}
 use Rattle.std.proofs.lemmas.Bool.{false≢true, and_parts, and_from}
 use Rattle.std.proofs.lemmas.Bool.Decides.{Decides-eqb}
-use Rattle.std.proofs.lemmas.List.{append_assoc, length-append, map-append, take_all, length-take-le}
+use Rattle.std.proofs.lemmas.List.{append_assoc, length-append, map-append, take_all}
 use Rattle.std.proofs.lemmas.List.Concat.{flat_map-append}
 use Rattle.std.proofs.lemmas.List.Elements.{Contains-append_left, Contains-append_right, Contains-append_cases, Contains-push_cases}
 use Rattle.std.proofs.lemmas.List.Folds.{list_all-append}
@@ -23,7 +22,7 @@ use Rattle.esto_columns.specs.Indexed.{Index, IsIndexOf}
 use Rattle.esto_columns.specs.RowIndexes.{StandsLast}
 use Rattle.esto_semantics.specs.Facts.{image, Mentions, terms_of}
 use Rattle.esto_semantics.specs.Maps.{IsFixedBy, Keeps, Sends}
-use Rattle.esto_semantics.specs.Rules.{Rule, denial, equality}
+use Rattle.esto_semantics.specs.Rules.{denial, equality}
 use Rattle.esto_semantics.specs.declared.fact.Fact.{Fact}
 use Rattle.esto_semantics.proofs.CanonicalLemmas.{Mentions-terms_of}
 use Rattle.esto_chase_laws.proofs.MakingLemmas.{terms_of-Mentions}

@@ -1,12 +1,12 @@
 -- A part of the facts, made from the rows all of whose codes are among some codes.
-use Rattle.std.proofs.Common.{◌≡◌, ◌≢◌, ◌⊎◌, ◌==◌, inl, inr, ℕ, zero, suc, ◌+◌, ◌<◌, ◌≤◌, Bool, true, false, cond, List, [], ◌∷◌, ◌++◌, map, length, take, Some, slice_get, Contains, refl, sym, ap, ◌∙◌}
+use Rattle.std.proofs.Common.{◌≡◌, ◌⊎◌, ◌==◌, inl, inr, ℕ, zero, suc, ◌+◌, ◌<◌, ◌≤◌, Bool, true, false, cond, List, [], ◌∷◌, ◌++◌, map, length, take, Some, slice_get, Contains, refl, sym, ap, ◌∙◌}
 use Rattle.std.proofs.Common.{subst, arith, Option, None, IsTrue}
 use Rattle.std.specs.Prelude.{nat_eq, IfSome, ◌||◌}
-use Rattle.std.specs.List.{AllZip, filter, list_any}
+use Rattle.std.specs.List.{AllZip, filter}
 use Rattle.std.specs.Set.{is_member}
 use Rattle.std.proofs.lemmas.Bool.{cases_lt, false≢true}
 use Rattle.std.proofs.lemmas.Bool.Decides.{Decides-eqb}
-use Rattle.std.proofs.lemmas.List.{append_assoc, append-nil, map-append, take_all}
+use Rattle.std.proofs.lemmas.List.{append_assoc, append-nil, map-append}
 use Rattle.std.proofs.lemmas.List.Elements.{filter-append}
 use Rattle.std.proofs.lemmas.Option.{same_Some, slice_get_cases}
 use Rattle.esto_term.specs.declared.term.Term.{Term}
@@ -19,8 +19,7 @@ use Rattle.esto_columns.specs.declared.stored.StoredRows.{StoredRows}
 use Rattle.esto_relmodel.specs.Once.{StandsBefore}
 use Rattle.esto_relmodel.specs.Parts.{IsPartFor}
 use Rattle.esto_semantics.specs.Facts.{image, Mentions}
-use Rattle.esto_semantics.specs.Maps.{Keeps, Sends, SendsInto}
-use Rattle.esto_semantics.specs.Matches.{IsActive}
+use Rattle.esto_semantics.specs.Maps.{Sends, SendsInto}
 use Rattle.esto_semantics.specs.Rules.{Rule, Concludes, body_of, denial, equality}
 use Rattle.esto_semantics.specs.declared.fact.Fact.{Fact}
 use Rattle.esto_coded.specs.Active.{HaveActive, are_among}

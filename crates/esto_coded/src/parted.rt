@@ -25,12 +25,7 @@ fn term_of(alloc: Global, code: u64, codes: &Codes) -> Result<Term, OutOfMemory>
 }
 
 /// Puts the term for which the code stands at the end.
-fn push_term(
-    alloc: Global,
-    code: u64,
-    codes: &Codes,
-    terms: &mut Terms,
-) -> Result<(), OutOfMemory>
+fn push_term(alloc: Global, code: u64, codes: &Codes, terms: &mut Terms) -> Result<(), OutOfMemory>
     ensures { OnOk result (terms.new ≡ terms.old ++ term_of codes.now code ∷ []) }
 {
     let term = term_of(alloc, code, codes)?;

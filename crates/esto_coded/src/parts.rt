@@ -160,7 +160,7 @@ fn mirrored_codes(
     ensures active { IfOk result (λ it. (second : List (Fact Term)) (right : Term)
         → IsMirrored first.now second left.now right shared.now
         → HaveActive (coded_of codes.new relations.now)
-            (equality (first.now ++ second) left.now right) it) }
+        (equality (first.now ++ second) left.now right) it) }
 {
     let lead = with_first(alloc, left, shared)?;
     let rows = match_rows(alloc, &lead, first, codes, relations)?;

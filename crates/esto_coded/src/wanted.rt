@@ -130,12 +130,7 @@ fn note_at(
 }
 
 /// Notes the fronts of the rows, where none is noted before.
-fn note_fronts(
-    alloc: Global,
-    rows: &Rows,
-    width: usize,
-    keys: &mut Keys,
-) -> Result<(), OutOfMemory>
+fn note_fronts(alloc: Global, rows: &Rows, width: usize, keys: &mut Keys) -> Result<(), OutOfMemory>
     requires wide { width ≤ rows.now.arity }
     requires arity { keys.old.keys.arity + 1 ≡ width }
     requires none { Know keys.old [] }

@@ -1,4 +1,4 @@
-use Rattle.std.proofs.Common.{Contains, sym, subst}
+use Rattle.std.proofs.Common.{sym, subst}
 use Rattle.esto_semantics.specs.Facts.{terms_of}
 use Rattle.esto_coded.specs.Active.{AddsTerms}
 use Rattle.esto_coded.specs.Relations.{coded_of}

@@ -1,4 +1,4 @@
-use Rattle.std.proofs.Common.{◌≡◌, Some, slice_get, get_or}
+use Rattle.std.proofs.Common.{get_or}
 use Rattle.std.proofs.lemmas.Option.{slice_get-get_or}
 use Rattle.esto_coded.proofs.ActiveLemmas.{takes_none, takes_more, takes_all}
 use Rattle.esto_coded.proofs.code_set.CodeSet.add_all.Goals as goal

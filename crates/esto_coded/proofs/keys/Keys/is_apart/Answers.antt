@@ -1,4 +1,4 @@
-use Rattle.std.proofs.Common.{Contains, sym, ◌∙◌}
+use Rattle.std.proofs.Common.{Contains, ◌∙◌}
 use Rattle.std.proofs.lemmas.Option.{MatchOption-at_none, MatchOption-at_some}
 use Rattle.esto_columns.specs.RowIndexes.{StandsLast}
 use Rattle.esto_coded.proofs.ActiveLemmas.{apart_found, apart_there}
