@@ -1,12 +1,12 @@
 -- Rules and rows of fragments over rows of codes.
-use Rattle.std.proofs.Common.{◌≡◌, ◌↔◌, ◌<◌, ◌≤◌, ◌+◌, inl, inr, ℕ, Bool, true, false, List, [], length, get_or, take, Some, slice_get, Contains, refl, sym, ◌∙◌, IsTrue, None, arith}
+use Rattle.std.proofs.Common.{◌≡◌, ◌↔◌, ◌<◌, ◌≤◌, ◌+◌, inl, inr, ℕ, Bool, true, false, List, [], length, get_or, take, Option, Some, slice_get, Contains, refl, sym, ◌∙◌, IsTrue, None, arith}
 use Rattle.std.proofs.lemmas.Bool.{false≢true}
 use Rattle.esto_columns.specs.CodedRows.{CodedRows}
 use Rattle.esto_columns.specs.Interned.{AreCodedRows}
 use Rattle.esto_constraint.specs.Constraints.{rule_of, rules_of}
 use Rattle.esto_constraint.specs.declared.rule.Constraint.{Constraint}
 use Rattle.esto_query.specs.Making.{query_of}
-use Rattle.esto_semantics.specs.Queries.{IsAnswer}
+use Rattle.esto_semantics.specs.Queries.{ConjunctiveQuery, IsAnswer}
 use Rattle.esto_semantics.specs.Rules.{AreRules, IsMet, Rule}
 use Rattle.esto_semantics.specs.Standing.{RulesStand}
 use Rattle.esto_semantics.specs.declared.fact.Fact.{Fact}
@@ -19,11 +19,14 @@ use Rattle.esto_views.specs.Fragments.{views_of}
 use Rattle.esto_views.specs.declared.fragments.FragmentDef.{FragmentDef}
 use Rattle.esto_data.specs.CodedParts.{Stays}
 use Rattle.esto_data.specs.Coding.{AreCodedLists, IsCodedOf}
+use Rattle.esto_data.specs.Disagreeing.{FindsDisagreement, FindsUnlike, IsFirstUnpassed}
 use Rattle.esto_fill.specs.Databases.{database_of}
 use Rattle.esto_fill.specs.Differences.{Agree, HoldViewRows}
 use Rattle.esto_fill.specs.Judging.{ArePassed, IsPassed}
 use Rattle.esto_fill.specs.Texts.{AreExactly}
 use Rattle.esto_fill.specs.Trials.{IsEnough}
+use Rattle.esto_data.specs.declared.coded_audit.Disagreement.{Disagreement}
+use Rattle.esto_data.specs.declared.coded_audit.Disagreement.TheVariants as disagreement
 use Rattle.esto_data.specs.declared.coded_data.CodedData.{CodedData}
 use Rattle.esto_fill.specs.declared.loaded.Loaded.{Loaded}
 use Rattle.esto_data.proofs.CodedRowLemmas.{stays_itself, stays_on}
@@ -80,15 +83,22 @@ module _ (old middle new : CodedData) (laws : List Rule) (rules : List Constrain
         (before.passed loaded its);
   }
 
-  pub rules_stop : answer ≡ false → (loaded : Loaded) → IsCodedOf loaded old → IsTrue false ↔ ArePassed laws loaded.facts (rules_of rules)
-  rules_stop apart loaded its = told_false (λ all.
-      let there = map_at rule_of rules count rule (item_at rules count rule within read) in
-      let passed = all (rule_of rule) (Contains-at (rules_of rules) count (rule_of rule) there) in
-      false≢true (sym apart ∙ (told loaded (before.stays.kept loaded its)).1 passed))
+  pub rules_stop : answer ≡ false → (loaded : Loaded) → IsCodedOf loaded old → IsFirstUnpassed laws (rules_of rules) loaded.facts count
+  rules_stop apart loaded its =
+      let failed : ¬ (IsPassed laws loaded.facts (rule_of rule)) =
+      λ passed. false≢true (sym apart ∙ (told loaded (before.stays.kept loaded its)).1 passed) in
+      let tried : ¬ (Contains laws (rule_of rule)) = λ law. failed (inl law) in
+      record {
+        rule = rule_of rule;
+        there = map_at rule_of rules count rule (item_at rules count rule within read);
+        tried = tried;
+        unmet = λ met. failed (inr (tried, met));
+        before = before.passed loaded its;
+      }
 
 pub rules_end : (old new : CodedData) (laws : List Rule) (rules : List Constraint) (count : ℕ) → length rules ≤ count → RulesSoFar old new laws rules count
-    → (loaded : Loaded) → IsCodedOf loaded old → IsTrue true ↔ ArePassed laws loaded.facts (rules_of rules)
-rules_end old new laws rules count past before loaded its = told_true (passed_all laws loaded.facts rules count past (before.passed loaded its))
+    → (loaded : Loaded) → IsCodedOf loaded old → ArePassed laws loaded.facts (rules_of rules)
+rules_end old new laws rules count past before loaded its = passed_all laws loaded.facts rules count past (before.passed loaded its)
 
 -- ---- fragments
 
@@ -142,25 +152,18 @@ fragments_end old new rows fragments count many past before loaded its lists are
 
 -- ---- both
 
-module _ (old middle : CodedData) (laws : List Rule) (rules : List Constraint) (rows : List CodedRows) (fragments : List FragmentDef)
-    (loaded : Loaded) (its : IsCodedOf loaded old) (lists : List (List Row)) (are : AreCodedLists old.facts.texts rows lists) where
-  -- the rules are passed, and the fragments hold the rows of their views
-  abbrev pub AgreeHere : Type 0
-  AgreeHere = ArePassed laws loaded.facts (rules_of rules) × HoldViewRows (views_of fragments) (database_of loaded.facts) (IsRowOf (held_by lists))
+-- the fragments hold the rows of their views, or some fragment has other rows
+pub unlike_told : (views : List ConjunctiveQuery) (facts : List (Fact Term)) (lists : List (List Row)) → IsTrue false
+    ↔ HoldViewRows views (database_of facts) (IsRowOf (held_by lists)) → FindsUnlike views facts lists (Some disagreement.Rows)
+unlike_told views facts lists told hold = false≢true (told.1 hold)
 
-  pub rules_apart : (answer : Bool) → answer ≡ false → IsTrue answer ↔ ArePassed laws loaded.facts (rules_of rules) → IsTrue false ↔ AgreeHere
-  rules_apart answer apart told = told_false (λ both. false≢true (sym apart ∙ told.1 both.0))
-
-  pub fragments_told : (answer : Bool) → answer ≡ true → IsTrue answer ↔ ArePassed laws loaded.facts (rules_of rules) → Stays old middle → (same : Bool)
-      → ((its : IsCodedOf loaded middle) → AreCodedLists middle.facts.texts rows lists
-      → IsTrue same ↔ HoldViewRows (views_of fragments) (database_of loaded.facts) (IsRowOf (held_by lists))) → IsTrue same ↔ AgreeHere
-  fragments_told answer so told step same hold = (
-    (λ its_rows. (told.0 so, here.0 its_rows)),
-    (λ both. here.1 both.1),
-  )
-    where
-      here : IsTrue same ↔ HoldViewRows (views_of fragments) (database_of loaded.facts) (IsRowOf (held_by lists))
-      here = hold (step.kept loaded its) (lists_grow old.facts.texts middle.facts.texts rows lists step.grown are)
+module _ (laws rules : List Rule) (views : List ConjunctiveQuery) (facts : List (Fact Term)) (lists : List (List Row)) where
+  -- where each rule is passed, what is found of the fragments is found of all
+  pub all_found : (outcome : Option Disagreement) → ArePassed laws facts rules → FindsUnlike views facts lists outcome
+      → FindsDisagreement laws rules views facts lists outcome
+  all_found None passed hold = (passed, hold)
+  all_found (Some (disagreement.Rule number)) passed never = absurd never
+  all_found (Some disagreement.Rows) passed unlike = unlike
 
 -- so facts of which these are enough agree with the rows
 pub agrees : (stand : RulesStand) (rules : List Constraint) (laws : List Rule) (fragments : List FragmentDef) (facts some : List (Fact Term))

@@ -7,3 +7,4 @@ pub mod Audit
 pub mod Exact
 pub mod DataLaws
 pub mod Agreement
+pub mod Disagreeing

@@ -1,5 +1,5 @@
 //! Whether facts that rows of codes stand for and the rows of fragments agree.
-ghost use Rattle.std.specs.Prelude.{◌≡◌, ◌↔◌, List, IsTrue, true, length, IfOk};
+ghost use Rattle.std.specs.Prelude.{◌≡◌, ◌↔◌, List, IsTrue, None, length, IfOk};
 ghost use Rattle.esto_columns.specs.Interned.{AreCodedRows, Grows};
 ghost use Rattle.esto_constraint.specs.Constraints.{rule_of, rules_of};
 ghost use Rattle.esto_query.specs.Making.{query_of};
@@ -11,9 +11,10 @@ ghost use Rattle.esto_term.specs.declared.term.Term.{Term};
 ghost use Rattle.esto_views.specs.Fragments.{views_of};
 ghost use Rattle.esto_data.specs.CodedParts.{Stays};
 ghost use Rattle.esto_data.specs.Coding.{AreCodedLists, IsCoded, IsCodedOf};
+ghost use Rattle.esto_data.specs.Disagreeing.{FindsDisagreement, FindsUnlike, FindsUnpassed};
 ghost use Rattle.esto_fill.specs.Databases.{database_of};
 ghost use Rattle.esto_fill.specs.Differences.{Agree, HoldViewRows};
-ghost use Rattle.esto_fill.specs.Judging.{ArePassed, IsPassed};
+ghost use Rattle.esto_fill.specs.Judging.{IsPassed};
 ghost use Rattle.esto_fill.specs.Texts.{AreExactly};
 ghost use Rattle.esto_fill.specs.Trials.{IsEnoughFor};
 ghost use Rattle.esto_fill.specs.declared.loaded.Loaded.{Loaded};
@@ -34,6 +35,15 @@ use std::alloc::Global;
 /// The rows of fragments as rows of codes, a list for each, in order.
 pub type CodedRowsList = List<Rows>;
 
+/// Where facts and the rows of fragments do not agree.
+#[derive(Clone, Copy)]
+pub enum Disagreement {
+    /// The rule of this number, counted from 0, is the first that the facts do not meet.
+    Rule(usize),
+    /// The facts meet all rules, and a fragment has other rows than its view.
+    Rows,
+}
+
 // Whether the rule is one of the laws, or is met.
 fn is_passed(
     alloc: Global,
@@ -51,23 +61,23 @@ fn is_passed(
     coded.facts.meets(alloc, rule)
 }
 
-// Whether each of the rules is one of the laws, or is met.
-fn are_passed(
+// The number of the first of the rules that is neither one of the laws nor met.
+fn first_unpassed(
     alloc: Global,
     rules: &[Constraint],
     laws: &[Constraint],
     coded: &mut CodedData,
-) -> Result<bool, OutOfMemory>
-    ensures passed { IfOk result (λ it. (loaded : Loaded) → IsCodedOf loaded coded.old
-        → IsTrue it ↔ ArePassed (rules_of laws.now) loaded.facts (rules_of rules.now)) }
+) -> Result<Option<usize>, OutOfMemory>
+    ensures found { IfOk result (λ it. (loaded : Loaded) → IsCodedOf loaded coded.old
+        → FindsUnpassed (rules_of laws.now) (rules_of rules.now) loaded.facts it) }
     ensures stays { Stays coded.old coded.new }
 {
-    'rules: for rule in rules {
+    'rules: for (number, rule) in rules.iter().enumerate() {
         if !is_passed(alloc, rule, laws, coded)? {
-            return Ok(false);
+            return Ok(Some(number));
         }
     }
-    Ok(true)
+    Ok(None)
 }
 
 // Whether the rows are, as a set, those of the view. Indexes are made before for the joins of its body.
@@ -114,25 +124,43 @@ fn hold_views(
     Ok(true)
 }
 
-/// Whether the facts that the rows of codes stand for meet the rules of the catalogue that are none of the laws, and
-/// the rows of each fragment are, as a set, those of its view over them. The laws are not tried. So where facts meet
-/// the laws, and the rows of codes stand for enough of them, they agree with the rows of the fragments.
-pub fn agree_coded(
+// That some fragment has other rows than its view, where one has.
+fn unlike_rows(
+    alloc: Global,
+    fragments: &[FragmentDef],
+    rows: &CodedRowsList,
+    coded: &mut CodedData,
+) -> Result<Option<Disagreement>, OutOfMemory>
+    requires { length rows.now ≡ length fragments.now }
+    ensures found { IfOk result (λ it. (loaded : Loaded) → IsCodedOf loaded coded.old
+        → (lists : List (List Row)) → AreCodedLists coded.old.facts.texts rows.now lists
+        → FindsUnlike (views_of fragments.now) loaded.facts lists it) }
+    ensures stays { Stays coded.old coded.new }
+{
+    if hold_views(alloc, fragments, rows, coded)? {
+        return Ok(None);
+    }
+    Ok(Some(Disagreement::Rows))
+}
+
+/// Where the facts that the rows of codes stand for and the rows of the fragments do not agree: the first rule of the
+/// catalogue that is none of the laws and that the facts do not meet; or else that a fragment has other rows than its
+/// view over them. None comes exactly where all agree. The laws are not tried. So where facts meet the laws, and the
+/// rows of codes stand for enough of them, they agree with the rows of the fragments.
+pub fn first_disagreement(
     alloc: Global,
     catalogue: &Catalogue,
     laws: &Rules,
     coded: &mut CodedData,
     rows: &CodedRowsList,
-) -> Result<bool, OutOfMemory>
+) -> Result<Option<Disagreement>, OutOfMemory>
     requires many { length rows.now ≡ length catalogue.now.fragments }
     requires coded { IsCoded coded.old }
-    ensures exact { IfOk result (λ it. (loaded : Loaded) → IsCodedOf loaded coded.old
+    ensures found { IfOk result (λ it. (loaded : Loaded) → IsCodedOf loaded coded.old
         → (lists : List (List Row)) → AreCodedLists coded.old.facts.texts rows.now lists
-        → IsTrue it
-        ↔ (ArePassed (rules_of laws.now) loaded.facts (rules_of catalogue.now.rules)
-        × HoldViewRows (views_of catalogue.now.fragments) (database_of loaded.facts)
-        (IsRowOf (held_by lists)))) }
-    ensures agree { IfOk result (λ it. (it ≡ true) → (loaded : Loaded) → IsCodedOf loaded coded.old
+        → FindsDisagreement (rules_of laws.now) (rules_of catalogue.now.rules)
+        (views_of catalogue.now.fragments) loaded.facts lists it) }
+    ensures agree { IfOk result (λ it. (it ≡ None) → (loaded : Loaded) → IsCodedOf loaded coded.old
         → (facts : List (Fact Term))
         → IsEnoughFor catalogue.now (rules_of laws.now) facts loaded.facts
         → (lists : List (List Row)) → AreCodedLists coded.old.facts.texts rows.now lists
@@ -143,8 +171,8 @@ pub fn agree_coded(
 {
     databases_stand_for_facts();
     rules_are_sound();
-    if !are_passed(alloc, catalogue.rules.items(), laws.items(), coded)? {
-        return Ok(false);
+    match first_unpassed(alloc, catalogue.rules.items(), laws.items(), coded)? {
+        Some(number) => Ok(Some(Disagreement::Rule(number))),
+        None => unlike_rows(alloc, catalogue.fragments.items(), rows, coded),
     }
-    hold_views(alloc, catalogue.fragments.items(), rows, coded)
 }

@@ -2,10 +2,12 @@
 ghost use Rattle.std.specs.Prelude.{◌≡◌, ◌++◌, ◌∷◌, [], ◌↔◌, ℕ, List, length, Contains, IfOk, OnOk};
 ghost use Rattle.esto_constraint.specs.Constraints.{rules_of};
 ghost use Rattle.esto_columns.specs.Interned.{AreCodedRows};
-ghost use Rattle.esto_data.specs.Coding.{AreCodedLists};
+ghost use Rattle.esto_data.specs.Coding.{AreCodedLists, IsCodedOf};
+ghost use Rattle.esto_data.specs.Disagreeing.{IsFirstUnpassed};
 ghost use Rattle.esto_fill.specs.Databases.{database_of};
 ghost use Rattle.esto_fill.specs.Texts.{AreTextViews};
 ghost use Rattle.esto_fill.specs.Trials.{IsEnoughFor, IsTrialOf};
+ghost use Rattle.esto_fill.specs.declared.loaded.Loaded.{Loaded};
 ghost use Rattle.esto_semantics.specs.declared.fact.Fact.{Fact};
 ghost use Rattle.esto_stores.specs.Rows.{Row};
 ghost use Rattle.esto_term.specs.declared.term.Term.{Term};
@@ -13,8 +15,9 @@ ghost use Rattle.esto_views.specs.Fragments.{views_of};
 ghost use Rattle.esto_status.specs.Answers.{Answers};
 ghost use Rattle.esto_data.specs.Audit.{AddsTexts, AreFactsToAudit, AreRowsOfFiles, HoldContents, HoldSameRows, HoldsAudit, compares};
 
-use crate::coded_audit::{CodedRowsList, agree_coded};
+use crate::coded_audit::{CodedRowsList, Disagreement, first_disagreement};
 use crate::coded_data::CodedData;
+use crate::coded_rule::rule_difference;
 use crate::kept::load_again;
 use esto_columns::Rows;
 use esto_fill::{
@@ -134,6 +137,36 @@ fn compare_anew(
     compare_texts(alloc, catalogue, trial, files, &texts)
 }
 
+// The status of the first difference, where the rule of the number is the first that is not passed. It is looked for in a part
+// of the facts, where there is one for the rule.
+fn compare_by_rule(
+    alloc: Global,
+    catalogue: &Catalogue,
+    trial: &Trial,
+    files: &LoadList,
+    number: usize,
+    coded: CodedData,
+    rows: CodedRowsList,
+) -> Result<(), Status>
+    requires trial { IsTrialOf catalogue.now trial.now }
+    requires facts { (facts : List (Fact Term))
+        × HoldsAudit catalogue.now trial.now.wanted files.now facts coded }
+    requires rows { (contents : ℕ → List ℕ)
+        × HoldContents catalogue.now contents coded.facts.texts rows }
+    requires broken { (loaded : Loaded) → IsCodedOf loaded coded
+        → IsFirstUnpassed (rules_of trial.now.laws) (rules_of catalogue.now.rules) loaded.facts number }
+    ensures { (facts : List (Fact Term))
+        → HoldsAudit catalogue.now trial.now.wanted files.now facts coded
+        → (contents : ℕ → List ℕ) → HoldContents catalogue.now contents coded.facts.texts rows
+        → Answers (compares catalogue.now facts contents) ⊥ result }
+{
+    let mut coded = coded;
+    match rule_difference(alloc, catalogue, &trial.laws, number, &mut coded)? {
+        Some(difference) => Err(Status::Differs(difference)),
+        None => compare_anew(alloc, catalogue, trial, files, coded, rows),
+    }
+}
+
 /// The facts meet the rules, and the rows of the fragments are those of their views; or the status of the first difference.
 pub fn compare(
     alloc: Global,
@@ -155,8 +188,11 @@ pub fn compare(
 {
     audits_are_over_files();
     let mut coded = coded;
-    if agree_coded(alloc, catalogue, &trial.laws, &mut coded, &rows)? {
-        return Ok(());
+    match first_disagreement(alloc, catalogue, &trial.laws, &mut coded, &rows)? {
+        None => Ok(()),
+        Some(Disagreement::Rule(number)) => {
+            compare_by_rule(alloc, catalogue, trial, files, number, coded, rows)
+        }
+        Some(Disagreement::Rows) => compare_anew(alloc, catalogue, trial, files, coded, rows),
     }
-    compare_anew(alloc, catalogue, trial, files, coded, rows)
 }

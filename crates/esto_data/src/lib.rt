@@ -12,6 +12,7 @@ mod coded_documents;
 mod coded_filled;
 mod coded_load;
 mod coded_nodes;
+mod coded_rule;
 mod coded_store;
 mod coded_views;
 mod comparing;

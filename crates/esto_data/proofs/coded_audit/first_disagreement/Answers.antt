@@ -3,7 +3,7 @@ use Rattle.esto_columns.proofs.CodingLemmas.{grows_on}
 use Rattle.esto_constraint.specs.Constraints.{rules_of}
 use Rattle.esto_data.proofs.CodedAuditLemmas.{agrees, fragments_told, rules_apart}
 use Rattle.esto_fill.proofs.DifferenceLemmas.{are_rules}
-use Rattle.esto_data.proofs.coded_audit.agree_coded.Goals as goal
+use Rattle.esto_data.proofs.coded_audit.first_disagreement.Goals as goal
 
 pub returns-then-not-branch-clause-exact : goal.returns-then-not-branch-clause-exact
 returns-then-not-branch-clause-exact c loaded its lists are =

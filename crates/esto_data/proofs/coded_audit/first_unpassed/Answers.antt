@@ -2,13 +2,13 @@ use Rattle.std.proofs.Common.{arith}
 use Rattle.esto_constraint.specs.Constraints.{rules_of}
 use Rattle.esto_data.proofs.CodedAuditLemmas.{rules_end, rules_goes, rules_start, rules_stop}
 use Rattle.esto_data.proofs.CodedRowLemmas.{stays_on}
-use Rattle.esto_data.proofs.coded_audit.are_passed.Goals as goal
+use Rattle.esto_data.proofs.coded_audit.first_unpassed.Goals as goal
 
 pub rules-init : goal.rules-init
 rules-init c = rules_start c.args.coded.now (rules_of c.args.laws.now) c.args.rules.now
 
-pub returns-then-not-branch-clause-passed : goal.returns-then-not-branch-clause-passed
-returns-then-not-branch-clause-passed c =
+pub returns-then-not-branch-clause-found : goal.returns-then-not-branch-clause-found
+returns-then-not-branch-clause-found c =
     rules_stop c.args.coded.now c.rules.coded c.is_passed.new.coded (rules_of c.args.laws.now) c.args.rules.now c.rules.rule-index c.rule-item.result
     c.rules-test.true c.rule-item.is c.rules.invariant c.is_passed.ensures.stays c.in_ok-is_passed.field-0 c.in_ok-is_passed.ensures.passed
     c.if-not-branch.true
@@ -19,8 +19,8 @@ rules-preserved c =
     c.rules-test.true c.rule-item.is c.rules.invariant c.is_passed.ensures.stays c.in_ok-is_passed.field-0 c.in_ok-is_passed.ensures.passed
     c.if-not-branch.false
 
-pub returns-clause-passed : goal.returns-clause-passed
-returns-clause-passed c loaded its =
+pub returns-clause-found : goal.returns-clause-found
+returns-clause-found c loaded its =
     rules_end c.args.coded.now c.rules.coded (rules_of c.args.laws.now) c.args.rules.now c.rules.rule-index (omega (arith, c.rules-test.false))
     c.rules.invariant loaded its
 
