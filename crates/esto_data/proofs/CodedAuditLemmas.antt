@@ -152,11 +152,6 @@ fragments_end old new rows fragments count many past before loaded its lists are
 
 -- ---- both
 
--- the fragments hold the rows of their views, or some fragment has other rows
-pub unlike_told : (views : List ConjunctiveQuery) (facts : List (Fact Term)) (lists : List (List Row)) → IsTrue false
-    ↔ HoldViewRows views (database_of facts) (IsRowOf (held_by lists)) → FindsUnlike views facts lists (Some disagreement.Rows)
-unlike_told views facts lists told hold = false≢true (told.1 hold)
-
 module _ (laws rules : List Rule) (views : List ConjunctiveQuery) (facts : List (Fact Term)) (lists : List (List Row)) where
   -- where each rule is passed, what is found of the fragments is found of all
   pub all_found : (outcome : Option Disagreement) → ArePassed laws facts rules → FindsUnlike views facts lists outcome

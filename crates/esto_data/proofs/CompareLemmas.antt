@@ -1,13 +1,15 @@
 -- The rows of fragments as rows of codes and as rows of texts, and what is compared.
 use Rattle.std.proofs.Common.{◌≡◌, ◌↔◌, ◌<◌, ◌≤◌, ◌+◌, inl, inr, ℕ, List, [], ◌∷◌, length, length-append, map, get_or, slice_get, Contains, Some}
 use Rattle.std.proofs.Common.{refl, sym, ap, subst, ◌∙◌, arith}
+use Rattle.std.proofs.lemmas.List.{length-map}
 use Rattle.std.proofs.lemmas.Option.{same_Some, slice_get_within}
 use Rattle.esto_mapping.specs.declared.catalogue.Catalogue.{Catalogue}
 use Rattle.esto_mapping.specs.declared.dataset.Dataset.{Dataset}
 use Rattle.esto_columns.specs.CodedRows.{CodedRows}
 use Rattle.esto_columns.specs.Interned.{AreCodedRows, AreCodesOf, Grows}
 use Rattle.esto_columns.proofs.CodingLemmas.{rows_grow}
-use Rattle.esto_constraint.specs.Constraints.{rules_of}
+use Rattle.esto_constraint.specs.Constraints.{rule_of, rules_of}
+use Rattle.esto_constraint.specs.declared.rule.Constraint.{Constraint}
 use Rattle.esto_data.specs.Coding.{AreCodedLists}
 use Rattle.esto_fill.specs.Databases.{database_of}
 use Rattle.esto_fill.specs.Files.{AreFactsFrom, IsLoadedFrom, nodes_in}
@@ -19,6 +21,7 @@ use Rattle.esto_fill.specs.declared.datasets.DatasetBytes.{DatasetBytes}
 use Rattle.esto_fill.specs.declared.loaded.Loaded.{Loaded}
 use Rattle.esto_fill.specs.declared.trial.Trial.{Trial}
 use Rattle.esto_run.proofs.HeldLemmas.{code_below, text_of_codes}
+use Rattle.esto_semantics.specs.Rules.{Rule}
 use Rattle.esto_semantics.specs.declared.fact.Fact.{Fact}
 use Rattle.esto_steps.specs.Rows.{IsRowOf, held_by}
 use Rattle.esto_stores.specs.Rows.{Row}
@@ -46,6 +49,11 @@ module _ (catalogue : Catalogue) (contents : ℕ → List ℕ) (texts : List (Li
 
   pub contents_many : length lists ≡ length catalogue.fragments
   contents_many = zip_length _ lists held.rows held.coded ∙ held.are.many
+
+-- a rule that is there has a number below how many there are
+pub rule_within : (rules : List Constraint) (number : ℕ) (rule : Rule) → slice_get (rules_of rules) number ≡ Some rule → number < length rules
+rule_within rules number rule there =
+    subst (λ long. number < long) (length-map rules rule_of) (slice_get_within (rules_of rules) number rule there)
 
 -- ---- their texts
 

@@ -1,13 +1,12 @@
 //! The difference of a rule that is not met, from a part of the facts.
-ghost use Rattle.std.specs.Prelude.{◌≡◌, ◌<◌, List, Some, length, map, MatchOption, IfOk};
+ghost use Rattle.std.specs.Prelude.{◌<◌, List, length, MatchOption, IfOk};
 ghost use Rattle.esto_constraint.specs.Constraints.{rules_of};
-ghost use Rattle.esto_constraint.specs.EncodingRules.{written};
 ghost use Rattle.esto_semantics.specs.declared.fact.Fact.{Fact};
 ghost use Rattle.esto_term.specs.declared.term.Term.{Term};
 ghost use Rattle.esto_data.specs.CodedParts.{Stays};
 ghost use Rattle.esto_data.specs.Coding.{IsCodedOf};
 ghost use Rattle.esto_data.specs.Disagreeing.{IsFirstUnpassed};
-ghost use Rattle.esto_fill.specs.Judging.{JudgesRules};
+ghost use Rattle.esto_fill.specs.Parts.{IsFirstByRule};
 ghost use Rattle.esto_fill.specs.Trials.{IsEnoughFor};
 ghost use Rattle.esto_fill.specs.declared.loaded.Loaded.{Loaded};
 
@@ -32,7 +31,7 @@ pub fn rule_difference(
         (loaded : Loaded) → IsCodedOf loaded coded.old
         → IsFirstUnpassed (rules_of laws.now) (rules_of catalogue.now.rules) loaded.facts number
         → (facts : List (Fact Term)) → IsEnoughFor catalogue.now (rules_of laws.now) facts loaded.facts
-        → JudgesRules (rules_of catalogue.now.rules) (map written catalogue.now.rules) facts (Some difference))) }
+        → IsFirstByRule catalogue.now facts difference)) }
     ensures stays { Stays coded.old coded.new }
 {
     Ok(None)

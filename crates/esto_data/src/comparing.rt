@@ -1,13 +1,12 @@
 //! Whether the facts and the rows of all fragments agree, and the first difference.
-ghost use Rattle.std.specs.Prelude.{◌≡◌, ◌++◌, ◌∷◌, [], ◌↔◌, ℕ, List, length, Contains, IfOk, OnOk};
+ghost use Rattle.std.specs.Prelude.{◌≡◌, ◌<◌, ◌++◌, ◌∷◌, [], ◌↔◌, ℕ, List, length, Contains, IfOk, OnOk};
 ghost use Rattle.esto_constraint.specs.Constraints.{rules_of};
 ghost use Rattle.esto_columns.specs.Interned.{AreCodedRows};
-ghost use Rattle.esto_data.specs.Coding.{AreCodedLists, IsCodedOf};
+ghost use Rattle.esto_data.specs.Coding.{AreCodedLists};
 ghost use Rattle.esto_data.specs.Disagreeing.{IsFirstUnpassed};
 ghost use Rattle.esto_fill.specs.Databases.{database_of};
 ghost use Rattle.esto_fill.specs.Texts.{AreTextViews};
 ghost use Rattle.esto_fill.specs.Trials.{IsEnoughFor, IsTrialOf};
-ghost use Rattle.esto_fill.specs.declared.loaded.Loaded.{Loaded};
 ghost use Rattle.esto_semantics.specs.declared.fact.Fact.{Fact};
 ghost use Rattle.esto_stores.specs.Rows.{Row};
 ghost use Rattle.esto_term.specs.declared.term.Term.{Term};
@@ -137,8 +136,8 @@ fn compare_anew(
     compare_texts(alloc, catalogue, trial, files, &texts)
 }
 
-// The status of the first difference, where the rule of the number is the first that is not passed. It is looked for in a part
-// of the facts, where there is one for the rule.
+// The status of the first difference, where the rule of the number is the first that is neither a law nor met. It is looked for
+// in a part of the facts, where there is one of few.
 fn compare_by_rule(
     alloc: Global,
     catalogue: &Catalogue,
@@ -153,10 +152,11 @@ fn compare_by_rule(
         × HoldsAudit catalogue.now trial.now.wanted files.now facts coded }
     requires rows { (contents : ℕ → List ℕ)
         × HoldContents catalogue.now contents coded.facts.texts rows }
-    requires broken { (loaded : Loaded) → IsCodedOf loaded coded
-        → IsFirstUnpassed (rules_of trial.now.laws) (rules_of catalogue.now.rules) loaded.facts number }
+    requires there { number < length catalogue.now.rules }
     ensures { (facts : List (Fact Term))
-        → HoldsAudit catalogue.now trial.now.wanted files.now facts coded
+        → (holds : HoldsAudit catalogue.now trial.now.wanted files.now facts coded)
+        → IsFirstUnpassed (rules_of trial.now.laws) (rules_of catalogue.now.rules)
+        holds.held.left.loaded.facts number
         → (contents : ℕ → List ℕ) → HoldContents catalogue.now contents coded.facts.texts rows
         → Answers (compares catalogue.now facts contents) ⊥ result }
 {

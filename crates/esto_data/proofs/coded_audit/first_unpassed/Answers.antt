@@ -9,19 +9,19 @@ rules-init c = rules_start c.args.coded.now (rules_of c.args.laws.now) c.args.ru
 
 pub returns-then-not-branch-clause-found : goal.returns-then-not-branch-clause-found
 returns-then-not-branch-clause-found c =
-    rules_stop c.args.coded.now c.rules.coded c.is_passed.new.coded (rules_of c.args.laws.now) c.args.rules.now c.rules.rule-index c.rule-item.result
-    c.rules-test.true c.rule-item.is c.rules.invariant c.is_passed.ensures.stays c.in_ok-is_passed.field-0 c.in_ok-is_passed.ensures.passed
+    rules_stop c.args.coded.now c.rules.coded c.is_passed.new.coded (rules_of c.args.laws.now) c.args.rules.now c.rules.number c.index-rules-number.result
+    c.rules-test.true c.index-rules-number.is c.rules.invariant c.is_passed.ensures.stays c.in_ok-is_passed.field-0 c.in_ok-is_passed.ensures.passed
     c.if-not-branch.true
 
 pub rules-preserved : goal.rules-preserved
 rules-preserved c =
-    rules_goes c.args.coded.now c.rules.coded c.is_passed.new.coded (rules_of c.args.laws.now) c.args.rules.now c.rules.rule-index c.rule-item.result
-    c.rules-test.true c.rule-item.is c.rules.invariant c.is_passed.ensures.stays c.in_ok-is_passed.field-0 c.in_ok-is_passed.ensures.passed
+    rules_goes c.args.coded.now c.rules.coded c.is_passed.new.coded (rules_of c.args.laws.now) c.args.rules.now c.rules.number c.index-rules-number.result
+    c.rules-test.true c.index-rules-number.is c.rules.invariant c.is_passed.ensures.stays c.in_ok-is_passed.field-0 c.in_ok-is_passed.ensures.passed
     c.if-not-branch.false
 
 pub returns-clause-found : goal.returns-clause-found
 returns-clause-found c loaded its =
-    rules_end c.args.coded.now c.rules.coded (rules_of c.args.laws.now) c.args.rules.now c.rules.rule-index (omega (arith, c.rules-test.false))
+    rules_end c.args.coded.now c.rules.coded (rules_of c.args.laws.now) c.args.rules.now c.rules.number (omega (arith, c.rules-test.false))
     c.rules.invariant loaded its
 
 pub returns-in_err-is_passed-clause-stays : goal.returns-in_err-is_passed-clause-stays

@@ -5,29 +5,29 @@ use Rattle.esto_course.specs.Course.Stops.{is_free}
 use Rattle.esto_course.proofs.Steps.{at_exit}
 use Rattle.esto_views.specs.Fragments.{views_of}
 use Rattle.esto_data.specs.Fill.{names_of}
-use Rattle.esto_data.proofs.CodedLemmas.{left_enough, to_audit}
-use Rattle.esto_data.proofs.CompareLemmas.{contents_grow, contents_many}
+use Rattle.esto_data.proofs.CodedLemmas.{audit_stays, left_enough, to_audit}
+use Rattle.esto_data.proofs.CompareLemmas.{contents_grow, contents_many, rule_within}
 use Rattle.esto_data.proofs.StepLemmas.{agrees_goes}
 use Rattle.esto_data.proofs.comparing.compare.Goals as goal
 
-pub agree_coded-requires-clause-many : goal.agree_coded-requires-clause-many
-agree_coded-requires-clause-many c =
+pub first_disagreement-requires-clause-many : goal.first_disagreement-requires-clause-many
+first_disagreement-requires-clause-many c =
     contents_many c.args.catalogue.now c.requires.rows.0 c.args.coded.facts.texts c.args.rows c.requires.rows.1
 
-pub agree_coded-requires-clause-coded : goal.agree_coded-requires-clause-coded
-agree_coded-requires-clause-coded c = let left = c.requires.facts.1.held.left in (left.loaded, left.stand)
+pub first_disagreement-requires-clause-coded : goal.first_disagreement-requires-clause-coded
+first_disagreement-requires-clause-coded c = let left = c.requires.facts.1.held.left in (left.loaded, left.stand)
 
-pub returns-in_err-agree_coded : goal.returns-in_err-agree_coded
-returns-in_err-agree_coded c facts holds contents held = at_exit _ _ c.from_residual.result c.from_residual.ensures.1 (is_free refl)
+pub returns-in_err-first_disagreement : goal.returns-in_err-first_disagreement
+returns-in_err-first_disagreement c facts holds contents held = at_exit _ _ c.from_residual.result c.from_residual.ensures.1 (is_free refl)
 
-pub returns-then-branch : goal.returns-then-branch
-returns-then-branch c facts holds contents held =
+pub returns-in-None : goal.returns-in-None
+returns-in-None c facts holds contents held =
     let catalogue = c.args.catalogue.now in
     let left = holds.held.left in
     agrees_goes catalogue facts contents
     ((c.audits_are_over_files.ensures (rules_of catalogue.rules) (map written catalogue.rules) (names_of catalogue.fragments) (views_of catalogue.fragments)
     facts catalogue.stores contents held.rows None held.are.are).0
-    (c.in_ok-agree_coded.ensures.agree c.if-branch.true left.loaded left.stand facts
+    (c.in_ok-first_disagreement.ensures.agree c.in-None.is left.loaded left.stand facts
     (left_enough catalogue c.args.trial.now c.requires.trial facts c.args.coded left) held.rows held.coded))
 
 pub compare_anew-requires-clause-facts : goal.compare_anew-requires-clause-facts
@@ -37,12 +37,46 @@ compare_anew-requires-clause-facts c =
 pub compare_anew-requires-clause-rows : goal.compare_anew-requires-clause-rows
 compare_anew-requires-clause-rows c = (
   c.requires.rows.0,
-  contents_grow c.args.catalogue.now c.requires.rows.0 c.args.coded.facts.texts c.args.rows c.requires.rows.1 c.agree_coded.new.coded.facts.texts
-      c.in_ok-agree_coded.ensures.grown,
+  contents_grow c.args.catalogue.now c.requires.rows.0 c.args.coded.facts.texts c.args.rows c.requires.rows.1 c.first_disagreement.new.coded.facts.texts
+      c.in_ok-first_disagreement.ensures.grown,
 )
 
-pub returns : goal.returns
-returns c facts holds contents held =
+pub returns-in-Some-Rows : goal.returns-in-Some-Rows
+returns-in-Some-Rows c facts holds contents held =
     c.compare_anew.ensures facts (to_audit c.args.catalogue.now c.args.trial.now.wanted c.args.files.now facts c.args.coded holds) contents
-    (contents_grow c.args.catalogue.now contents c.args.coded.facts.texts c.args.rows held c.agree_coded.new.coded.facts.texts
-    c.in_ok-agree_coded.ensures.grown)
+    (contents_grow c.args.catalogue.now contents c.args.coded.facts.texts c.args.rows held c.first_disagreement.new.coded.facts.texts
+    c.in_ok-first_disagreement.ensures.grown)
+
+pub compare_by_rule-requires-clause-facts : goal.compare_by_rule-requires-clause-facts
+compare_by_rule-requires-clause-facts c = (
+  c.requires.facts.0,
+  audit_stays c.args.coded c.first_disagreement.new.coded
+  (record { kept = c.in_ok-first_disagreement.ensures.kept; grown = c.in_ok-first_disagreement.ensures.grown }) c.args.catalogue.now
+  c.args.trial.now.wanted c.args.files.now c.requires.facts.0 c.requires.facts.1,
+)
+
+pub compare_by_rule-requires-clause-rows : goal.compare_by_rule-requires-clause-rows
+compare_by_rule-requires-clause-rows c = (
+  c.requires.rows.0,
+  contents_grow c.args.catalogue.now c.requires.rows.0 c.args.coded.facts.texts c.args.rows c.requires.rows.1 c.first_disagreement.new.coded.facts.texts
+      c.in_ok-first_disagreement.ensures.grown,
+)
+
+pub compare_by_rule-requires-clause-there : goal.compare_by_rule-requires-clause-there
+compare_by_rule-requires-clause-there c =
+    let left = c.requires.facts.1.held.left in
+    let held = c.requires.rows.1 in
+    let first = rw c.in-Some-Rule.is at (c.in_ok-first_disagreement.ensures.found left.loaded left.stand held.rows held.coded) in
+    rule_within c.args.catalogue.now.rules c.in-Some-Rule.number first.rule first.there
+
+pub returns-in-Some-Rule : goal.returns-in-Some-Rule
+returns-in-Some-Rule c facts holds contents held =
+    let left = holds.held.left in
+    let first = rw c.in-Some-Rule.is at (c.in_ok-first_disagreement.ensures.found left.loaded left.stand held.rows held.coded) in
+    c.compare_by_rule.ensures facts
+    (audit_stays c.args.coded c.first_disagreement.new.coded
+    (record { kept = c.in_ok-first_disagreement.ensures.kept; grown = c.in_ok-first_disagreement.ensures.grown }) c.args.catalogue.now
+    c.args.trial.now.wanted c.args.files.now facts holds)
+    first contents
+    (contents_grow c.args.catalogue.now contents c.args.coded.facts.texts c.args.rows held c.first_disagreement.new.coded.facts.texts
+    c.in_ok-first_disagreement.ensures.grown)
