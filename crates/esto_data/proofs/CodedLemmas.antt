@@ -1,5 +1,5 @@
 -- Rows of codes that stand for what they stood for, and what is judged over them.
-use Rattle.std.proofs.Common.{List, Result, Ok}
+use Rattle.std.proofs.Common.{◌≡◌, List, Result, Ok, refl}
 use Rattle.esto_mapping.specs.declared.catalogue.Catalogue.{Catalogue}
 use Rattle.esto_mapping.specs.declared.dataset.Dataset.{Dataset}
 use Rattle.esto_constraint.specs.Constraints.{rules_of}
@@ -39,6 +39,13 @@ module _ (old new : CodedData) (stays : Stays old new) where
       → HoldsAudit catalogue wanted files facts old → HoldsAudit catalogue wanted files facts new
   audit_stays catalogue wanted files facts holds =
       record { held = held_stays catalogue.datasets wanted facts files holds.held; texts = holds.texts }
+
+  -- what is left is what was left
+  pub audit_left : (catalogue : Catalogue) (wanted : Wanted) (files : List DatasetBytes) (facts : List (Fact Term))
+      (holds : HoldsAudit catalogue wanted files facts old)
+      → holds.held.left.loaded ≡ (audit_stays catalogue wanted files facts holds).held.left.loaded
+  unfolding audit_stays held_stays left_stays
+  audit_left catalogue wanted files facts holds = refl
 
 -- ---- what is judged
 

@@ -21,3 +21,4 @@ pub mod NodeLemmas
 pub mod MovedLemmas
 pub mod ExactLemmas
 pub mod AuditedLemmas
+pub mod PartLemmas

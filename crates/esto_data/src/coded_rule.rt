@@ -12,7 +12,7 @@ ghost use Rattle.esto_fill.specs.declared.loaded.Loaded.{Loaded};
 
 use crate::coded_data::CodedData;
 use esto_constraint::Rules;
-use esto_fill::Difference;
+use esto_fill::{Difference, difference_in};
 use esto_mapping::Catalogue;
 use esto_term::OutOfMemory;
 use std::alloc::Global;
@@ -34,5 +34,8 @@ pub fn rule_difference(
         → IsFirstByRule catalogue.now facts difference)) }
     ensures stays { Stays coded.old coded.new }
 {
-    Ok(None)
+    let Some(part) = coded.facts.part_for(alloc, catalogue.rules.item(number))? else {
+        return Ok(None);
+    };
+    difference_in(alloc, catalogue, number, &part)
 }

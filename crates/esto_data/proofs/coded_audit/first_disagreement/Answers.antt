@@ -29,8 +29,9 @@ returns-in-None-clause-agree c =
     IfOk-weaker c.unlike_rows.result _ _
     (λ outcome told none loaded its facts enough lists are.
     agrees c.databases_stand_for_facts.ensures.rules catalogue.rules laws catalogue.fragments facts loaded.facts lists
-    (are_rules c.rules_are_sound.ensures.rules catalogue.rules) enough
-    (passed loaded its,
-    subst (FindsUnlike (views_of catalogue.fragments) loaded.facts lists) none
-    (told loaded (stays.kept loaded its) lists (lists_grow _ _ c.args.rows.now lists stays.grown are))))
+    (are_rules c.rules_are_sound.ensures.rules catalogue.rules) enough (
+      passed loaded its,
+      subst (FindsUnlike (views_of catalogue.fragments) loaded.facts lists) none
+          (told loaded (stays.kept loaded its) lists (lists_grow _ _ c.args.rows.now lists stays.grown are)),
+    ))
     (rw c.items-in-None.ensures at c.unlike_rows.ensures.found)

@@ -1,11 +1,14 @@
-use Rattle.std.proofs.Common.{None, map, refl}
+use Rattle.std.proofs.Common.{None, map, refl, subst}
 use Rattle.esto_constraint.specs.Constraints.{rules_of}
 use Rattle.esto_constraint.specs.EncodingRules.{written}
 use Rattle.esto_course.specs.Course.Stops.{is_free}
 use Rattle.esto_course.proofs.Steps.{at_exit}
 use Rattle.esto_views.specs.Fragments.{views_of}
+use Rattle.esto_data.specs.CodedParts.{Stays}
+use Rattle.esto_data.specs.Disagreeing.{IsFirstUnpassed}
 use Rattle.esto_data.specs.Fill.{names_of}
-use Rattle.esto_data.proofs.CodedLemmas.{audit_stays, left_enough, to_audit}
+use Rattle.esto_fill.specs.declared.loaded.Loaded.{Loaded}
+use Rattle.esto_data.proofs.CodedLemmas.{audit_left, audit_stays, left_enough, to_audit}
 use Rattle.esto_data.proofs.CompareLemmas.{contents_grow, contents_many, rule_within}
 use Rattle.esto_data.proofs.StepLemmas.{agrees_goes}
 use Rattle.esto_data.proofs.comparing.compare.Goals as goal
@@ -51,8 +54,8 @@ pub compare_by_rule-requires-clause-facts : goal.compare_by_rule-requires-clause
 compare_by_rule-requires-clause-facts c = (
   c.requires.facts.0,
   audit_stays c.args.coded c.first_disagreement.new.coded
-  (record { kept = c.in_ok-first_disagreement.ensures.kept; grown = c.in_ok-first_disagreement.ensures.grown }) c.args.catalogue.now
-  c.args.trial.now.wanted c.args.files.now c.requires.facts.0 c.requires.facts.1,
+      (record { kept = c.in_ok-first_disagreement.ensures.kept; grown = c.in_ok-first_disagreement.ensures.grown }) c.args.catalogue.now
+      c.args.trial.now.wanted c.args.files.now c.requires.facts.0 c.requires.facts.1,
 )
 
 pub compare_by_rule-requires-clause-rows : goal.compare_by_rule-requires-clause-rows
@@ -66,17 +69,20 @@ pub compare_by_rule-requires-clause-there : goal.compare_by_rule-requires-clause
 compare_by_rule-requires-clause-there c =
     let left = c.requires.facts.1.held.left in
     let held = c.requires.rows.1 in
-    let first = rw c.in-Some-Rule.is at (c.in_ok-first_disagreement.ensures.found left.loaded left.stand held.rows held.coded) in
+    let first = rw c.in-Some-Rule.field-0-is at (rw c.in-Some-Rule.is at (c.in_ok-first_disagreement.ensures.found left.loaded left.stand held.rows held.coded)) in
     rule_within c.args.catalogue.now.rules c.in-Some-Rule.number first.rule first.there
 
 pub returns-in-Some-Rule : goal.returns-in-Some-Rule
 returns-in-Some-Rule c facts holds contents held =
     let left = holds.held.left in
-    let first = rw c.in-Some-Rule.is at (c.in_ok-first_disagreement.ensures.found left.loaded left.stand held.rows held.coded) in
-    c.compare_by_rule.ensures facts
-    (audit_stays c.args.coded c.first_disagreement.new.coded
-    (record { kept = c.in_ok-first_disagreement.ensures.kept; grown = c.in_ok-first_disagreement.ensures.grown }) c.args.catalogue.now
-    c.args.trial.now.wanted c.args.files.now facts holds)
-    first contents
+    let first = rw c.in-Some-Rule.field-0-is at (rw c.in-Some-Rule.is at (c.in_ok-first_disagreement.ensures.found left.loaded left.stand held.rows held.coded)) in
+    let catalogue = c.args.catalogue.now in
+    let wanted = c.args.trial.now.wanted in
+    let stays : Stays c.args.coded c.first_disagreement.new.coded =
+    record { kept = c.in_ok-first_disagreement.ensures.kept; grown = c.in_ok-first_disagreement.ensures.grown } in
+    c.compare_by_rule.ensures facts (audit_stays c.args.coded c.first_disagreement.new.coded stays catalogue wanted c.args.files.now facts holds)
+    (subst (λ (it : Loaded). IsFirstUnpassed (rules_of c.args.trial.now.laws) (rules_of catalogue.rules) it.facts c.in-Some-Rule.number)
+    (audit_left c.args.coded c.first_disagreement.new.coded stays catalogue wanted c.args.files.now facts holds) first)
+    contents
     (contents_grow c.args.catalogue.now contents c.args.coded.facts.texts c.args.rows held c.first_disagreement.new.coded.facts.texts
     c.in_ok-first_disagreement.ensures.grown)
