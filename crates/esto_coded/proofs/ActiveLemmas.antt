@@ -59,7 +59,9 @@ pub takes_one : (code : ℕ) (old new : List ℕ) → ((other : ℕ) → is_memb
 takes_one code old new told = record {
   here = among_each new (code ∷ []) (λ other inside. told other ∙ by (nat_eq code other) (is_member nat_eq old other)
       (inl ((Decides-eqb code other).1 (Contains-one code other inside))));
-  stay = λ row among. among_each new row (λ other inside. told other ∙ by (nat_eq code other) (is_member nat_eq old other) (inr (among_at old row among other inside)));
+  stay =
+      λ row among. among_each new row
+      (λ other inside. told other ∙ by (nat_eq code other) (is_member nat_eq old other) (inr (among_at old row among other inside)));
 }
   where
     by : (one two : Bool) → (one ≡ true) ⊎ (two ≡ true) → cond one true two ≡ true
@@ -70,7 +72,8 @@ takes_one code old new told = record {
 pub takes_none : (codes : List ℕ) → TakesIn [] codes codes
 takes_none codes = record { here = refl; stay = λ row among. among }
 
-pub takes_more : (row : List ℕ) (at code : ℕ) (first old new : List ℕ) → slice_get row at ≡ Some code → TakesIn (take at row) first old → TakesIn (code ∷ []) old new
+pub takes_more : (row : List ℕ) (at code : ℕ) (first old new : List ℕ) → slice_get row at ≡ Some code → TakesIn (take at row) first old
+    → TakesIn (code ∷ []) old new
     → TakesIn (take (at + 1) row) first new
 takes_more row at code first old new there before now = record {
   here = ap (are_among new) (take-there row at code there) ∙ list_all-append (is_member nat_eq new) (take at row) (code ∷ [])
@@ -129,7 +132,8 @@ pub know_put : (old : Keys) (keys : CodedRows) (index : Index) (codes : List ℕ
 know_put old keys index codes code key is indexed more new rows know =
     know_more old (record { keys = keys; index = index; codes = codes; apart = old.apart })
     (subst (IsIndexOf index) (sym listed) (indexed old.keys.rows know.index))
-    (ap length more ∙ length-append old.codes (code ∷ []) ∙ ap (λ count. count + 1) know.long ∙ sym (length-append old.keys.rows (key ∷ [])) ∙ ap length (sym listed))
+    (ap length more ∙ length-append old.codes (code ∷ []) ∙ ap (λ count. count + 1) know.long ∙ sym (length-append old.keys.rows (key ∷ []))
+    ∙ ap length (sym listed))
     (λ other rest known. record {
       place = known.place;
       stands = kept rest known.place known.stands;
@@ -214,7 +218,8 @@ pub fronts_all : (rows : List (List ℕ)) (count width : ℕ) (keys : Keys) → 
     → Know keys (map (take width) rows)
 fronts_all rows count width keys past know = subst (λ them. Know keys (map (take width) them)) (take_all count rows past) know
 
-pub apart_told : (width : ℕ) (keys : Keys) (rows : List (List ℕ)) (codes : List ℕ) → Know keys (map (take width) rows) → HaveWanted (Apart width keys) rows codes
+pub apart_told : (width : ℕ) (keys : Keys) (rows : List (List ℕ)) (codes : List ℕ) → Know keys (map (take width) rows)
+    → HaveWanted (Apart width keys) rows codes
     → HaveApart width rows codes
 apart_told width keys rows codes know have row other inside among contrary = have row inside (record {
   rows = map (take width) rows;
@@ -253,7 +258,8 @@ adds_more one two first old new before now = record {
   ];
 }
 
-pub adds_term : (terms : List Term) (at : ℕ) (term : Term) (first old new : List Term) → slice_get terms at ≡ Some term → AddsTerms (take at terms) first old
+pub adds_term : (terms : List Term) (at : ℕ) (term : Term) (first old new : List Term) → slice_get terms at ≡ Some term
+    → AddsTerms (take at terms) first old
     → AddsTerms (term ∷ []) old new → AddsTerms (take (at + 1) terms) first new
 adds_term terms at term first old new there before now =
     subst (λ them. AddsTerms them first new) (sym (take-there terms at term there)) (adds_more (take at terms) (term ∷ []) first old new before now)
@@ -308,21 +314,25 @@ matches_have coded lead head body rows adds tell known fixed answers facts stand
     )
 
 -- what a call answers
-pub matches_told : (result : Result CodedRows OutOfMemory) (coded : Coded) (lead head : List Term) (body : List (Fact Term)) → AddsTerms (terms_of body) lead head
-    → ((term : Term) → Contains lead term → IsFixedBy body term) → IfOk result (λ it. AreTelling coded.texts) → IfOk result (λ it. HaveTexts coded.texts head)
+pub matches_told : (result : Result CodedRows OutOfMemory) (coded : Coded) (lead head : List Term) (body : List (Fact Term))
+    → AddsTerms (terms_of body) lead head
+    → ((term : Term) → Contains lead term → IsFixedBy body term) → IfOk result (λ it. AreTelling coded.texts)
+    → IfOk result (λ it. HaveTexts coded.texts head)
     → IfOk result (λ it. AreCodedAnswers coded (record { head = head; body = body }) it.rows) → IfOk result (λ it. HaveMatches coded lead body it.rows)
 matches_told (Ok rows) coded lead head body adds fixed tell known answers = matches_have coded lead head body rows.rows adds tell known fixed answers
 matches_told (Err error) coded lead head body adds fixed tell known answers = tt
 
 -- ---- codes of active matches
 
-pub denial_active : (coded : Coded) (body : List (Fact Term)) (rows : List (List ℕ)) (codes : List ℕ) → HaveMatches coded [] body rows → HaveWanted All rows codes
+pub denial_active : (coded : Coded) (body : List (Fact Term)) (rows : List (List ℕ)) (codes : List ℕ) → HaveMatches coded [] body rows
+    → HaveWanted All rows codes
     → HaveActive coded (denial body) codes
 denial_active coded body rows codes matches have facts stand m keeps sends active term inside code stands =
     let own = matches facts stand m keeps sends in
     among_at codes own.0 (have own.0 own.1 tt) code (own.2.all term inside code stands)
 
-unequal : (texts : List (List ℕ)) → AreTelling texts → (one other : Term) (row : List ℕ) → AreCodesOf texts (one ∷ other ∷ []) (take 2 row) → (one ≡ other → ⊥)
+unequal : (texts : List (List ℕ)) → AreTelling texts → (one other : Term) (row : List ℕ) → AreCodesOf texts (one ∷ other ∷ []) (take 2 row)
+    → (one ≡ other → ⊥)
     → AreUnequal row
 unequal texts tell one other [] are apart = absurd are
 unequal texts tell one other (code ∷ []) are apart = absurd are.1
@@ -336,7 +346,8 @@ sides_active coded body left right sides rows codes are tell matches have facts 
     let own = subst (λ lead. HaveMatches coded lead body rows) are matches facts stand m keeps sends in
     among_at codes own.0 (have own.0 own.1 (unequal coded.texts tell (m left) (m right) own.0 own.2.front active)) code (own.2.all term inside code stands)
 
-contrary_from : (texts : List (List ℕ)) → AreTelling texts → (one other : Term) (terms : List Term) (row more : List ℕ) → AreCodesOf texts (one ∷ terms) row
+contrary_from : (texts : List (List ℕ)) → AreTelling texts → (one other : Term) (terms : List Term) (row more : List ℕ)
+    → AreCodesOf texts (one ∷ terms) row
     → AreCodesOf texts (other ∷ terms) more → (one ≡ other → ⊥) → IsContrary row more
 contrary_from texts tell one other terms [] more are also apart = absurd are
 contrary_from texts tell one other terms (code ∷ key) [] are also apart = absurd also
@@ -399,10 +410,13 @@ module _ (coded : Coded) (first second : List (Fact Term)) (left right : Term) (
         code (other_row.2.all own.0 (before.0, before.1, own.1) code (subst (λ it. IsCodeOf coded.texts (m it) code) (sym own.2) stands))
   ]
 
-pub mirrored_active : (coded : Coded) (first : List (Fact Term)) (left : Term) (shared lead : List Term) (rows : List (List ℕ)) (codes : List ℕ) (width : ℕ)
+pub mirrored_active : (coded : Coded) (first : List (Fact Term)) (left : Term) (shared lead : List Term) (rows : List (List ℕ)) (codes : List ℕ)
+    (width : ℕ)
     → lead ≡ left ∷ shared → width ≡ length lead → AreTelling coded.texts → HaveMatches coded lead first rows → HaveApart width rows codes
-    → (second : List (Fact Term)) (right : Term) → IsMirrored first second left right shared → HaveActive coded (equality (first ++ second) left right) codes
-mirrored_active coded first left shared lead rows codes width are wide tell matches have second right is facts stand m keeps sends active term inside code stands =
+    → (second : List (Fact Term)) (right : Term) → IsMirrored first second left right shared
+    → HaveActive coded (equality (first ++ second) left right) codes
+mirrored_active coded first left shared lead rows codes width are wide tell matches have second right is =
+    λ facts stand m keeps sends active term inside code stands.
     let long = ap length are in
     let same : width ≡ length shared + 1 = omega (arith, wide, long) in
     half_codes coded first second left right shared is tell rows (subst (λ them. HaveMatches coded them first rows) are matches) codes
@@ -420,7 +434,8 @@ apart_found keys row code key place is found apart =
     let own = apart_place keys code key (subst (IsApart keys) is apart) in
     subst (λ it. IsTrue (is_member nat_eq keys.apart it)) (one_place keys.keys.rows key own.0 place own.1 (found apart.know.index)) own.2
 
-pub apart_there : (keys : Keys) (row : List ℕ) (code : ℕ) (key : List ℕ) → row ≡ code ∷ key → (IsIndexOf keys.index keys.keys.rows → ¬ (Contains keys.keys.rows key))
+pub apart_there : (keys : Keys) (row : List ℕ) (code : ℕ) (key : List ℕ) → row ≡ code ∷ key
+    → (IsIndexOf keys.index keys.keys.rows → ¬ (Contains keys.keys.rows key))
     → IsApart keys row → ⊥
 apart_there keys row code key is none apart =
     let own = apart_place keys code key (subst (IsApart keys) is apart) in

@@ -34,17 +34,21 @@ use Rattle.esto_coded.proofs.StandLemmas.{codes_grow, one_codes, stand_grow}
 
 pub order_stands : (coded : Coded) (facts : List (Fact Term)) → StandInOrder coded facts → StandFor coded facts
 order_stands coded facts order = record {
-  has = λ fact inside. turned fact (zip_left (λ (fact : Fact Term) (codes : List ℕ). AreCodesOf coded.texts fact.terms codes) (facts_over fact.relation facts) (rows_in coded.relations fact.relation)
+  has = λ fact inside. turned fact
+      (zip_left (λ (fact : Fact Term) (codes : List ℕ). AreCodesOf coded.texts fact.terms codes) (facts_over fact.relation facts)
+      (rows_in coded.relations fact.relation)
       (order fact.relation) fact (over_in fact inside));
   only = λ relation codes inside.
-      let own = zip_right (λ (fact : Fact Term) (codes : List ℕ). AreCodesOf coded.texts fact.terms codes) (facts_over relation facts) (rows_in coded.relations relation)
+      let own = zip_right (λ (fact : Fact Term) (codes : List ℕ). AreCodesOf coded.texts fact.terms codes) (facts_over relation facts)
+      (rows_in coded.relations relation)
       (order relation) codes inside in
       let among = Contains-filter_from (λ (fact : Fact Term). fact.relation == relation) facts own.0 own.1 in
       (own.0, among.0, (Decides-eqb own.0.relation relation).0 among.1, own.2);
 }
   where
     over_in : (fact : Fact Term) → Contains facts fact → Contains (facts_over fact.relation facts) fact
-    over_in fact inside = Contains-filter (λ (it : Fact Term). it.relation == fact.relation) facts fact inside ((Decides-eqb fact.relation fact.relation).1 refl)
+    over_in fact inside =
+        Contains-filter (λ (it : Fact Term). it.relation == fact.relation) facts fact inside ((Decides-eqb fact.relation fact.relation).1 refl)
 
     turned : (fact : Fact Term) → (codes : List ℕ) × Contains (rows_in coded.relations fact.relation) codes × AreCodesOf coded.texts fact.terms codes
         → (codes : List ℕ) × AreCodesOf coded.texts fact.terms codes × Contains (rows_in coded.relations fact.relation) codes
@@ -52,9 +56,11 @@ order_stands coded facts order = record {
 
 pub order_kept : (old new : Coded) (facts : List (Fact Term)) → KeepsRows old new → StandInOrder old facts → StandInOrder new facts
 order_kept old new facts kept order relation =
-    zip_weaker (λ (fact : Fact Term) (codes : List ℕ). AreCodesOf old.texts fact.terms codes) (λ (fact : Fact Term) (codes : List ℕ). AreCodesOf new.texts fact.terms codes)
+    zip_weaker (λ (fact : Fact Term) (codes : List ℕ). AreCodesOf old.texts fact.terms codes)
+    (λ (fact : Fact Term) (codes : List ℕ). AreCodesOf new.texts fact.terms codes)
     (facts_over relation facts) (rows_in new.relations relation) (λ fact codes inside are. codes_grow old.texts new.texts kept.grown fact.terms codes are)
-    (subst (λ them. AllZip (λ (fact : Fact Term) (codes : List ℕ). AreCodesOf old.texts fact.terms codes) (facts_over relation facts) (rows_in them relation))
+    (subst (λ them. AllZip (λ (fact : Fact Term) (codes : List ℕ). AreCodesOf old.texts fact.terms codes) (facts_over relation facts)
+    (rows_in them relation))
     (sym kept.relations) (order relation))
 
 pub stand_kept : (old new : Coded) (facts : List (Fact Term)) → KeepsRows old new → StandFor old facts → StandFor new facts
@@ -67,7 +73,8 @@ pub gives_kept : (old new : Coded) (rule : Rule) (answer : Option (List (Fact Te
     → IfSome answer (λ part. (all : List (Fact Term)) → StandInOrder old all → IsPartFor rule all part)
 gives_kept old new rule answer kept gives = some answer gives
   where
-    some : (it : Option (List (Fact Term))) → GivesPart new rule it → IfSome it (λ part. (all : List (Fact Term)) → StandInOrder old all → IsPartFor rule all part)
+    some : (it : Option (List (Fact Term))) → GivesPart new rule it
+        → IfSome it (λ part. (all : List (Fact Term)) → StandInOrder old all → IsPartFor rule all part)
     some (Some part) given = λ all order. given all (order_kept old new all kept order)
     some None given = tt
 
@@ -78,7 +85,8 @@ pub kept_none : (texts : List (List ℕ)) (codes : List ℕ) (number : ℕ) (row
 kept_none texts codes number row facts told =
     sym (append-nil facts) ∙ ap (λ them. facts ++ map (fact_of texts number) them) (sym (ap (λ it. cond it (row ∷ []) []) told))
 
-pub kept_one : (texts : List (List ℕ)) (codes : List ℕ) (number : ℕ) (row : List ℕ) (facts : List (Fact Term)) (terms : List Term) → are_among codes row ≡ true
+pub kept_one : (texts : List (List ℕ)) (codes : List ℕ) (number : ℕ) (row : List ℕ) (facts : List (Fact Term)) (terms : List Term)
+    → are_among codes row ≡ true
     → terms ≡ map (term_of texts) row
     → facts ++ record { relation = number; terms = terms } ∷ [] ≡ facts ++ kept_facts texts codes number (row ∷ [])
 kept_one texts codes number row facts terms told are =
@@ -97,14 +105,17 @@ kept_more texts codes number rows at first old new before (own, there, more) =
     ∙ ap (map (fact_of texts number)) (sym (filter-append (are_among codes) (take at rows) (own ∷ []))
     ∙ ap (filter (are_among codes)) (sym (take-there rows at own there))))
 
-over_own : (texts : List (List ℕ)) (number : ℕ) (rows : List (List ℕ)) → facts_over number (map (fact_of texts number) rows) ≡ map (fact_of texts number) rows
+over_own : (texts : List (List ℕ)) (number : ℕ) (rows : List (List ℕ))
+    → facts_over number (map (fact_of texts number) rows) ≡ map (fact_of texts number) rows
 over_own texts number [] = refl
 over_own texts number (row ∷ rows) =
-    ap (λ it. cond it (fact_of texts number row ∷ facts_over number (map (fact_of texts number) rows)) (facts_over number (map (fact_of texts number) rows)))
+    ap (λ it. cond it (fact_of texts number row ∷ facts_over number (map (fact_of texts number) rows))
+    (facts_over number (map (fact_of texts number) rows)))
     ((Decides-eqb number number).1 refl)
     ∙ ap (λ them. fact_of texts number row ∷ them) (over_own texts number rows)
 
-over_other : (texts : List (List ℕ)) (number other : ℕ) (rows : List (List ℕ)) → (other ≡ number → ⊥) → facts_over number (map (fact_of texts other) rows) ≡ []
+over_other : (texts : List (List ℕ)) (number other : ℕ) (rows : List (List ℕ)) → (other ≡ number → ⊥)
+    → facts_over number (map (fact_of texts other) rows) ≡ []
 over_other texts number other [] apart = refl
 over_other texts number other (row ∷ rows) apart = by (other == number) refl (over_other texts number other rows apart)
   where
@@ -112,7 +123,8 @@ over_other texts number other (row ∷ rows) apart = by (other == number) refl (
         → facts_over number (map (fact_of texts other) (row ∷ rows)) ≡ []
     by true told none = absurd (apart ((Decides-eqb other number).0 told))
     by false told none =
-        ap (λ it. cond it (fact_of texts other row ∷ facts_over number (map (fact_of texts other) rows)) (facts_over number (map (fact_of texts other) rows))) told
+        ap (λ it. cond it (fact_of texts other row ∷ facts_over number (map (fact_of texts other) rows))
+        (facts_over number (map (fact_of texts other) rows))) told
         ∙ none
 
 asked_own : (texts : List (List ℕ)) (atoms : List (Fact Term)) (codes : List ℕ) (number : ℕ) (rows : List (List ℕ))
@@ -134,7 +146,8 @@ asked_other texts atoms codes number other rows apart = by (is_asked atoms other
 over_append : (number : ℕ) (facts more : List (Fact Term)) → facts_over number (facts ++ more) ≡ facts_over number facts ++ facts_over number more
 over_append number facts more = filter-append (λ (fact : Fact Term). fact.relation == number) facts more
 
-pub below_none : (texts : List (List ℕ)) (relations : List CodedRows) (atoms : List (Fact Term)) (codes : List ℕ) → ArePartBelow texts relations atoms codes 0 []
+pub below_none : (texts : List (List ℕ)) (relations : List CodedRows) (atoms : List (Fact Term)) (codes : List ℕ)
+    → ArePartBelow texts relations atoms codes 0 []
 below_none texts relations atoms codes = record { below = λ number under. absurd (omega (arith, under)); past = λ number over. refl }
 
 pub below_more : (texts : List (List ℕ)) (relations : List CodedRows) (atoms : List (Fact Term)) (codes : List ℕ) (count : ℕ) (old new : List (Fact Term))
@@ -149,7 +162,8 @@ below_more texts relations atoms codes count old new before more = record {
         | inr last ↦
             (let none = before.past number (omega (arith, last)) in
             ap (λ them. them ++ facts_over number (asked_facts texts atoms codes count (rows_in relations count))) none
-            ∙ subst (λ it. facts_over it (asked_facts texts atoms codes count (rows_in relations count)) ≡ asked_facts texts atoms codes it (rows_in relations it)) (sym last)
+            ∙ subst (λ it. facts_over it (asked_facts texts atoms codes count (rows_in relations count)) ≡ asked_facts texts atoms codes it
+            (rows_in relations it)) (sym last)
             (asked_own texts atoms codes count (rows_in relations count)))
       ];
   past = λ number over.
@@ -174,7 +188,8 @@ below_all texts relations atoms codes count facts past before number = elim (cas
   | inl under ↦ before.below number under
   | inr over ↦
       before.past number over
-      ∙ sym (ap (asked_facts texts atoms codes number) (no_rows_at relations number (outside relations number (omega (arith, past, over)))) ∙ nothing (is_asked atoms number))
+      ∙ sym (ap (asked_facts texts atoms codes number) (no_rows_at relations number (outside relations number (omega (arith, past, over))))
+      ∙ nothing (is_asked atoms number))
 ]
   where
     outside : (them : List StoredRows) (place : ℕ) → length them ≤ place → slice_get them place ≡ None
@@ -204,7 +219,8 @@ module _ {X : Type 0} where
       past zero there = absurd (apart (same_Some first other there))
       past (suc later) there = let under = last later there in omega (arith, under)
 
-  before_cases : (first one other : X) (rest : List X) → StandsBefore (first ∷ rest) one other → (first ≡ other → ⊥) × ((first ≡ one) ⊎ StandsBefore rest one other)
+  before_cases : (first one other : X) (rest : List X) → StandsBefore (first ∷ rest) one other
+      → (first ≡ other → ⊥) × ((first ≡ one) ⊎ StandsBefore rest one other)
   before_cases first one other rest (zero, at, last) =
       ((λ same. let under = last zero (ap Some same) in omega (arith, under)), inl (same_Some first one at))
   before_cases first one other rest (suc place, at, last) = (
@@ -223,7 +239,8 @@ module _ {X : Type 0} where
   kept_rest test first rest told = ap (λ it. cond it (first ∷ filter test rest) (filter test rest)) told
 
   -- among those of the things that pass a test, and among all
-  before_filtered : (test : X → Bool) (things : List X) (one other : X) → test one ≡ true → StandsBefore things one other → StandsBefore (filter test things) one other
+  before_filtered : (test : X → Bool) (things : List X) (one other : X) → test one ≡ true → StandsBefore things one other
+      → StandsBefore (filter test things) one other
   before_filtered test [] one other passes before = absurd (before_nothing one other before)
   before_filtered test (first ∷ rest) one other passes before =
       by (test first) refl (before_cases first one other rest before) (λ later. before_filtered test rest one other passes later)
@@ -233,11 +250,13 @@ module _ {X : Type 0} where
       by true told (apart, inl same) next =
           subst (λ them. StandsBefore them one other) (sym (kept_first test first rest told)) (before_here first one other (filter test rest) same apart)
       by true told (apart, inr later) next =
-          subst (λ them. StandsBefore them one other) (sym (kept_first test first rest told)) (before_there first one other (filter test rest) apart (next later))
+          subst (λ them. StandsBefore them one other) (sym (kept_first test first rest told))
+          (before_there first one other (filter test rest) apart (next later))
       by false told (apart, inl same) next = absurd (false≢true (sym told ∙ ap test same ∙ passes))
       by false told (apart, inr later) next = subst (λ them. StandsBefore them one other) (sym (kept_rest test first rest told)) (next later)
 
-  before_unfiltered : (test : X → Bool) (things : List X) (one other : X) → test other ≡ true → StandsBefore (filter test things) one other → StandsBefore things one other
+  before_unfiltered : (test : X → Bool) (things : List X) (one other : X) → test other ≡ true → StandsBefore (filter test things) one other
+      → StandsBefore things one other
   before_unfiltered test [] one other passes before = absurd (before_nothing one other before)
   before_unfiltered test (first ∷ rest) one other passes before = by (test first) refl before (λ later. before_unfiltered test rest one other passes later)
     where
@@ -275,7 +294,8 @@ module _ {X Y : Type 0} (m : X → Y) (test : X → Bool) (one other : Y) where
 
 -- ---- the part is one for the rule
 
-module _ (coded : Coded) (tell : AreTelling coded.texts) (all part : List (Fact Term)) (order : StandInOrder coded all) (atoms : List (Fact Term)) (codes : List ℕ)
+module _ (coded : Coded) (tell : AreTelling coded.texts) (all part : List (Fact Term)) (order : StandInOrder coded all) (atoms : List (Fact Term))
+    (codes : List ℕ)
     (are : ArePart coded atoms codes part) where
   abbrev rows : ℕ → List (List ℕ)
   rows number = rows_in coded.relations number
@@ -286,7 +306,8 @@ module _ (coded : Coded) (tell : AreTelling coded.texts) (all part : List (Fact 
   same_relation : (number : ℕ) (fact : Fact Term) → fact.relation ≡ number → (fact.relation == number) ≡ true
   same_relation number fact same = (Decides-eqb fact.relation number).1 same
 
-  is_fact : (number : ℕ) (fact : Fact Term) (row : List ℕ) → fact.relation ≡ number → AreCodesOf coded.texts fact.terms row → fact ≡ fact_of coded.texts number row
+  is_fact : (number : ℕ) (fact : Fact Term) (row : List ℕ) → fact.relation ≡ number → AreCodesOf coded.texts fact.terms row
+      → fact ≡ fact_of coded.texts number row
   is_fact number fact row same codes_are =
       let terms = sym (terms_are coded.texts tell fact.terms row codes_are) in λ i. record { relation = same i; terms = terms i }
 
@@ -294,7 +315,8 @@ module _ (coded : Coded) (tell : AreTelling coded.texts) (all part : List (Fact 
   over_is number = made (facts_over number all) (rows number) (order number)
       (λ fact inside. (Decides-eqb fact.relation number).0 (Contains-filter_from (λ (it : Fact Term). it.relation == number) all fact inside).1)
     where
-      made : (facts : List (Fact Term)) (list : List (List ℕ)) → AllZip (λ (fact : Fact Term) (row : List ℕ). AreCodesOf coded.texts fact.terms row) facts list
+      made : (facts : List (Fact Term)) (list : List (List ℕ))
+          → AllZip (λ (fact : Fact Term) (row : List ℕ). AreCodesOf coded.texts fact.terms row) facts list
           → ((fact : Fact Term) → Contains facts fact → fact.relation ≡ number) → facts ≡ map (fact_of coded.texts number) list
       made [] [] zip same = refl
       made [] (row ∷ list) zip same = absurd zip
@@ -324,13 +346,15 @@ module _ (coded : Coded) (tell : AreTelling coded.texts) (all part : List (Fact 
   row_among : (number : ℕ) (row : List ℕ) → Contains (rows number) row → Contains all (fact_of coded.texts number row)
   row_among number row inside =
       (Contains-filter_from (λ (it : Fact Term). it.relation == number) all (fact_of coded.texts number row)
-      (subst (λ them. Contains them (fact_of coded.texts number row)) (sym (over_is number)) (Contains-map (fact_of coded.texts number) (rows number) row inside))).0
+      (subst (λ them. Contains them (fact_of coded.texts number row)) (sym (over_is number))
+      (Contains-map (fact_of coded.texts number) (rows number) row inside))).0
 
   part_among : (fact : Fact Term) → Contains part fact → Contains all fact
   part_among fact inside = let own = in_part fact inside in subst (Contains all) own.is (row_among fact.relation own.row own.inside)
 
   -- a row that makes a fact of the part is among the codes
-  told_row : (other : Fact Term) → Contains part other → (row : List ℕ) → Contains (rows other.relation) row → fact_of coded.texts other.relation row ≡ other
+  told_row : (other : Fact Term) → Contains part other → (row : List ℕ) → Contains (rows other.relation) row
+      → fact_of coded.texts other.relation row ≡ other
       → are_among codes row ≡ true
   told_row other inside row among makes =
       let own = in_part other inside in
@@ -347,7 +371,8 @@ module _ (coded : Coded) (tell : AreTelling coded.texts) (all part : List (Fact 
       by (is_asked atoms other.relation) (subst (λ them. StandsBefore them one other) (are other.relation)
       (before_filtered (λ (it : Fact Term). it.relation == other.relation) part one other (same_relation other.relation one same) before))
     where
-      by : (answer : Bool) → StandsBefore (cond answer (kept_facts coded.texts codes other.relation (rows other.relation)) []) one other → StandsBefore all one other
+      by : (answer : Bool) → StandsBefore (cond answer (kept_facts coded.texts codes other.relation (rows other.relation)) []) one other
+          → StandsBefore all one other
       by true kept = before_unfiltered (λ (it : Fact Term). it.relation == other.relation) all one other (same_relation other.relation other refl)
           (subst (λ them. StandsBefore them one other) (sym (over_is other.relation))
           (before_made (fact_of coded.texts other.relation) (are_among codes) one other (rows other.relation) (told_row other inside) kept))
@@ -366,7 +391,8 @@ module _ (coded : Coded) (tell : AreTelling coded.texts) (all part : List (Fact 
       or_true false = refl
 
   -- a row of a relation that is asked is in the part, if all its codes are among the codes
-  part_has : (atom : Fact Term) → Contains atoms atom → (fact : Fact Term) → fact.relation ≡ atom.relation → (row : List ℕ) → Contains (rows fact.relation) row
+  part_has : (atom : Fact Term) → Contains atoms atom → (fact : Fact Term) → fact.relation ≡ atom.relation → (row : List ℕ)
+      → Contains (rows fact.relation) row
       → AreCodesOf coded.texts fact.terms row → are_among codes row ≡ true → Contains part fact
   part_has atom inside fact same row among codes_are told =
       let kept : Contains (kept_facts coded.texts codes fact.relation (rows fact.relation)) fact =
@@ -380,7 +406,8 @@ module _ (coded : Coded) (tell : AreTelling coded.texts) (all part : List (Fact 
 
   -- what a match makes of an atom, if the codes have its terms'
   sent_in : (m : Term → Term) → Sends m atoms all
-      → ((term : Term) → Mentions atoms term → (code : ℕ) → IsCodeOf coded.texts (m term) code → IsTrue (is_member nat_eq codes code)) → SendsInto m atoms (Contains part)
+      → ((term : Term) → Mentions atoms term → (code : ℕ) → IsCodeOf coded.texts (m term) code → IsTrue (is_member nat_eq codes code))
+      → SendsInto m atoms (Contains part)
   sent_in m sends have atom inside =
       let own = stand.has (image m atom) (sends atom inside) in
       part_has atom inside (image m atom) refl own.0 own.2 own.1 (among_each codes own.0 (λ code among.
@@ -406,10 +433,12 @@ module _ (coded : Coded) (tell : AreTelling coded.texts) (all part : List (Fact 
 -- what is made where the codes of active matches are known
 pub denial_gives : (coded : Coded) (body : List (Fact Term)) (codes : List ℕ) (answer : Option (List (Fact Term))) → AreTelling coded.texts
     → HaveActive coded (denial body) codes → IfSome answer (ArePart coded body codes) → GivesPart coded (denial body) answer
-denial_gives coded body codes (Some part) tell have are = λ all order. part_is coded tell all part order body codes are (denial body) refl have (λ m so. so)
+denial_gives coded body codes (Some part) tell have are =
+    λ all order. part_is coded tell all part order body codes are (denial body) refl have (λ m so. so)
 denial_gives coded body codes None tell have are = tt
 
-pub equality_gives : (coded : Coded) (body : List (Fact Term)) (left right : Term) (codes : List ℕ) (answer : Option (List (Fact Term))) → AreTelling coded.texts
+pub equality_gives : (coded : Coded) (body : List (Fact Term)) (left right : Term) (codes : List ℕ) (answer : Option (List (Fact Term)))
+    → AreTelling coded.texts
     → HaveActive coded (equality body left right) codes → IfSome answer (ArePart coded body codes) → GivesPart coded (equality body left right) answer
 equality_gives coded body left right codes (Some part) tell have are =
     λ all order. part_is coded tell all part order body codes are (equality body left right) refl have (λ m so. so)

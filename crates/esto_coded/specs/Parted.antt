@@ -38,16 +38,17 @@ kept_facts texts codes number rows = map (fact_of texts number) (filter (are_amo
 abbrev pub is_asked : List (Fact Term) → ℕ → Bool
 is_asked atoms number = list_any (λ (atom : Fact Term). nat_eq atom.relation number) atoms
 
--- The same of a relation that one of the atoms is over; of another there are none.
+-- The kept facts of a relation that one of the atoms is over; of another relation none.
 abbrev pub asked_facts : List (List ℕ) → List (Fact Term) → List ℕ → ℕ → List (List ℕ) → List (Fact Term)
 asked_facts texts atoms codes number rows = cond (is_asked atoms number) (kept_facts texts codes number rows) []
 
--- The facts over each relation below the count are those of its rows, and there are no others.
-pub record ArePartBelow (texts : List (List ℕ)) (relations : List CodedRows) (atoms : List (Fact Term)) (codes : List ℕ) (count : ℕ) (facts : List (Fact Term)) : Type 0 where
+-- The facts over each relation below the count are those that are asked of its rows, and there are no others.
+pub record ArePartBelow (texts : List (List ℕ)) (relations : List CodedRows) (atoms : List (Fact Term)) (codes : List ℕ) (count : ℕ)
+    (facts : List (Fact Term)) : Type 0 where
   pub below : (number : ℕ) → number < count → facts_over number facts ≡ asked_facts texts atoms codes number (rows_in relations number)
   pub past : (number : ℕ) → count ≤ number → facts_over number facts ≡ []
 
--- The facts over each relation are those of its rows.
+-- The facts over each relation are those that are asked of its rows.
 abbrev pub ArePart : Coded → List (Fact Term) → List ℕ → List (Fact Term) → Type 0
 ArePart coded atoms codes facts = (number : ℕ) → facts_over number facts ≡ asked_facts coded.texts atoms codes number (rows_in coded.relations number)
 

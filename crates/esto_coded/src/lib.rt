@@ -1,5 +1,5 @@
-//! Facts as rows of codes, relation by relation, and what is asked of them: the answers of queries, and whether they
-//! meet a rule. Start from `CodedFacts`.
+//! Facts as rows of codes, relation by relation, and what is asked of them: the answers of queries, whether they meet a
+//! rule, and a small part of them that has what breaks a rule. Start from `CodedFacts`.
 #![tactic(auto)]
 
 mod answers;

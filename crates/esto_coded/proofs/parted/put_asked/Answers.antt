@@ -10,7 +10,8 @@ use Rattle.esto_coded.proofs.parted.put_asked.Goals as goal
 
 pub returns-then-not-is_asked : goal.returns-then-not-is_asked
 returns-then-not-is_asked c = asked_none c.args.codes.now c.args.atoms.now c.args.set.now c.args.number
-    (rows_in (map (λ (stored : StoredRows). stored.rows) c.args.relations.now) c.args.number) c.args.facts.now (sym c.is_asked.ensures ∙ c.if-not-is_asked.true)
+    (rows_in (map (λ (stored : StoredRows). stored.rows) c.args.relations.now) c.args.number) c.args.facts.now
+    (sym c.is_asked.ensures ∙ c.if-not-is_asked.true)
 
 pub returns : goal.returns
 returns c =
@@ -18,7 +19,9 @@ returns c =
     on_ok_weaker c.put_rows.result
     (λ is. is
     ∙ ap (λ rows. c.args.facts.now ++ kept_facts c.args.codes.now c.args.set.now c.args.number rows)
-    (sym (rows_at c.args.relations.now c.args.number relation (slice_get-get_or c.args.relations.now c.args.number c.index-relations-number.result c.requires)))
+    (sym (rows_at c.args.relations.now c.args.number relation
+    (slice_get-get_or c.args.relations.now c.args.number c.index-relations-number.result c.requires)))
     ∙ asked_some c.args.codes.now c.args.atoms.now c.args.set.now c.args.number
-    (rows_in (map (λ (stored : StoredRows). stored.rows) c.args.relations.now) c.args.number) c.args.facts.now (sym c.is_asked.ensures ∙ c.if-not-is_asked.false))
+    (rows_in (map (λ (stored : StoredRows). stored.rows) c.args.relations.now) c.args.number) c.args.facts.now
+    (sym c.is_asked.ensures ∙ c.if-not-is_asked.false))
     c.put_rows.ensures

@@ -14,6 +14,7 @@ apart_codes-requires-clause-some c =
 
 pub returns-clause-active : goal.returns-clause-active
 returns-clause-active c = IfOk-weaker c.apart_codes.result _ _
-    (λ set have. mirrored_active (coded_of c.match_rows.new.codes c.args.relations.now) c.args.first.now c.args.left.now c.args.shared.now c.in_ok-lead.lead
+    (λ set have. mirrored_active (coded_of c.match_rows.new.codes c.args.relations.now) c.args.first.now c.args.left.now c.args.shared.now
+    c.in_ok-lead.lead
     c.in_ok-rows.rows.rows set c.len.result c.in_ok-lead.ensures c.len.ensures c.in_ok-rows.ensures.texts c.in_ok-rows.ensures.rows have)
     c.apart_codes.ensures

@@ -15,4 +15,6 @@ atoms-preserved c = adds_atom c.args.atoms.now c.atoms.atom-index c.atom-item.re
     (subst (λ them. AddsTerms them c.atoms.into c.put_terms.new.into) c.items.ensures c.in_ok-put_terms.ensures)
 
 pub returns : goal.returns
-returns c = subst (λ them. AddsTerms (terms_of them) c.args.into.now c.atoms.into) (take_all c.atoms.atom-index c.args.atoms.now c.atoms-test.false) c.atoms.invariant
+returns c =
+    subst (λ them. AddsTerms (terms_of them) c.args.into.now c.atoms.into) (take_all c.atoms.atom-index c.args.atoms.now c.atoms-test.false)
+    c.atoms.invariant

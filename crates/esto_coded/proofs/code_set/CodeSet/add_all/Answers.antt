@@ -7,7 +7,8 @@ pub codes-init : goal.codes-init
 codes-init c = takes_none c.args.self.now
 
 pub codes-preserved : goal.codes-preserved
-codes-preserved c = takes_more c.args.codes.now c.codes.code-index (get_or c.args.codes.now c.codes.code-index 0) c.args.self.now c.codes.self c.add.new.self
+codes-preserved c =
+    takes_more c.args.codes.now c.codes.code-index (get_or c.args.codes.now c.codes.code-index 0) c.args.self.now c.codes.self c.add.new.self
     (slice_get-get_or c.args.codes.now c.codes.code-index 0 c.codes-test.true) c.codes.invariant c.in_ok-add.ensures
 
 pub returns : goal.returns

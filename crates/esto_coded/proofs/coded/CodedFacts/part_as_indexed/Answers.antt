@@ -14,5 +14,6 @@ returns-clause-kept c = subst (λ (old : Coded). KeepsRows old (coded_of c.part_
     (record { relations = refl; grown = c.part_over.ensures.grown })
 
 pub returns-clause-part : goal.returns-clause-part
-returns-clause-part c = subst (λ (them : List StoredRows). IfOk c.part_over.result (GivesPart (coded_of c.part_over.new.codes them) (rule_of c.args.rule.now)))
+returns-clause-part c =
+    subst (λ (them : List StoredRows). IfOk c.part_over.result (GivesPart (coded_of c.part_over.new.codes them) (rule_of c.args.rule.now)))
     c.as_slice.ensures.value c.part_over.ensures.part

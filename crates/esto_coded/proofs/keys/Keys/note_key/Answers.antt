@@ -8,5 +8,6 @@ note_again-requires c = MatchOption-at_some (¬ (Contains c.args.self.now.keys.r
     c.in-Some.place c.in-Some.is (c.find.ensures.last c.requires.index)
 
 pub put-requires-clause-new : goal.put-requires-clause-new
-put-requires-clause-new c = MatchOption-at_none (¬ (Contains c.args.self.now.keys.rows c.args.key.now)) (StandsLast c.args.self.now.keys.rows c.args.key.now)
+put-requires-clause-new c =
+    MatchOption-at_none (¬ (Contains c.args.self.now.keys.rows c.args.key.now)) (StandsLast c.args.self.now.keys.rows c.args.key.now)
     c.in-None.is (c.find.ensures.last c.requires.index)
