@@ -38,20 +38,12 @@ module _ (columns : ℕ) (todo : Todo) (entries : Bor (List Entry)) (value : Bor
   pub first_weight : weight_in (tasks_of todo) ≡ weight (entries_of entries.now) + weight_in (tasks_of later.now)
   first_weight = ap weight_in first_task
 
-  pub opened_ready : AreReady columns (tasks_of todo) → AreReady columns ((entries_of entries.now, value_node (view value.now)) ∷ tasks_of later.now)
-  opened_ready = subst (AreReady columns) first_task
-
   pub closed_ready : AreReady columns ((entries_of entries.now, value_node (view value.now)) ∷ tasks_of later.now) → AreReady columns (tasks_of todo)
   closed_ready = subst (AreReady columns) (sym first_task)
 
   pub opened_fills : (cells new_cells : Row) (old new : List Row) → Fills columns (tasks_of todo) cells new_cells old new
       → Fills columns ((entries_of entries.now, value_node (view value.now)) ∷ tasks_of later.now) cells new_cells old new
   opened_fills cells new_cells old new = subst (λ (ts : List Task). Fills columns ts cells new_cells old new) first_task
-
-  pub closed_fills : (cells new_cells : Row) (old new : List Row)
-      → Fills columns ((entries_of entries.now, value_node (view value.now)) ∷ tasks_of later.now) cells new_cells old new
-      → Fills columns (tasks_of todo) cells new_cells old new
-  closed_fills cells new_cells old new = subst (λ (ts : List Task). Fills columns ts cells new_cells old new) (sym first_task)
 
   -- ---- none of its entries is left
 

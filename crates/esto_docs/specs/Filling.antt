@@ -121,7 +121,7 @@ pub record FillsSome (columns : ℕ) (entries : Entries) (nodes : List Node) (ta
 
 -- ---- the tasks of the program
 
--- What is left whose rest is tasks.
+-- What is left, as tasks, where what is left after its first entries is tasks already.
 abbrev pub todo_step : Todo-F (List Task) → List Task
 todo_step (Todo-F.Nothing) = []
 todo_step (Todo-F.Entries entries value later) = (entries_of entries.now, value_node (view value.now)) ∷ later.now

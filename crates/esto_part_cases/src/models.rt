@@ -130,7 +130,7 @@ pub fn put_codes(rt: &HostRuntime, alloc: Global, line: &str) -> Result<(), Refu
     Ok(())
 }
 
-// The documents that a line writes, one of them.
+// The document that a line writes, in a list.
 fn document(alloc: Global, line: &str) -> Result<Trees, Refused> {
     match read_trees(alloc, line.as_bytes(), &Layout::Lines) {
         Ok(trees) => Ok(trees),
