@@ -12,7 +12,7 @@ use Rattle.esto_semantics.specs.Standing.{RulesStand}
 use Rattle.esto_semantics.specs.declared.fact.Fact.{Fact}
 use Rattle.esto_steps.specs.Rows.{IsRowOf, held_by}
 use Rattle.esto_stores.specs.Rows.{Row}
-use Rattle.esto_term.proofs.ListLemmas.{Contains-at, holds_more, map_at, thing_at}
+use Rattle.esto_term.proofs.ListLemmas.{holds_more, map_at, thing_at}
 use Rattle.esto_term.proofs.PlaceLemmas.{item_at}
 use Rattle.esto_term.specs.declared.term.Term.{Term}
 use Rattle.esto_views.specs.Fragments.{views_of}
@@ -30,7 +30,7 @@ use Rattle.esto_data.specs.declared.coded_audit.Disagreement.TheVariants as disa
 use Rattle.esto_data.specs.declared.coded_data.CodedData.{CodedData}
 use Rattle.esto_fill.specs.declared.loaded.Loaded.{Loaded}
 use Rattle.esto_data.proofs.CodedRowLemmas.{stays_itself, stays_on}
-use Rattle.esto_data.proofs.CodedViewLemmas.{HoldBelow, exact_from, hold_all, list_at, lists_grow, lists_long}
+use Rattle.esto_data.proofs.CodedViewLemmas.{HoldBelow, exact_from, hold_all, list_at, lists_long}
 use Rattle.esto_fill.proofs.TrialLemmas.{fragments_all, rules_met}
 use Rattle.esto_fill.proofs.TriedLemmas.{passed_all, passed_more}
 
@@ -158,7 +158,7 @@ module _ (laws rules : List Rule) (views : List ConjunctiveQuery) (facts : List 
       → FindsDisagreement laws rules views facts lists outcome
   all_found None passed hold = (passed, hold)
   all_found (Some (disagreement.Rule number)) passed never = absurd never
-  all_found (Some disagreement.Rows) passed unlike = unlike
+  all_found (Some disagreement.Rows) passed unlike = (passed, unlike)
 
 -- so facts of which these are enough agree with the rows
 pub agrees : (stand : RulesStand) (rules : List Constraint) (laws : List Rule) (fragments : List FragmentDef) (facts some : List (Fact Term))

@@ -52,8 +52,8 @@ HasRelations dataset coded =
     (number : ℕ) (relation : Relation) → slice_get (relations_of dataset) number ≡ Some relation
     → slice_get (arities_of coded.facts) (dataset.base + number) ≡ Some relation.arity
 
--- For whatever facts the rows stood in order, they stand now for those and then for more, and these facts are all of those in their order; and no relation
--- has other columns.
+-- For whatever facts the rows stood in order, they stand now for those and then for more, of which these facts are all, in the order in which they first
+-- stand; and no relation has other columns.
 pub record Puts (own : List (Fact Term)) (old new : CodedData) : Type 0 where
   pub more : List (Fact Term)
   pub ordered : (facts : List (Fact Term)) → StandInOrder old.facts facts → StandInOrder new.facts (facts ++ more)

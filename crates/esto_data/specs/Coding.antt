@@ -21,7 +21,7 @@ use Rattle.esto_fill.specs.declared.datasets.DatasetBytes.{DatasetBytes}
 use Rattle.esto_fill.specs.declared.loaded.Loaded.{Loaded}
 use Rattle.esto_fill.specs.declared.wanted.Wanted.{Wanted}
 
--- The rows of codes stand in order for facts, and these are all of them, in the order in which they first stand.
+-- The rows of codes stand in order for a list of facts, of which these are all, in the order in which they first stand.
 abbrev pub StandKept : Coded → List (Fact Term) → Type 0
 StandKept coded facts = (all : List (Fact Term)) × StandInOrder coded all × KeepAll all facts
 

@@ -31,8 +31,10 @@ FindsUnlike views facts lists None = HoldViewRows views (database_of facts) (IsR
 FindsUnlike views facts lists (Some (disagreement.Rule number)) = ⊥
 FindsUnlike views facts lists (Some disagreement.Rows) = ¬ (HoldViewRows views (database_of facts) (IsRowOf (held_by lists)))
 
--- Each rule is passed, and the fragments hold the rows of their views; or this is the first rule that is not passed; or some fragment has other rows.
+-- Each rule is passed, and the fragments hold the rows of their views; or this is the first rule that is not passed; or each is, and some fragment has
+-- other rows.
 abbrev pub FindsDisagreement : List Rule → List Rule → List ConjunctiveQuery → List (Fact Term) → List (List Row) → Option Disagreement → Type 0
 FindsDisagreement laws rules views facts lists None = ArePassed laws facts rules × HoldViewRows views (database_of facts) (IsRowOf (held_by lists))
 FindsDisagreement laws rules views facts lists (Some (disagreement.Rule number)) = IsFirstUnpassed laws rules facts number
-FindsDisagreement laws rules views facts lists (Some disagreement.Rows) = ¬ (HoldViewRows views (database_of facts) (IsRowOf (held_by lists)))
+FindsDisagreement laws rules views facts lists (Some disagreement.Rows) =
+    ArePassed laws facts rules × ¬ (HoldViewRows views (database_of facts) (IsRowOf (held_by lists)))

@@ -38,9 +38,9 @@ pub type CodedRowsList = List<Rows>;
 /// Where facts and the rows of fragments do not agree.
 #[derive(Clone, Copy)]
 pub enum Disagreement {
-    /// The rule of this number, counted from 0, is the first that the facts do not meet.
+    /// The rule of this number, counted from 0, is the first that is neither one of the laws nor met.
     Rule(usize),
-    /// The facts meet all rules, and a fragment has other rows than its view.
+    /// Each rule is one of the laws or met, and a fragment has other rows than its view.
     Rows,
 }
 

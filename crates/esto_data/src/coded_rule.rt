@@ -18,7 +18,7 @@ use esto_term::OutOfMemory;
 use std::alloc::Global;
 
 /// The difference of the rule of the number, where it is the first that is neither one of the laws nor met: the record
-/// of its least active match, which is looked for in a part of the facts. None where there is no such part of few facts.
+/// of its least active match, which is looked for in a part of the facts. None where there is no part of few codes.
 pub fn rule_difference(
     alloc: Global,
     catalogue: &Catalogue,

@@ -136,8 +136,8 @@ fn compare_anew(
     compare_texts(alloc, catalogue, trial, files, &texts)
 }
 
-// The status of the first difference, where the rule of the number is the first that is neither a law nor met. It is looked for
-// in a part of the facts, where there is one of few.
+// The status of the first difference, where the rule of the number is the first that is neither a law nor met. It is looked
+// for in a part of the facts, where there is one of few codes and memory for it.
 fn compare_by_rule(
     alloc: Global,
     catalogue: &Catalogue,
@@ -161,10 +161,16 @@ fn compare_by_rule(
         → Answers (compares catalogue.now facts contents) ⊥ result }
 {
     let mut coded = coded;
-    match rule_difference(alloc, catalogue, &trial.laws, number, &mut coded)? {
-        Some(difference) => Err(Status::Differs(difference)),
-        None => compare_anew(alloc, catalogue, trial, files, coded, rows),
+    if let Ok(Some(difference)) = rule_difference(
+        alloc,
+        catalogue,
+        &trial.laws,
+        number,
+        &mut coded,
+    ) {
+        return Err(Status::Differs(difference));
     }
+    compare_anew(alloc, catalogue, trial, files, coded, rows)
 }
 
 /// The facts meet the rules, and the rows of the fragments are those of their views; or the status of the first difference.

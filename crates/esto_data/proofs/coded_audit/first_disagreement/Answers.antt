@@ -1,6 +1,5 @@
-use Rattle.std.proofs.Common.{None, subst}
+use Rattle.std.proofs.Common.{subst}
 use Rattle.std.proofs.lemmas.Result.{IfOk-weaker}
-use Rattle.esto_columns.proofs.CodingLemmas.{grows_on}
 use Rattle.esto_constraint.specs.Constraints.{rules_of}
 use Rattle.esto_data.proofs.CodedAuditLemmas.{agrees, all_found}
 use Rattle.esto_data.proofs.CodedViewLemmas.{lists_grow}
