@@ -1,7 +1,6 @@
 pub mod StandLemmas
 pub mod SinkLemmas
 pub mod RelationLemmas
-pub mod SameLemmas
 pub mod ShownLemmas
 pub mod MeetLemmas
 pub mod WholeLemmas

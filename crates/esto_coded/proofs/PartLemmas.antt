@@ -22,10 +22,11 @@ use Rattle.esto_semantics.specs.Facts.{image, Mentions}
 use Rattle.esto_semantics.specs.Maps.{Sends, SendsInto}
 use Rattle.esto_semantics.specs.Rules.{Rule, Concludes, body_of, denial, equality}
 use Rattle.esto_semantics.specs.declared.fact.Fact.{Fact}
-use Rattle.esto_coded.specs.Active.{HaveActive, are_among}
+use Rattle.esto_rows.specs.Wanted.{are_among}
+use Rattle.esto_coded.specs.Active.{HaveActive}
 use Rattle.esto_coded.specs.Coded.{Coded, IsCodeOf, AreCodesOf, AreTelling, StandFor, StandInOrder, arities_of, facts_over, rows_in}
 use Rattle.esto_coded.specs.Parted.{ArePart, ArePartBelow, GivesPart, KeepsRows, asked_facts, fact_of, is_asked, kept_facts, term_of}
-use Rattle.esto_coded.proofs.ActiveLemmas.{among_each}
+use Rattle.esto_rows.proofs.WantedLemmas.{among_each}
 use Rattle.esto_coded.specs.Relations.{coded_of}
 use Rattle.esto_coded.proofs.AnswerLemmas.{coded_rows, no_rows_at, terms_are}
 use Rattle.esto_coded.proofs.StandLemmas.{codes_grow, one_codes, stand_grow}

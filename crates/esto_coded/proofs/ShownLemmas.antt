@@ -8,7 +8,7 @@ use Rattle.esto_term.proofs.ListLemmas.{Contains-nil, Contains-map, Contains-map
 use Rattle.esto_coded.specs.Coded.{rows_in}
 use Rattle.esto_coded.specs.Shown.{HasNodeAt}
 use Rattle.esto_coded.specs.declared.coded.TheConstants.{FIRST_NODE}
-use Rattle.esto_coded.proofs.SameLemmas.{is_not}
+use Rattle.esto_rows.proofs.SameLemmas.{is_not}
 
 -- one of the rows has the code of a node in the column
 abbrev pub NodeIn : List (List ℕ) → ℕ → Type 0

@@ -5,6 +5,5 @@ pub mod Shown
 pub mod Met
 pub mod Whole
 pub mod Mirrored
-pub mod Same
 pub mod Active
 pub mod Parted

@@ -8,7 +8,7 @@ use Rattle.esto_columns.specs.Interned.{Grows}
 use Rattle.esto_relmodel.specs.Parts.{IsPartFor}
 use Rattle.esto_semantics.specs.Rules.{Rule}
 use Rattle.esto_semantics.specs.declared.fact.Fact.{Fact}
-use Rattle.esto_coded.specs.Active.{are_among}
+use Rattle.esto_rows.specs.Wanted.{are_among}
 use Rattle.esto_coded.specs.Coded.{Coded, StandInOrder, facts_over, rows_in}
 use Rattle.esto_coded.specs.declared.coded.TheConstants.{FIRST_NODE}
 

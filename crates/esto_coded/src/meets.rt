@@ -14,11 +14,11 @@ ghost use Rattle.esto_coded.specs.Met.{StaysFor, AnswersWhether};
 ghost use Rattle.esto_coded.specs.Mirrored.{IsMirrored};
 
 use crate::coded::CodedFacts;
-use crate::mirrored::{are_mirrored, are_told, with_first};
-use crate::same::is_part;
+use crate::mirrored::{are_mirrored, with_first};
 use crate::steps::push_copy;
 use esto_columns::Rows;
 use esto_constraint::{Constraint, frontier_of};
+use esto_rows::{are_told, is_part};
 use esto_semantics::Atom;
 use esto_term::{List, OutOfMemory, Replicate, Term, Terms, has_term};
 use std::alloc::Global;

@@ -4,9 +4,9 @@ ghost use Rattle.esto_coded.specs.Coded.{rows_in};
 ghost use Rattle.esto_coded.specs.Parted.{ArePart, ArePartBelow, asked_facts, fact_of, is_asked, kept_facts, term_of};
 ghost use Rattle.esto_coded.specs.Relations.{coded_of};
 
-use crate::code_set::CodeSet;
 use crate::coded::FIRST_NODE;
 use esto_columns::{Codes, Rows, StoredRows};
+use esto_rows::CodeSet;
 use esto_semantics::{Atom, Fact, Facts};
 use esto_term::{List, OutOfMemory, Term, Terms, Text, Values};
 use std::alloc::Global;

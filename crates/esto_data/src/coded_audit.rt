@@ -21,12 +21,12 @@ ghost use Rattle.esto_fill.specs.declared.loaded.Loaded.{Loaded};
 
 use crate::coded_answering::rows_of;
 use crate::coded_data::CodedData;
-use esto_coded::hold_same;
 use esto_columns::Rows;
 use esto_constraint::{Constraint, Rules, rules_are_sound};
 use esto_fill::{facts_stand_as_databases, is_law, loaded_facts_are_flat};
 use esto_mapping::Catalogue;
 use esto_query::{Query, queries_are_sound};
+use esto_rows::hold_same;
 use esto_semantics::databases_stand_for_facts;
 use esto_term::{List, OutOfMemory};
 use esto_views::FragmentDef;

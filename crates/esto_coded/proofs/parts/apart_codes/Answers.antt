@@ -1,5 +1,5 @@
 use Rattle.std.proofs.lemmas.Result.{IfOk-weaker}
-use Rattle.esto_coded.proofs.ActiveLemmas.{apart_told}
+use Rattle.esto_rows.proofs.WantedLemmas.{apart_told}
 use Rattle.esto_coded.proofs.parts.apart_codes.Goals as goal
 
 pub returns : goal.returns

@@ -2,7 +2,7 @@ use Rattle.std.proofs.Common.{◌≤◌, get_or, arith}
 use Rattle.std.proofs.lemmas.List.{get_or_default}
 use Rattle.esto_term.proofs.ListLemmas.{each_more, each_seen}
 use Rattle.esto_coded.specs.declared.coded.TheConstants.{FIRST_NODE}
-use Rattle.esto_coded.proofs.SameLemmas.{is_not}
+use Rattle.esto_rows.proofs.SameLemmas.{is_not}
 use Rattle.esto_coded.proofs.shown.any_node.Goals as goal
 
 pub codes-preserved : goal.codes-preserved

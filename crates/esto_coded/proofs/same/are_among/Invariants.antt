@@ -1,6 +1,0 @@
-use Rattle.std.proofs.Common.{take}
-use Rattle.esto_coded.specs.Same.{IsPart}
-use Rattle.esto_coded.proofs.same.are_among.Given as goal
-
-abbrev pub invariant-rows : goal.invariant-rows
-invariant-rows l = IsPart (take l.at l.one.rows) l.other.rows

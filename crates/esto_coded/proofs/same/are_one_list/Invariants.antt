@@ -1,5 +1,0 @@
-use Rattle.std.proofs.Common.{◌≡◌, take}
-use Rattle.esto_coded.proofs.same.are_one_list.Given as goal
-
-abbrev pub invariant-rows : goal.invariant-rows
-invariant-rows l = take l.at l.one.rows ≡ take l.at l.other.rows

@@ -1,5 +1,0 @@
-use Rattle.esto_coded.proofs.SameLemmas.{is_so, one_list_same}
-use Rattle.esto_coded.proofs.same.is_part.Goals as goal
-
-pub returns-then-branch : goal.returns-then-branch
-returns-then-branch c = is_so (λ row. (one_list_same c.args.one.now.rows c.args.other.now.rows (c.in_ok-are_one_list.ensures c.if-branch.true) row).0)

@@ -1,7 +1,0 @@
-use Rattle.std.proofs.Common.{arith}
-use Rattle.esto_coded.proofs.ActiveLemmas.{fronts_all}
-use Rattle.esto_coded.proofs.wanted.note_fronts.Goals as goal
-
-pub returns : goal.returns
-returns c = fronts_all c.args.rows.now.rows c.rows.at c.args.width c.rows.keys
-    (let past = c.rows-test.false in let count = c.len-at-end.ensures in omega (arith, past, count)) c.rows.invariant.1

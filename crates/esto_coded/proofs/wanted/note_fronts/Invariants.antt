@@ -1,7 +1,0 @@
-use Rattle.std.proofs.Common.{◌≡◌, map, take}
-use Rattle.esto_coded.specs.Active.{Know}
-use Rattle.esto_coded.proofs.wanted.note_fronts.Given as goal
-
--- the keys are those of the rows so far
-abbrev pub invariant-rows : goal.invariant-rows
-invariant-rows l = (l.keys.keys.arity ≡ l.initial.keys.keys.arity) × Know l.keys (map (take l.width) (take l.at l.rows.rows))

@@ -1,7 +1,0 @@
-use Rattle.std.proofs.Common.{take}
-use Rattle.esto_coded.specs.Active.{HaveWanted}
-use Rattle.esto_coded.proofs.wanted.put_wanted.Given as goal
-
--- the set has the codes of the rows so far that are wanted
-abbrev pub invariant-rows : goal.invariant-rows
-invariant-rows l = HaveWanted l.wanted (take l.at l.rows.rows) l.set

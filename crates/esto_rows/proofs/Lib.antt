@@ -1,0 +1,3 @@
+pub mod SameLemmas
+pub mod ToldLemmas
+pub mod WantedLemmas
