@@ -8,3 +8,4 @@ pub mod AnswerLemmas
 pub mod MirrorLemmas
 pub mod ActiveLemmas
 pub mod PartLemmas
+pub mod SpreadLemmas

@@ -13,23 +13,24 @@ use Rattle.esto_term.specs.declared.term.Term.{Term}
 use Rattle.esto_term.specs.declared.term.Term.TheVariants.{Const}
 use Rattle.esto_term.proofs.ListLemmas.{Contains-nil, Contains-head, Contains-rest, Contains-cases, Contains-at, Contains-map, Contains-map_from, Contains-filter, Contains-filter_from}
 use Rattle.esto_term.proofs.PlaceLemmas.{earlier_or_last, take-there}
-use Rattle.esto_term.proofs.ZipLemmas.{zip_left, zip_right, zip_weaker}
+use Rattle.esto_term.proofs.ZipLemmas.{zip_left, zip_right}
 use Rattle.esto_columns.specs.CodedRows.{CodedRows}
 use Rattle.esto_columns.specs.declared.stored.StoredRows.{StoredRows}
 use Rattle.esto_relmodel.specs.Once.{StandsBefore}
 use Rattle.esto_relmodel.specs.Parts.{IsPartFor}
 use Rattle.esto_semantics.specs.Facts.{image, Mentions}
 use Rattle.esto_semantics.specs.Maps.{Sends, SendsInto}
-use Rattle.esto_semantics.specs.Rules.{Rule, Concludes, body_of, denial, equality}
+use Rattle.esto_semantics.specs.Rules.{Rule, Concludes, body_of, equality}
 use Rattle.esto_semantics.specs.declared.fact.Fact.{Fact}
 use Rattle.esto_rows.specs.Wanted.{are_among}
 use Rattle.esto_coded.specs.Active.{HaveActive}
-use Rattle.esto_coded.specs.Coded.{Coded, IsCodeOf, AreCodesOf, AreTelling, StandFor, StandInOrder, arities_of, facts_over, rows_in}
-use Rattle.esto_coded.specs.Parted.{ArePart, ArePartBelow, GivesPart, KeepsRows, asked_facts, fact_of, is_asked, kept_facts, term_of}
+use Rattle.esto_coded.specs.Coded.{Coded, IsCodeOf, AreCodesOf, AreTelling, StandFor, StandInOrder, facts_over, rows_in}
+use Rattle.esto_coded.specs.Met.{StaysFor}
+use Rattle.esto_coded.specs.Parted.{ArePart, ArePartBelow, GivesPart, asked_facts, fact_of, is_asked, kept_facts, term_of}
 use Rattle.esto_rows.proofs.WantedLemmas.{among_each}
 use Rattle.esto_coded.specs.Relations.{coded_of}
 use Rattle.esto_coded.proofs.AnswerLemmas.{coded_rows, no_rows_at, terms_are}
-use Rattle.esto_coded.proofs.StandLemmas.{codes_grow, one_codes, stand_grow}
+use Rattle.esto_coded.proofs.StandLemmas.{one_codes}
 
 -- ---- rows that stand in order
 
@@ -55,29 +56,10 @@ order_stands coded facts order = record {
         → (codes : List ℕ) × AreCodesOf coded.texts fact.terms codes × Contains (rows_in coded.relations fact.relation) codes
     turned fact (codes, inside, are) = (codes, are, inside)
 
-pub order_kept : (old new : Coded) (facts : List (Fact Term)) → KeepsRows old new → StandInOrder old facts → StandInOrder new facts
-order_kept old new facts kept order relation =
-    zip_weaker (λ (fact : Fact Term) (codes : List ℕ). AreCodesOf old.texts fact.terms codes)
-    (λ (fact : Fact Term) (codes : List ℕ). AreCodesOf new.texts fact.terms codes)
-    (facts_over relation facts) (rows_in new.relations relation) (λ fact codes inside are. codes_grow old.texts new.texts kept.grown fact.terms codes are)
-    (subst (λ them. AllZip (λ (fact : Fact Term) (codes : List ℕ). AreCodesOf old.texts fact.terms codes) (facts_over relation facts)
-    (rows_in them relation))
-    (sym kept.relations) (order relation))
-
-pub stand_kept : (old new : Coded) (facts : List (Fact Term)) → KeepsRows old new → StandFor old facts → StandFor new facts
-stand_kept old new facts kept = stand_grow old new facts kept.grown kept.relations
-
-pub arities_kept : (old new : Coded) → KeepsRows old new → arities_of new ≡ arities_of old
-arities_kept old new kept = ap (map (λ (relation : CodedRows). relation.arity)) kept.relations
-
-pub gives_kept : (old new : Coded) (rule : Rule) (answer : Option (List (Fact Term))) → KeepsRows old new → GivesPart new rule answer
+pub gives_before : (old new : Coded) (rule : Rule) (answer : Option (List (Fact Term))) → StaysFor old new → GivesPart new rule answer
     → IfSome answer (λ part. (all : List (Fact Term)) → StandInOrder old all → IsPartFor rule all part)
-gives_kept old new rule answer kept gives = some answer gives
-  where
-    some : (it : Option (List (Fact Term))) → GivesPart new rule it
-        → IfSome it (λ part. (all : List (Fact Term)) → StandInOrder old all → IsPartFor rule all part)
-    some (Some part) given = λ all order. given all (order_kept old new all kept order)
-    some None given = tt
+gives_before old new rule (Some part) stays given = λ all order. given all (stays.ordered all order)
+gives_before old new rule None stays given = tt
 
 -- ---- the part, relation by relation
 
@@ -432,12 +414,6 @@ module _ (coded : Coded) (tell : AreTelling coded.texts) (all part : List (Fact 
   }
 
 -- what is made where the codes of active matches are known
-pub denial_gives : (coded : Coded) (body : List (Fact Term)) (codes : List ℕ) (answer : Option (List (Fact Term))) → AreTelling coded.texts
-    → HaveActive coded (denial body) codes → IfSome answer (ArePart coded body codes) → GivesPart coded (denial body) answer
-denial_gives coded body codes (Some part) tell have are =
-    λ all order. part_is coded tell all part order body codes are (denial body) refl have (λ m so. so)
-denial_gives coded body codes None tell have are = tt
-
 pub equality_gives : (coded : Coded) (body : List (Fact Term)) (left right : Term) (codes : List ℕ) (answer : Option (List (Fact Term)))
     → AreTelling coded.texts
     → HaveActive coded (equality body left right) codes → IfSome answer (ArePart coded body codes) → GivesPart coded (equality body left right) answer

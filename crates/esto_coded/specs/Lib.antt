@@ -7,3 +7,4 @@ pub mod Whole
 pub mod Mirrored
 pub mod Active
 pub mod Parted
+pub mod Spread

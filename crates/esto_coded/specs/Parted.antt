@@ -4,18 +4,12 @@ use Rattle.std.specs.List.{list_any}
 use Rattle.esto_term.specs.declared.term.Term.{Term}
 use Rattle.esto_term.specs.declared.term.Term.TheVariants.{Const, Plain}
 use Rattle.esto_columns.specs.CodedRows.{CodedRows}
-use Rattle.esto_columns.specs.Interned.{Grows}
 use Rattle.esto_relmodel.specs.Parts.{IsPartFor}
 use Rattle.esto_semantics.specs.Rules.{Rule}
 use Rattle.esto_semantics.specs.declared.fact.Fact.{Fact}
 use Rattle.esto_rows.specs.Wanted.{are_among}
 use Rattle.esto_coded.specs.Coded.{Coded, StandInOrder, facts_over, rows_in}
 use Rattle.esto_coded.specs.declared.coded.TheConstants.{FIRST_NODE}
-
--- The new one has the rows of the old one, and perhaps more texts have codes.
-pub record KeepsRows (old new : Coded) : Type 0 where
-  pub relations : new.relations ≡ old.relations
-  pub grown : Grows old.texts new.texts
 
 -- The constant of the text that a code has, or else a plain term by how far the code is past the first code of a node.
 abbrev pub term_step : ℕ → Option (List ℕ) → Term

@@ -12,6 +12,7 @@ mod parted;
 mod parts;
 mod relations;
 mod shown;
+mod spread;
 mod steps;
 
 pub use coded::{CodedFacts, FIRST_NODE, rows_in_order_stand_for_facts};

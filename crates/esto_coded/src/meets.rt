@@ -66,7 +66,7 @@ fn agree(rows: &Rows) -> bool
 impl CodedFacts {
     /// The answers of the query, where indexes are made before for the joins of its body: other rules join relations by
     /// the same columns.
-    fn answers_by_indexes(
+    pub(crate) fn answers_by_indexes(
         &mut self,
         alloc: Global,
         head: &[Term],
