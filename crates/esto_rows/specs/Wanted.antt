@@ -7,7 +7,7 @@ use Rattle.esto_columns.specs.RowIndexes.{StandsLast}
 use Rattle.esto_rows.specs.Told.{IsContrary}
 use Rattle.esto_rows.specs.declared.keys.Keys.{Keys}
 use Rattle.esto_rows.specs.declared.wanted.Wanted.{Wanted}
-use Rattle.esto_rows.specs.declared.wanted.Wanted.TheVariants.{All, Unequal, Apart}
+use Rattle.esto_rows.specs.declared.wanted.Wanted.TheVariants.{Unequal, Apart}
 
 -- Whether each code of the row is one of the codes.
 abbrev pub are_among : List ℕ → List ℕ → Bool
@@ -24,7 +24,8 @@ AreUnequal [] = ⊥
 AreUnequal (code ∷ []) = ⊥
 AreUnequal (code ∷ other ∷ rest) = code ≢ other
 
--- The row's key, the codes after the first, stands among the keys; the row's first code came with it, or the key is one of those with which several came.
+-- The row's key, the codes after the first, stands among the keys; the row's first code is the first that came with it, or the key is one of those with
+-- which several came.
 pub record IsKnown (keys : Keys) (code : ℕ) (key : List ℕ) : Type 0 where
   pub place : ℕ
   pub stands : StandsLast keys.keys.rows key place
@@ -47,7 +48,6 @@ pub record IsApart (keys : Keys) (row : List ℕ) : Type 0 where
 
 -- The row is one of those that are wanted.
 abbrev pub IsWanted : Wanted → List ℕ → Type 0
-IsWanted All row = Unit {0}
 IsWanted Unequal row = AreUnequal row
 IsWanted (Apart width keys) row = IsApart keys (take width row)
 

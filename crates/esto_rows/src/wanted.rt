@@ -12,8 +12,6 @@ use std::alloc::Global;
 /// Which rows are wanted.
 #[derive(Drop)]
 pub enum Wanted {
-    /// Each of them.
-    All,
     /// Those whose first two codes are not the same.
     Unequal,
     /// Those with whose key, the codes after the first among so many, several codes came.
@@ -48,7 +46,6 @@ fn is_wanted(wanted: &Wanted, row: &[u64]) -> bool
     ensures { IsWanted wanted.now row.now → IsTrue result }
 {
     match wanted {
-        Wanted::All => true,
         Wanted::Unequal => is_unequal(row),
         Wanted::Apart(width, keys) => keys.is_apart(front_of(row, *width)),
     }
