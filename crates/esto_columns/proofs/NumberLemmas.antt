@@ -4,14 +4,14 @@ use Rattle.std.proofs.Common.{is_some, slice_get, Contains, refl, sym, ap, ◌�
 use Rattle.std.specs.Prelude.{AllPairs, MatchOption, position}
 use Rattle.std.specs.Bool.{Decides}
 use Rattle.std.specs.List.{list_any}
-use Rattle.std.proofs.lemmas.Bool.{cases_order}
+use Rattle.std.proofs.lemmas.Bool.{cases_order, false≢true}
 use Rattle.std.proofs.lemmas.List.{map-append}
 use Rattle.std.proofs.lemmas.List.Elements.{Contains-get_or}
 use Rattle.std.proofs.lemmas.List.Quantifiers.{all_pairs_push, position-Some}
 use Rattle.std.specs.Str.{bytes_eq}
 use Rattle.esto_term.proofs.ListLemmas.{Contains-nil, Contains-cases, at_end, thing_at}
 use Rattle.std.proofs.lemmas.Slice.Eq.{bytes_eq-Decides}
-use Rattle.std.proofs.lemmas.Option.{none-some, slice_get_within, get_or_from_slice_get}
+use Rattle.std.proofs.lemmas.Option.{none-some, same_Some, slice_get_within, get_or_from_slice_get}
 
 -- different places of a list without repeats hold different things
 pub one_place : {X : Type 0} (things : List X) → AllPairs ◌≢◌ things → (place other : ℕ) (thing : X) → slice_get things place ≡ Some thing
@@ -29,7 +29,7 @@ one_place things once place other thing at also = elim (cases_order place other)
 seen_at : {X Y : Type 0} (seen : X → Y) (things : List X) (place : ℕ) (thing : X) → slice_get things place ≡ Some thing
     → slice_get (map seen things) place ≡ Some (seen thing)
 seen_at seen [] place thing e = absurd (none-some thing e)
-seen_at seen (first ∷ rest) zero thing e = let is : first ≡ thing = cc in ap (λ it. Some (seen it)) is
+seen_at seen (first ∷ rest) zero thing e = ap (λ it. Some (seen it)) (same_Some first thing e)
 seen_at seen (first ∷ rest) (suc place) thing e = seen_at seen rest place thing e
 
 -- things are seen by their values, and the test tells whether a thing's value is the wanted one
@@ -40,9 +40,9 @@ module _ {X Y : Type 0} (seen : X → Y) (wanted : Y) (test : X → Bool) (told_
     where
       by : (list_any test rest ≡ false → Contains (map seen rest) wanted → ⊥) → (answer : Bool) → test first ≡ answer → (answer || list_any test rest) ≡ false
           → ⊥
-      by again true told all = let wrong : true ≡ false = all in cc
+      by again true told all = absurd (false≢true (sym all))
       by again false told all = elim (Contains-cases (seen first) (map seen rest) wanted inside) [
-        | inl is ↦ let wrong : true ≡ false = sym ((told_of first).1 is) ∙ told in cc
+        | inl is ↦ absurd (false≢true (sym told ∙ (told_of first).1 is))
         | inr later ↦ again all later
       ]
 
@@ -61,7 +61,7 @@ module _ {X Y : Type 0} (seen : X → Y) (wanted : Y) (test : X → Bool) (told_
       (ap test (sym (get_or_from_slice_get things number thing.0 thing.0 thing.1)) ∙ (position-Some test things number thing.0 (sym e)).1)
     where
       some_thing : (place : ℕ) (all : List X) → Some place ≡ position test all → (place < length all) ⊎ ⊥
-      some_thing place [] e = absurd (cc)
+      some_thing place [] e = absurd (none-some place (sym e))
       some_thing place (first ∷ rest) e = inl ((position-Some test (first ∷ rest) place first (sym e)).0)
 
   -- the list of things after an insert: the wanted one was there, or it goes last

@@ -88,7 +88,14 @@ impl Rows {
     pub fn new(alloc: Global, arity: usize) -> Result<Rows, OutOfMemory>
         ensures { IfOk result (λ it. it ≡ record { arity = arity; rows = [] }) }
     {
-        let table = Table::new(alloc, arity)?;
+        Rows::with_room(alloc, arity, 0)
+    }
+
+    /// No rows of the arity, with memory for so many.
+    pub fn with_room(alloc: Global, arity: usize, room: usize) -> Result<Rows, OutOfMemory>
+        ensures { IfOk result (λ it. it ≡ record { arity = arity; rows = [] }) }
+    {
+        let table = Table::new(alloc, arity, room)?;
         Ok(Rows {
             table,
             indexes: List::new(alloc),
@@ -115,6 +122,40 @@ impl Rows {
     {
         self.indexes.truncate(0);
         self.table.add(row)
+    }
+
+    /// Puts the row of other rows at the place at the end. It is read into the list.
+    pub fn add_from(
+        &mut self,
+        rows: &Rows,
+        at: usize,
+        row: &mut Values<u64>,
+    ) -> Result<(), OutOfMemory>
+        requires there { at < length rows.now.rows }
+        requires arity { self.old.arity ≡ rows.now.arity }
+        ensures { OnOk result (self.new ≡ record {
+          arity = self.old.arity;
+          rows = self.old.rows ++ slice_index_or rows.now.rows at [] ∷ [];
+        }) }
+    {
+        let _arity = rows.arity();
+        rows.read_row(at, row)?;
+        self.add(row.items())
+    }
+
+    /// Puts other rows at the end, one by one.
+    pub fn add_all(&mut self, alloc: Global, rows: &Rows) -> Result<(), OutOfMemory>
+        requires { self.old.arity ≡ rows.now.arity }
+        ensures { OnOk result (self.new ≡ record {
+          arity = self.old.arity;
+          rows = self.old.rows ++ rows.now.rows;
+        }) }
+    {
+        let mut row = Values::new(alloc);
+        'rows: for at in 0..rows.len() {
+            self.add_from(rows, at, &mut row)?;
+        }
+        Ok(())
     }
 
     /// How many columns each row has.

@@ -72,13 +72,14 @@ fn cut(columns: &mut Vec<Column>, count: usize)
 }
 
 impl Table {
-    /// No rows of the arity.
-    pub(crate) fn new(alloc: Global, arity: usize) -> Result<Table, OutOfMemory>
+    /// No rows of the arity, with memory for so many.
+    pub(crate) fn new(alloc: Global, arity: usize, room: usize) -> Result<Table, OutOfMemory>
         ensures { IfOk result (λ it. it ≡ record { arity = arity; rows = [] }) }
     {
         let mut columns = Vec::new(alloc);
         'columns: for _column in 0..arity {
-            let Ok(()) = columns.push(Values::new(alloc)) else {
+            let column = Values::with_room(alloc, room)?;
+            let Ok(()) = columns.push(column) else {
                 return Err(OutOfMemory);
             };
         }

@@ -1,15 +1,13 @@
 -- Rows that are asked for, row by row.
-use Rattle.std.proofs.Common.{◌≡◌, ◌⊎◌, inl, inr, ℕ, zero, suc, ◌+◌, ◌<◌, ◌≤◌, true, ◌&&◌, List, [], ◌∷◌, ◌++◌, map, length, get_or, take, Some, slice_get}
+use Rattle.std.proofs.Common.{◌≡◌, ◌⊎◌, inl, inr, ℕ, zero, suc, ◌+◌, ◌<◌, ◌≤◌, true, ◌&&◌, List, [], ◌∷◌, ◌++◌, map, length, get_or, take, Some}
 use Rattle.std.proofs.Common.{Contains, refl, sym, ap, ◌∙◌, subst, arith, eqb, eq-eqb}
 use Rattle.std.specs.List.{filter}
-use Rattle.std.proofs.lemmas.List.{get_or_default, take_more, take_all, append_assoc, length-map}
+use Rattle.std.proofs.lemmas.List.{get_or_default, take_more, take_all, length-map}
 use Rattle.std.proofs.lemmas.List.Elements.{Contains-append_left, Contains-append_right, Contains-append_cases, Contains-push_cases}
 use Rattle.std.proofs.lemmas.Option.{same_Some, get_or_from_slice_get}
-use Rattle.esto_term.proofs.ListLemmas.{Contains-at, Contains-nil, Contains-head, Contains-rest, Contains-filter, Contains-filter_from}
+use Rattle.esto_term.proofs.ListLemmas.{Contains-nil, Contains-head, Contains-rest, Contains-filter, Contains-filter_from}
 use Rattle.esto_columns.specs.declared.fragment.Input.{Input}
 use Rattle.esto_columns.specs.Asked.{holds_all}
-use Rattle.esto_columns.specs.CodedRows.{CodedRows}
-use Rattle.esto_columns.specs.Columns.{HaveLength}
 use Rattle.esto_steps.specs.declared.steps.Get.{Get}
 use Rattle.esto_steps.specs.declared.steps.Link.{Link}
 use Rattle.esto_steps.specs.declared.steps.Source.{Source}
@@ -133,22 +131,6 @@ module _ (asked new got : List (List ℕ)) (grown : new ≡ asked ++ got) where
       pub ask_complete : (cells : List ℕ) (sources : List Source) → sources ≡ map (λ (link : Link). link.source) get.inputs → NamesCodes cells sources key
           → AreAnswered get.inputs rows seen asked → (row : List ℕ) → Contains rows row → Follows get cells row → Contains new row
       ask_complete cells sources is named answered row among follows = own_answer row among (holds_key get rows cells sources is key named row follows)
-
--- ---- rows, one by one
-
-pub row_long : (rows : CodedRows) (at : ℕ) (row given : List ℕ) → slice_get rows.rows at ≡ Some row → given ≡ row → HaveLength rows.arity rows.rows
-    → length given ≡ rows.arity
-row_long rows at row given is same fits = ap length same ∙ fits row (Contains-at rows.rows at row is)
-
-pub push_row_more : (start into new : CodedRows) (rows : List (List ℕ)) (count : ℕ) → count < length rows
-    → into ≡ record { arity = start.arity; rows = start.rows ++ take count rows }
-    → new ≡ record { arity = into.arity; rows = into.rows ++ get_or rows count [] ∷ [] }
-    → new ≡ record { arity = start.arity; rows = start.rows ++ take (count + 1) rows }
-push_row_more start into new rows count below so_far is =
-    is ∙ ap (λ (it : CodedRows). record { arity = it.arity; rows = it.rows ++ get_or rows count [] ∷ [] }) so_far
-    ∙ ap (λ them. record { arity = start.arity; rows = them })
-    (append_assoc start.rows (take count rows) (get_or rows count [] ∷ [])
-    ∙ ap (λ them. start.rows ++ them) (sym (take_more rows count [] below)))
 
 pub inputs_turn : (links items : List Link) (codes : List ℕ) (inputs new : List Input) (count : ℕ) (default : Link) → items ≡ links
     → length codes ≡ length links → count < length items → inputs ≡ inputs_with (take count items) codes

@@ -1,5 +1,5 @@
 //! The rows of a fragment that rows so far ask for.
-ghost use Rattle.std.specs.Prelude.{◌≡◌, ◌++◌, ◌∷◌, ◌⊎◌, ◌<◌, [], List, ℕ, length, map, slice_index_or, Contains, IfOk, OnOk};
+ghost use Rattle.std.specs.Prelude.{◌≡◌, ◌++◌, ◌⊎◌, ◌<◌, [], List, ℕ, length, map, slice_index_or, Contains, IfOk, OnOk};
 ghost use Rattle.std.specs.List.{filter};
 ghost use Rattle.esto_columns.specs.Asked.{IsAllowed, holds_all};
 ghost use Rattle.esto_steps.specs.Meaning.{Follows};
@@ -28,40 +28,6 @@ fn inputs_of(alloc: Global, links: &Links, codes: &[u64]) -> Result<Inputs, OutO
     Ok(inputs)
 }
 
-/// Puts the row at the place at the end of the others. It is read into the list.
-pub(crate) fn push_row(
-    rows: &Rows,
-    at: usize,
-    row: &mut Values<u64>,
-    into: &mut Rows,
-) -> Result<(), OutOfMemory>
-    requires there { at < length rows.now.rows }
-    requires arity { into.old.arity ≡ rows.now.arity }
-    ensures { OnOk result (into.new ≡ record {
-      arity = into.old.arity;
-      rows = into.old.rows ++ slice_index_or rows.now.rows at [] ∷ [];
-    }) }
-{
-    let _arity = rows.arity();
-    rows.read_row(at, row)?;
-    into.add(row.items())
-}
-
-/// Puts the rows at the end, one by one.
-fn push_rows(alloc: Global, rows: &Rows, into: &mut Rows) -> Result<(), OutOfMemory>
-    requires { into.old.arity ≡ rows.now.arity }
-    ensures { OnOk result (into.new ≡ record {
-      arity = into.old.arity;
-      rows = into.old.rows ++ rows.now.rows;
-    }) }
-{
-    let mut row = Values::new(alloc);
-    'rows: for at in 0..rows.len() {
-        push_row(rows, at, &mut row, into)?;
-    }
-    Ok(())
-}
-
 /// Puts the rows of the fragment that have the key's codes as inputs at the end.
 fn push_asked<F: Fragment>(
     alloc: Global,
@@ -81,7 +47,7 @@ fn push_asked<F: Fragment>(
 {
     let inputs = inputs_of(alloc, &get.inputs, key)?;
     let rows = fragment.get(alloc, &inputs)?;
-    push_rows(alloc, &rows, asked)
+    asked.add_all(alloc, &rows)
 }
 
 /// Asks the fragment for the rows that have the inputs of the row so far at the place, if they are not asked for yet.

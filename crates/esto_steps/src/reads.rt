@@ -8,7 +8,6 @@ ghost use Rattle.esto_steps.specs.Indexed.{FindsRows};
 ghost use Rattle.esto_steps.specs.Joined.{IsJoin, IsKept};
 ghost use Rattle.esto_steps.specs.Meaning.{IsMet, Follows};
 
-use crate::asked::push_row;
 use crate::codes::name_codes;
 use crate::cost::{are_short, cheap_links, most_looks};
 use crate::join::{Join, index_by, joined_linked, joined_over};
@@ -132,13 +131,13 @@ fn push_first(
         → AreStood cells.now (take (at + 1) rows.now.rows) seen.new.rows few.new.rows) }
 {
     if !name_codes(&[], rows, at, cells, &mut buffers.key)? {
-        return push_row(rows, at, &mut buffers.row, few);
+        return few.add_from(rows, at, &mut buffers.row);
     }
     if seen.has(buffers.key.items()) {
         return Ok(());
     }
     seen.put(alloc, buffers.key.items())?;
-    push_row(rows, at, &mut buffers.row, few)
+    few.add_from(rows, at, &mut buffers.row)
 }
 
 /// Puts the first of the rows for each list of codes in the cells after the few.

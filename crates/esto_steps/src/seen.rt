@@ -26,11 +26,11 @@ impl Model for Seen {
 }
 
 impl Seen {
-    /// No rows of the arity, with room for so many.
+    /// No rows of the arity, with memory for so many.
     pub(crate) fn new(alloc: Global, arity: usize, room: usize) -> Result<Seen, OutOfMemory>
         ensures { IfOk result (λ it. it ≡ record { arity = arity; rows = [] }) }
     {
-        let rows = Rows::new(alloc, arity)?;
+        let rows = Rows::with_room(alloc, arity, room)?;
         let index = Index::new(alloc, room)?;
         Ok(Seen { rows, index, room })
     }

@@ -35,6 +35,16 @@ impl<T: Copy> Values<T> {
         }
     }
 
+    /// The empty list, with memory for so many values.
+    pub fn with_room(alloc: Global, room: usize) -> Result<Values<T>, OutOfMemory>
+        ensures { IfOk result (λ it. it ≡ []) }
+    {
+        match Vec::with_capacity(alloc, room) {
+            Ok(values) => Ok(Values { values }),
+            Err(_) => Err(OutOfMemory),
+        }
+    }
+
     /// How many values the list has.
     pub fn len(&self) -> usize
         ensures { result ≡ length self.now }

@@ -15,12 +15,12 @@ get-requires g c =
     (sym (ap (map (λ input. input.column)) c.in_ok-inputs.ensures ∙ columns_with c.args.get.now.inputs c.args.key.now c.requires.key))
     c.requires.allowed
 
-pub push_rows-requires : goal.push_rows-requires
-push_rows-requires g c = c.requires.arity ∙ sym (ap (λ (it : CodedRows). it.arity) c.in_ok-rows.ensures)
+pub add_all-requires : goal.add_all-requires
+add_all-requires g c = c.requires.arity ∙ sym (ap (λ (it : CodedRows). it.arity) c.in_ok-rows.ensures)
 
 pub returns : goal.returns
-returns g c = on_ok_weaker c.push_rows.result
+returns g c = on_ok_weaker c.add_all.result
     (λ grown. grown ∙ ap (λ rows. record { arity = c.args.asked.now.arity; rows = c.args.asked.now.rows ++ rows })
     (ap (λ (it : CodedRows). it.rows) c.in_ok-rows.ensures
     ∙ ap (λ inputs. filter (holds_all inputs) (g.F.Fragment.rows c.args.fragment.now)) c.in_ok-inputs.ensures))
-    c.push_rows.ensures
+    c.add_all.ensures

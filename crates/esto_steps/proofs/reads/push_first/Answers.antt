@@ -11,12 +11,12 @@ use Rattle.esto_steps.proofs.reads.push_first.Goals as goal
 pub returns-then-not-branch-clause-stand : goal.returns-then-not-branch-clause-stand
 returns-then-not-branch-clause-stand c =
     let row = get_or c.args.rows.now.rows c.args.at [] in
-    on_ok_weaker c.push_row.result
+    on_ok_weaker c.add_from.result
     (λ grown before. stood_pushed c.args.cells.now c.args.rows.now.rows c.args.at row c.requires.there
     (get_or_default c.args.rows.now.rows c.args.at [] row c.requires.there)
-    c.args.seen.now.rows c.args.few.now.rows before row c.args.seen.now.rows c.push_row.new.into.rows
+    c.args.seen.now.rows c.args.few.now.rows before row c.args.seen.now.rows c.add_from.new.self.rows
     refl (ap (λ (it : CodedRows). it.rows) grown) (λ key inside. inl inside))
-    c.push_row.ensures
+    c.add_from.ensures
 
 pub returns-then-has-clause-stand : goal.returns-then-has-clause-stand
 returns-then-has-clause-stand c = λ before.
@@ -37,10 +37,10 @@ put-requires c = ap length c.items-2.ensures
 pub returns-clause-stand : goal.returns-clause-stand
 returns-clause-stand c =
     let row = get_or c.args.rows.now.rows c.args.at [] in
-    on_ok_weaker c.push_row-2.result
+    on_ok_weaker c.add_from-2.result
     (λ grown before. stood_pushed c.args.cells.now c.args.rows.now.rows c.args.at row c.requires.there
     (get_or_default c.args.rows.now.rows c.args.at [] row c.requires.there)
-    c.args.seen.now.rows c.args.few.now.rows before row c.put.new.self.rows c.push_row-2.new.into.rows
+    c.args.seen.now.rows c.args.few.now.rows before row c.put.new.self.rows c.add_from-2.new.self.rows
     refl (ap (λ (it : CodedRows). it.rows) grown)
     (λ key inside. elim (Contains-push_cases c.args.seen.now.rows c.items-2.result.now key
     (subst (λ (them : CodedRows). Contains them.rows key) c.in_ok-put.ensures inside)) [
@@ -48,13 +48,13 @@ returns-clause-stand c =
       | inr same ↦ inr (subst (NamesCodes row c.args.cells.now) (sym c.items-2.ensures ∙ same)
           (names_true row c.args.cells.now c.name_codes.new.codes c.in_ok-name_codes.field-0 c.in_ok-name_codes.ensures c.if-not-branch.false))
     ]))
-    c.push_row-2.ensures
+    c.add_from-2.ensures
 
 pub returns-then-not-branch-clause-arity : goal.returns-then-not-branch-clause-arity
-returns-then-not-branch-clause-arity c = on_ok_weaker c.push_row.result (λ grown. ap (λ (it : CodedRows). it.arity) grown) c.push_row.ensures
+returns-then-not-branch-clause-arity c = on_ok_weaker c.add_from.result (λ grown. ap (λ (it : CodedRows). it.arity) grown) c.add_from.ensures
 
 pub returns-then-not-branch-clause-width : goal.returns-then-not-branch-clause-width
-returns-then-not-branch-clause-width c = on_ok_weaker c.push_row.result (λ _. refl) c.push_row.ensures
+returns-then-not-branch-clause-width c = on_ok_weaker c.add_from.result (λ _. refl) c.add_from.ensures
 
 pub returns-then-has-clause-arity : goal.returns-then-has-clause-arity
 returns-then-has-clause-arity c = refl
@@ -63,7 +63,7 @@ pub returns-then-has-clause-width : goal.returns-then-has-clause-width
 returns-then-has-clause-width c = refl
 
 pub returns-clause-arity : goal.returns-clause-arity
-returns-clause-arity c = on_ok_weaker c.push_row-2.result (λ grown. ap (λ (it : CodedRows). it.arity) grown) c.push_row-2.ensures
+returns-clause-arity c = on_ok_weaker c.add_from-2.result (λ grown. ap (λ (it : CodedRows). it.arity) grown) c.add_from-2.ensures
 
 pub returns-clause-width : goal.returns-clause-width
-returns-clause-width c = on_ok_weaker c.push_row-2.result (λ _. ap (λ (it : CodedRows). it.arity) c.in_ok-put.ensures) c.push_row-2.ensures
+returns-clause-width c = on_ok_weaker c.add_from-2.result (λ _. ap (λ (it : CodedRows). it.arity) c.in_ok-put.ensures) c.add_from-2.ensures
