@@ -13,7 +13,7 @@ use Rattle.std.proofs.lemmas.Option.{slice_get_within}
 use Rattle.esto_mapping.specs.declared.catalogue.Catalogue.{Catalogue}
 use Rattle.esto_docmodel.specs.declared.file.Shape.TheVariants.{Table}
 use Rattle.esto_docmodel.specs.declared.file.Store.{Store}
-use Rattle.esto_lines.specs.Faults.{Gives}
+use Rattle.esto_ports.specs.FileFaults.{Gives}
 use Rattle.esto_list.specs.declared.listing.Listed.{Listed}
 use Rattle.esto_steps.specs.Rows.{IsRowOf, held_by}
 use Rattle.esto_ports.specs.declared.file_fault.FileError.{FileError}

@@ -17,8 +17,8 @@ use Rattle.esto_semantics.proofs.FactLemmas.{Sends-then}
 use Rattle.esto_chase_laws.specs.ReceivedLaws.{StatesAreUniversalForQueries}
 use Rattle.esto_chase_laws.specs.RunLaws.{EndIsOne}
 use Rattle.esto_chase_laws.specs.Runs.{start_of}
-use Rattle.esto_plan_laws.specs.CoreLaws.{MapsCompose, RenamedIsReached, RenamedMapsBack}
-use Rattle.esto_plan_laws.specs.Cores.{with_head}
+use Rattle.esto_semantics.specs.CoreLaws.{MapsCompose, RenamedIsReached, RenamedMapsBack}
+use Rattle.esto_semantics.specs.Cores.{with_head}
 use Rattle.esto_query.specs.declared.query.Name.{Name}
 use Rattle.esto_views.specs.RenamedLaws.{RenamedIsOne, RenamedPlanIsRenamed}
 use Rattle.esto_views.specs.Renamed.{IsRenamed, IsRenamedPlan}

@@ -13,7 +13,7 @@ use Rattle.esto_chase_laws.specs.Runs.{IsRun, start_of}
 use Rattle.esto_chase.specs.Chased.{IsFinishedRun}
 use Rattle.esto_instance.specs.Instances.{state_of, steps_of, trace_of}
 use Rattle.esto_instance.specs.declared.instance.Instance.{Instance}
-use Rattle.esto_plan_laws.specs.Cores.{with_head}
+use Rattle.esto_semantics.specs.Cores.{with_head}
 use Rattle.esto_contain.specs.Contained.{IfNo, IsCounterexample, TellsContained}
 use Rattle.esto_contain.specs.ContainedLaws.{NoIsShown, ToldIsOne}
 use Rattle.esto_contain.specs.Ends.{FinishesAt}

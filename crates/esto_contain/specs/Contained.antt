@@ -4,7 +4,7 @@ use Rattle.esto_chase_laws.specs.Runs.{start_of}
 use Rattle.esto_contain.specs.Ends.{FinishesAt}
 use Rattle.esto_contain.specs.declared.containing.Contain.{Contain}
 use Rattle.esto_contain.specs.declared.containing.Contain.TheVariants.{Yes, No}
-use Rattle.esto_plan_laws.specs.Cores.{with_head}
+use Rattle.esto_semantics.specs.Cores.{with_head}
 use Rattle.esto_semantics.specs.Containment.{IsContained}
 use Rattle.esto_semantics.specs.Expansions.{IsOfQuery}
 use Rattle.esto_semantics.specs.Facts.{image}

@@ -8,7 +8,7 @@ ghost use Rattle.esto_contain.specs.Ends.{FinishesAt};
 ghost use Rattle.esto_contain.specs.Minimised.{HasNames, IsMinimised};
 ghost use Rattle.esto_contain.specs.Numbered.{AreNumbered};
 ghost use Rattle.esto_instance.specs.Instances.{state_of};
-ghost use Rattle.esto_plan_laws.specs.Cores.{with_head};
+ghost use Rattle.esto_semantics.specs.Cores.{with_head};
 ghost use Rattle.esto_query.specs.Making.{query_of};
 ghost use Rattle.esto_semantics.specs.Containment.{IsSatisfiable};
 ghost use Rattle.esto_semantics.specs.Expansions.{IsOfQuery};
@@ -29,10 +29,10 @@ use esto_condchase::{chase_with_products, products_of_matches};
 use esto_constraint::rules_are_sound;
 use esto_instance::Instance;
 use esto_mapping::{Catalogue, catalogues_rank_their_rules};
-use esto_plan_laws::{maps_between_plans_compose, renamed_plans_are_alike};
 use esto_query::{Atom, Facts, Names, Query, queries_are_sound};
 use esto_semantics::{
-    ExpandedFact, ExpandedFacts, chosen_atoms_are_named, parts_of_an_instance_contain_the_query,
+    ExpandedFact, ExpandedFacts, chosen_atoms_are_named, maps_between_plans_compose,
+    parts_of_an_instance_contain_the_query, renamed_plans_are_alike,
     universal_instances_satisfy_queries,
 };
 use esto_term::{List, OutOfMemory, Replicate, Terms};

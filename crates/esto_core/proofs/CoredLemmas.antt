@@ -9,9 +9,9 @@ use Rattle.esto_semantics.specs.Maps.{IsFlat}
 use Rattle.esto_semantics.specs.Queries.{ConjunctiveQuery}
 use Rattle.esto_semantics.specs.Rewritings.{IsPlanFor}
 use Rattle.esto_semantics.specs.declared.fact.Fact.{Fact}
-use Rattle.esto_plan_laws.specs.CoreLaws.{MapsCompose, LeftIsChosen, MapsToLeft, LeftMapsBack, LeftIsCore, LeftIsOne, RenamedIsReached, RenamedMapsBack}
-use Rattle.esto_plan_laws.specs.CoreLaws.{RenamedIsCore}
-use Rattle.esto_plan_laws.specs.Cores.{with_head, IsCore, IsRenamedTo}
+use Rattle.esto_semantics.specs.CoreLaws.{MapsCompose, LeftIsChosen, MapsToLeft, LeftMapsBack, LeftIsCore, LeftIsOne, RenamedIsReached, RenamedMapsBack}
+use Rattle.esto_semantics.specs.CoreLaws.{RenamedIsCore}
+use Rattle.esto_semantics.specs.Cores.{with_head, IsCore, IsRenamedTo}
 use Rattle.esto_views.specs.Plans.{fact_of, plan_query, IsPlanOver}
 use Rattle.esto_views.specs.Soundness.{IsSoundPlan}
 use Rattle.esto_views.specs.declared.fragments.FragmentDef.{FragmentDef}

@@ -17,7 +17,7 @@ use Rattle.esto_semantics.specs.declared.fact.Fact.{Fact}
 use Rattle.esto_query.specs.Matches.{IsLeastMatch, HasNoMatch}
 use Rattle.esto_semantics.specs.Valuations.{Assignment, Extends, map_of}
 use Rattle.esto_query.specs.declared.matches.Found.{Found}
-use Rattle.esto_plan_laws.specs.Cores.{Retracts, AreLeft}
+use Rattle.esto_semantics.specs.Cores.{Retracts, AreLeft}
 use Rattle.esto_core.specs.Left.{IsFixing, without, IsDroppedAt}
 
 -- ---- what the search for a map says

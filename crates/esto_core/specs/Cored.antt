@@ -7,7 +7,7 @@ use Rattle.esto_semantics.specs.Plans.{IsUniversalPlan}
 use Rattle.esto_semantics.specs.Queries.{ConjunctiveQuery}
 use Rattle.esto_semantics.specs.Rules.{Rule}
 use Rattle.esto_semantics.specs.declared.fact.Fact.{Fact}
-use Rattle.esto_plan_laws.specs.Cores.{AreLeft, HasNoRetract, IsRenamedTo}
+use Rattle.esto_semantics.specs.Cores.{AreLeft, HasNoRetract, IsRenamedTo}
 use Rattle.esto_query.specs.Soundness.{IsSafe}
 use Rattle.esto_views.specs.Plans.{plan_query}
 use Rattle.esto_views.specs.declared.plan.Plan.{Plan}

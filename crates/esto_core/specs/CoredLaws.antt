@@ -5,7 +5,7 @@ use Rattle.esto_semantics.specs.Plans.{IsUniversalPlan}
 use Rattle.esto_semantics.specs.Queries.{ConjunctiveQuery}
 use Rattle.esto_semantics.specs.Rules.{Rule}
 use Rattle.esto_semantics.specs.Unions.{ReceivesUnions}
-use Rattle.esto_plan_laws.specs.Cores.{IsCore, HasNoRetract}
+use Rattle.esto_semantics.specs.Cores.{IsCore, HasNoRetract}
 use Rattle.esto_views.specs.Plans.{plan_query, IsPlanOver}
 use Rattle.esto_views.specs.declared.fragments.FragmentDef.{FragmentDef}
 use Rattle.esto_views.specs.declared.plan.Plan.{Plan}

@@ -5,7 +5,7 @@ use Rattle.esto_term.specs.declared.term.Term.TheVariants.{Const}
 use Rattle.esto_semantics.specs.Maps.{Keeps}
 use Rattle.esto_semantics.specs.declared.fact.Fact.{Fact}
 use Rattle.esto_semantics.specs.Valuations.{Assignment, Extends}
-use Rattle.esto_plan_laws.specs.Cores.{Retracts}
+use Rattle.esto_semantics.specs.Cores.{Retracts}
 
 -- The maps that keep constants and extend the valuation are exactly those that send each of the terms to itself.
 abbrev pub IsFixing : List Term → Assignment → Type 0

@@ -5,7 +5,7 @@ ghost use Rattle.esto_semantics.specs.Plans.{IsUniversalPlan};
 ghost use Rattle.esto_semantics.specs.Queries.{ConjunctiveQuery};
 ghost use Rattle.esto_semantics.specs.Rules.{Rule};
 ghost use Rattle.esto_semantics.specs.Unions.{ReceivesUnions};
-ghost use Rattle.esto_plan_laws.specs.Cores.{IsCore, HasNoRetract};
+ghost use Rattle.esto_semantics.specs.Cores.{IsCore, HasNoRetract};
 ghost use Rattle.esto_views.specs.Plans.{plan_query, IsPlanOver};
 ghost use Rattle.esto_views.specs.declared.fragments.FragmentDef.{FragmentDef};
 ghost use Rattle.esto_core.specs.Cored.{IsCoredPlan, IsPart};
@@ -15,7 +15,7 @@ ghost use Rattle.esto_core.specs.CoredLaws.{CoredIsUniversal, CoredReceivesUnion
 ghost use Rattle.esto_core.specs.CoredLaws.{CoredIsOne, CoredIsOneForAQuery};
 
 use crate::left::left_of;
-use esto_plan_laws::{
+use esto_semantics::{
     cores_are_one, cores_have_no_retract, maps_between_plans_compose, plans_receive_unions,
     plans_that_map_to_each_other_are_universal_alike, renamed_plans_are_alike,
     what_is_left_is_a_core,

@@ -3,7 +3,7 @@ ghost use Rattle.std.specs.Prelude.{◌≡◌, ◌++◌, ◌<◌, ◌↔◌, [],
 ghost use Rattle.std.specs.FinMap as map;
 ghost use Rattle.esto_term.specs.declared.term.Term.{Term};
 ghost use Rattle.esto_semantics.specs.Maps.{IsFlat, AreFlat};
-ghost use Rattle.esto_plan_laws.specs.Cores.{Retracts, AreLeft};
+ghost use Rattle.esto_semantics.specs.Cores.{Retracts, AreLeft};
 ghost use Rattle.esto_core.specs.Left.{without, IsFixing, IsDroppedAt};
 
 use esto_query::{first_match, matches_send};

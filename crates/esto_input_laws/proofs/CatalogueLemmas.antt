@@ -43,8 +43,8 @@ use Rattle.esto_catalog.specs.declared.scope.Scope.{Scope}
 use Rattle.esto_catalog.specs.declared.walk.Ranked.{Ranked}
 use Rattle.esto_catalog.specs.declared.whole.Sections.{Sections}
 use Rattle.esto_catalog.specs.declared.whole.TheConstants.{MAX_ENTRIES}
-use Rattle.esto_reading_laws.proofs.TokenLemmas.{utf8}
-use Rattle.esto_reading_laws.specs.Totality.{HasOneOf}
+use Rattle.esto_input_laws.proofs.TokenLemmas.{utf8}
+use Rattle.esto_input_laws.specs.Totality.{HasOneOf}
 use Rattle.esto_input_laws.specs.CatalogueLaws.{HasCatalogueOrError, IsOwnError}
 use Rattle.esto_input_laws.proofs.CourseLemmas.{Ends, Any, ends_gives, ends_refuses, ends_demands, ends_accepts, ends_rejects, ends_then}
 use Rattle.esto_input_laws.proofs.EncodingLemmas.{with_encodings}

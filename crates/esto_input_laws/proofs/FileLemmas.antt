@@ -30,10 +30,10 @@ use Rattle.esto_stores.specs.Keys.{key_rows, key_fault}
 use Rattle.esto_stores.specs.Table.{table_rows, table_fault}
 use Rattle.esto_docs.proofs.RowLemmas.{text_column, once_mentioned}
 use Rattle.esto_docs.specs.Rows.{Row, text_in, row_map, IsRowOf, GivesRows}
-use Rattle.esto_lines.specs.Faults.{Gives}
+use Rattle.esto_ports.specs.FileFaults.{Gives}
 use Rattle.esto_ports.specs.declared.file_fault.FileError.TheVariants.{Fault}
 use Rattle.esto_ports.specs.declared.file_fault.FileFault.{FileFault}
-use Rattle.esto_reading_laws.specs.Totality.{HasOneOf}
+use Rattle.esto_input_laws.specs.Totality.{HasOneOf}
 use Rattle.esto_term.proofs.DecisionLemmas.{same_bytes}
 
 -- ---- a value that is there whatever the fault

@@ -1,3 +1,12 @@
+pub mod TokenLemmas
+pub mod TreeLemmas
+pub mod PartReadingLemmas
+pub mod ItemLemmas
+pub mod HeadLemmas
+pub mod QueryLemmas
+pub mod RuleLemmas
+pub mod LayoutReadingLemmas
+pub mod FunctionLemmas
 pub mod FileLemmas
 pub mod DatasetLemmas
 pub mod CourseLemmas

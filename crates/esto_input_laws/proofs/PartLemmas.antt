@@ -59,9 +59,9 @@ use Rattle.esto_status.specs.declared.fault.CatalogueKind.TheVariants.{BadColumn
 use Rattle.esto_catalog.specs.declared.fault.Place.{Place}
 use Rattle.esto_status.specs.declared.fault.Section.TheVariants as section
 use Rattle.esto_catalog.specs.declared.row.Keys.TheVariants as keys
-use Rattle.esto_reading_laws.proofs.LayoutLemmas.{layout_reading}
-use Rattle.esto_reading_laws.proofs.QueryLemmas.{query_reading}
-use Rattle.esto_reading_laws.proofs.RuleLemmas.{constraint_reading}
+use Rattle.esto_input_laws.proofs.LayoutReadingLemmas.{layout_reading}
+use Rattle.esto_input_laws.proofs.QueryLemmas.{query_reading}
+use Rattle.esto_input_laws.proofs.RuleLemmas.{constraint_reading}
 use Rattle.esto_input_laws.proofs.CourseLemmas.{Ends, Any, ends_gives, ends_refuses, ends_demands, ends_accepts, ends_rejects, ends_then, ends_each}
 use Rattle.esto_input_laws.proofs.LayoutLemmas.{is_layout}
 use Rattle.esto_input_laws.proofs.RowLemmas.{keys_known, text_needed, demanded, distinct, are_columns, model_needed, unfit, layout_row_ends}

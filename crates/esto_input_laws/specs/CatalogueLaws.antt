@@ -10,7 +10,7 @@ use Rattle.esto_mapping.specs.declared.catalogue.Catalogue.{Catalogue}
 use Rattle.esto_catalog.specs.declared.fault.CatalogueError.{CatalogueError}
 use Rattle.esto_catalog.specs.declared.fault.CatalogueError.TheVariants.{Fault, NotAcyclic, OutOfMemory}
 use Rattle.esto_status.specs.declared.fault.CatalogueFault.{CatalogueFault}
-use Rattle.esto_reading_laws.specs.Totality.{IsFunction}
+use Rattle.esto_input_laws.specs.Totality.{IsFunction}
 
 -- The graph of the relations of rules, which are below the count, has ranks, or a least cycle.
 abbrev pub HaveRanksOrCycle : Type 0

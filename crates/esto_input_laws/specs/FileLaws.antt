@@ -7,14 +7,14 @@ use Rattle.esto_docmodel.specs.Patterns.{Entries}
 use Rattle.esto_docs.specs.Files.{file_trees, trees_fault}
 use Rattle.esto_docs.specs.Rows.{IsRowOf, GivesRows}
 use Rattle.esto_docmodel.specs.declared.file.Layout.{Layout}
-use Rattle.esto_lines.specs.Faults.{Gives}
+use Rattle.esto_ports.specs.FileFaults.{Gives}
 use Rattle.esto_ports.specs.declared.file_fault.FileError.TheVariants.{Fault}
 use Rattle.esto_query.specs.declared.query.Query.{Query}
 use Rattle.esto_docs.specs.Stores.{IsRowIn, first_fault_in}
 use Rattle.esto_stores.specs.Keys.{key_rows, key_fault}
 use Rattle.esto_stores.specs.Rows.{Row}
 use Rattle.esto_stores.specs.Table.{table_rows, table_fault}
-use Rattle.esto_reading_laws.specs.Totality.{IsTotal}
+use Rattle.esto_input_laws.specs.Totality.{IsTotal}
 
 -- Each CSV file has rows by whatever columns, or a first fault.
 abbrev pub TablesAreTotal : Type 0

@@ -1,3 +1,6 @@
+pub mod Totality
+pub mod GrammarLaws
+pub mod ReadingLaws
 pub mod FileLaws
 pub mod CatalogueLaws
 pub mod DatasetLaws

@@ -2,3 +2,4 @@ pub mod EntryLemmas
 pub mod CallLemmas
 pub mod SinkLemmas
 pub mod ReadLemmas
+pub mod LineLemmas

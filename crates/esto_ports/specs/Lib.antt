@@ -1,4 +1,6 @@
 pub mod Faults
+pub mod FileFaults
+pub mod Lines
 pub mod Files
 pub mod Asked
 pub mod Fetch

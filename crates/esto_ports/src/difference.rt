@@ -1,4 +1,6 @@
 //! Where datasets' facts differ from the rules, or from the rows of fragments.
+ghost use Rattle.std.specs.Prelude.{◌≡◌, IfOk};
+ghost use Rattle.esto_ports.specs.declared.difference.Difference.TheVariants as difference;
 
 use esto_term::{OutOfMemory, Replicate, Text, TextRow};
 use std::alloc::Global;
@@ -16,16 +18,28 @@ pub enum Difference {
     Extra(Text, TextRow),
 }
 
+// The same lack of a row by a fragment.
+fn copy_missing(alloc: Global, name: &Text, row: &TextRow) -> Result<Difference, OutOfMemory>
+    ensures { IfOk result (λ it. it ≡ difference.Missing name.now row.now) }
+{
+    let name = name.copy(alloc)?;
+    Ok(Difference::Missing(name, row.copy(alloc)?))
+}
+
+// The same row too many of a fragment.
+fn copy_extra(alloc: Global, name: &Text, row: &TextRow) -> Result<Difference, OutOfMemory>
+    ensures { IfOk result (λ it. it ≡ difference.Extra name.now row.now) }
+{
+    let name = name.copy(alloc)?;
+    Ok(Difference::Extra(name, row.copy(alloc)?))
+}
+
 impl Replicate for Difference {
     fn copy(&self, alloc: Global) -> Result<Difference, OutOfMemory> {
         match self {
             Difference::Rule(number, cells) => { Ok(Difference::Rule(*number, cells.copy(alloc)?)) }
-            Difference::Missing(name, row) => {
-                Ok(Difference::Missing(name.copy(alloc)?, row.copy(alloc)?))
-            }
-            Difference::Extra(name, row) => {
-                Ok(Difference::Extra(name.copy(alloc)?, row.copy(alloc)?))
-            }
+            Difference::Missing(name, row) => copy_missing(alloc, name, row),
+            Difference::Extra(name, row) => copy_extra(alloc, name, row),
         }
     }
 }

@@ -16,8 +16,8 @@ use Rattle.esto_list.specs.declared.listing.Listed.{Listed}
 use Rattle.esto_query.specs.Same.{AreSameQueries, IsSameQuery}
 use Rattle.esto_status.specs.Line.{line_of}
 use Rattle.esto_status.specs.declared.status.Status.TheVariants as status
-use Rattle.esto_plan_laws.specs.UnionLaws.{UnionListIsOne}
-use Rattle.esto_plan_laws.specs.UnionSets.{AreUnionListed}
+use Rattle.esto_semantics.specs.UnionLaws.{UnionListIsOne}
+use Rattle.esto_semantics.specs.UnionSets.{AreUnionListed}
 use Rattle.esto_rewriting.specs.Alike.{EndIsOne, IsSamePlan, ItemsAreOne, ListTextIsOne}
 use Rattle.esto_query.specs.declared.query.Query.{Query}
 use Rattle.esto_semantics.specs.Access.{IsStatedOrder, Patterns}

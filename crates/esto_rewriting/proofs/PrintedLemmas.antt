@@ -8,8 +8,8 @@ use Rattle.esto_semantics.specs.Instances.{MapsTo}
 use Rattle.esto_semantics.specs.Queries.{ConjunctiveQuery}
 use Rattle.esto_semantics.specs.Rules.{Rule}
 use Rattle.esto_semantics.specs.Unions.{ReceivesUnions}
-use Rattle.esto_plan_laws.specs.CoreLaws.{CoreIsDistinct}
-use Rattle.esto_plan_laws.specs.Cores.{AreLeft, HasNoRetract}
+use Rattle.esto_semantics.specs.CoreLaws.{CoreIsDistinct}
+use Rattle.esto_semantics.specs.Cores.{AreLeft, HasNoRetract}
 use Rattle.esto_views.specs.Plans.{plan_query}
 use Rattle.esto_views.specs.declared.plan.Plan.{Plan}
 use Rattle.esto_universal.specs.PlannedLaws.{PlanOfRunIsOne}

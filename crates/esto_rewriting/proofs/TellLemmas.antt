@@ -4,8 +4,8 @@ use Rattle.std.specs.List.{AllZip}
 use Rattle.esto_mapping.specs.declared.catalogue.Catalogue.{Catalogue}
 use Rattle.esto_constraint.specs.Constraints.{rules_of}
 use Rattle.esto_list.specs.Items.{sets_of}
-use Rattle.esto_plan_laws.specs.UnionLaws.{ChoiceExists, ChoiceIsExecutable, EmptyListExcludes, ListedCoverUnions, ReceivingIsUniversal}
-use Rattle.esto_plan_laws.specs.UnionSets.{HasEmptyList, IsAnswered}
+use Rattle.esto_semantics.specs.UnionLaws.{ChoiceExists, ChoiceIsExecutable, EmptyListExcludes, ListedCoverUnions, ReceivingIsUniversal}
+use Rattle.esto_semantics.specs.UnionSets.{HasEmptyList, IsAnswered}
 use Rattle.esto_rewriting.specs.PlannedLaws.{ClashExcludesAnswers, CoreHasNoRetract, CoreIsOnly, PlanHasForm, PlanReceivesUnions, PlanTellsAnswers}
 use Rattle.esto_query.specs.Making.{query_of}
 use Rattle.esto_query.specs.declared.query.Query.{Query}

@@ -9,7 +9,7 @@ use Rattle.esto_list.specs.Items.{sets_of}
 use Rattle.esto_status.specs.Line.{line_of}
 use Rattle.esto_status.specs.declared.status.Status.{Status}
 use Rattle.esto_status.specs.declared.status.Status.TheVariants as status
-use Rattle.esto_plan_laws.specs.Cores.{HasNoRetract}
+use Rattle.esto_semantics.specs.Cores.{HasNoRetract}
 use Rattle.esto_rewriting.specs.Listing.{IsClash}
 use Rattle.esto_query.specs.Making.{query_of}
 use Rattle.esto_query.specs.declared.query.Query.{Query}

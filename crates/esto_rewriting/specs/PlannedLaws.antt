@@ -7,7 +7,7 @@ use Rattle.esto_constraint.specs.declared.rule.Constraint.{Constraint}
 use Rattle.esto_core.specs.Cored.{IsOnlyCore}
 use Rattle.esto_rewriting.specs.PrintedLaws.{PrintedPlanExcludesClash, PrintedPlanIsOne}
 use Rattle.esto_list.specs.declared.listing.Listed.{Listed}
-use Rattle.esto_plan_laws.specs.Cores.{HasNoRetract}
+use Rattle.esto_semantics.specs.Cores.{HasNoRetract}
 use Rattle.esto_query.specs.Making.{query_of}
 use Rattle.esto_query.specs.declared.query.Query.{Query}
 use Rattle.esto_semantics.specs.AccessLaws.{StatedOrderIsOne}

@@ -5,7 +5,7 @@ use Rattle.esto_semantics.specs.Plans.{IsUniversalPlan}
 use Rattle.esto_semantics.specs.Queries.{ConjunctiveQuery, IsQuery}
 use Rattle.esto_semantics.specs.Rules.{Rule, AreRules}
 use Rattle.esto_semantics.specs.Unions.{ReceivesUnions}
-use Rattle.esto_plan_laws.specs.Cores.{HasNoRetract}
+use Rattle.esto_semantics.specs.Cores.{HasNoRetract}
 use Rattle.esto_query.specs.declared.query.Name.{Name}
 use Rattle.esto_views.specs.Fragments.{views_of, AreFragments}
 use Rattle.esto_views.specs.Plans.{plan_query, IsPlanOver}

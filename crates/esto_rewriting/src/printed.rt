@@ -4,7 +4,7 @@ ghost use Rattle.either.specs.Either.{MatchEither};
 ghost use Rattle.esto_semantics.specs.Containment.{IsSatisfiable};
 ghost use Rattle.esto_semantics.specs.Plans.{IsUniversalPlan};
 ghost use Rattle.esto_semantics.specs.Unions.{ReceivesUnions};
-ghost use Rattle.esto_plan_laws.specs.Cores.{HasNoRetract};
+ghost use Rattle.esto_semantics.specs.Cores.{HasNoRetract};
 ghost use Rattle.esto_query.specs.Making.{query_of};
 ghost use Rattle.esto_constraint.specs.Constraints.{rules_of};
 ghost use Rattle.esto_views.specs.Fragments.{views_of};
@@ -24,9 +24,8 @@ use esto_core::{
     core_of, cored_plans_are_cores, cored_plans_are_determined, cored_plans_are_universal,
 };
 use esto_mapping::{Catalogue, catalogues_are_sound};
-use esto_plan_laws::{cores_are_one, cores_have_no_retract};
 use esto_query::{Query, queries_are_sound};
-use esto_semantics::queries_are_their_own_instances;
+use esto_semantics::{cores_are_one, cores_have_no_retract, queries_are_their_own_instances};
 use esto_term::OutOfMemory;
 use esto_universal::{
     plans_of_runs_are_over_fragments, plans_of_runs_are_universal, plans_tell_satisfiable_queries,

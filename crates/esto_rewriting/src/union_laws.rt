@@ -11,13 +11,13 @@ use crate::planned_laws::{
     items_and_texts_are_one, planned_plans_are_universal, planned_plans_have_their_form,
     plans_and_lists_are_moved, plans_and_lists_are_one,
 };
-use esto_plan_laws::{
-    choices_are_executable_unions, executable_unions_exist, executable_unions_map_onto_sets,
-    plans_receive_unions,
-};
 use esto_run::{
     fragment_files_are_one, readable_fragments_are_opened, rising_rows_are_one,
     unions_answer_over_files, used_by_all_are_one,
+};
+use esto_semantics::{
+    choices_are_executable_unions, executable_unions_exist, executable_unions_map_onto_sets,
+    plans_receive_unions,
 };
 use esto_union::picks_answer_unions;
 

@@ -28,3 +28,7 @@ pub mod RuleLemmas
 pub mod ValueLemmas
 pub mod SubstitutionLemmas
 pub mod ValuationLemmas
+pub mod CoreLemmas
+pub mod LeftLemmas
+pub mod MapsToLemmas
+pub mod UnionLemmas

@@ -30,3 +30,7 @@ pub mod DocumentRules
 pub mod Expanded
 pub mod Spreads
 pub mod Valuations
+pub mod Cores
+pub mod CoreLaws
+pub mod UnionSets
+pub mod UnionLaws

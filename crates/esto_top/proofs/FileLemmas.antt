@@ -27,7 +27,7 @@ use Rattle.esto_semantics.specs.Maps.{AreFlat, IsFixedBy}
 use Rattle.esto_semantics.specs.Queries.{ConjunctiveQuery}
 use Rattle.esto_semantics.specs.declared.fact.Fact.{Fact}
 use Rattle.esto_stores.specs.Rows.{Row}
-use Rattle.esto_reading_laws.specs.Totality.{HasOneOf}
+use Rattle.esto_input_laws.specs.Totality.{HasOneOf}
 use Rattle.esto_input_laws.specs.FileLaws.{StoredRowsAreTotal}
 use Rattle.esto_top.proofs.AnswerLemmas.{answers_listed}
 use Rattle.esto_term.proofs.DecisionLemmas.{same_list}

@@ -36,7 +36,7 @@ use Rattle.esto_term.proofs.ListLemmas.{map_at-from, place-from_Contains, thing_
 use Rattle.esto_term.specs.declared.term.Term.{Term}
 use Rattle.esto_views.specs.declared.fragments.FragmentDef.{FragmentDef}
 use Rattle.esto_term.proofs.DecisionLemmas.{same_bytes}
-use Rattle.esto_reading_laws.proofs.HeadLemmas.{first_at}
+use Rattle.esto_input_laws.proofs.HeadLemmas.{first_at}
 use Rattle.esto_top.specs.Ends.{Ends, EndsOrLacks}
 use Rattle.esto_top.specs.LawsBelow.{BelowLaws, ReadingLaws}
 use Rattle.esto_top.proofs.CourseLemmas.{ends_judged, ends_refused, ends_then, gives_ends, judges_accepts, judges_refuses}

@@ -13,8 +13,8 @@ use Rattle.esto_semantics.specs.Queries.{ConjunctiveQuery, IsQuery}
 use Rattle.esto_semantics.specs.declared.fact.Fact.{Fact}
 use Rattle.esto_semantics.proofs.FactLemmas.{Mentions-among, Mentions-append}
 use Rattle.esto_semantics.proofs.TermLemmas.{decided_term}
-use Rattle.esto_plan_laws.specs.Cores.{with_head, Retracts, AreLeft}
-use Rattle.esto_plan_laws.proofs.LeftLemmas.{left-among}
+use Rattle.esto_semantics.specs.Cores.{with_head, Retracts, AreLeft}
+use Rattle.esto_semantics.proofs.LeftLemmas.{left-among}
 use Rattle.esto_query.specs.Rows.{row_cmp}
 use Rattle.esto_query.specs.declared.query.Name.{Name}
 use Rattle.esto_views.specs.Plans.{plan_query}
@@ -30,7 +30,7 @@ use Rattle.esto_views.specs.Renamed.{IsRenamedPlan}
 use Rattle.esto_views.proofs.RenamedLemmas.{keeps, renamed_is}
 use Rattle.esto_views.proofs.ReadingLemmas.{seen_none, place_known, place_new}
 use Rattle.esto_universal.proofs.RowLemmas.{AreRowsBelow, rows_none, rows_joined, rows_all}
-use Rattle.esto_reading_laws.proofs.RuleLemmas.{is_constant}
+use Rattle.esto_input_laws.proofs.RuleLemmas.{is_constant}
 use Rattle.esto_top.proofs.AnswerLemmas.{answers_listed, maps_decided}
 
 -- ---- the rows of all views

@@ -16,7 +16,7 @@ use Rattle.esto_course.specs.Course.{and_then, demands}
 use Rattle.esto_status.specs.Answers.{IsCaused}
 use Rattle.esto_status.specs.declared.status.Status.{Status}
 use Rattle.esto_status.specs.declared.status.Status.TheVariants.{HeadLengths, Unsatisfiable}
-use Rattle.esto_plan_laws.specs.Cores.{with_head}
+use Rattle.esto_semantics.specs.Cores.{with_head}
 use Rattle.esto_query.specs.Making.{query_of}
 use Rattle.esto_query.specs.Schemas.{names_of}
 use Rattle.esto_query.specs.declared.query.Query.{Query}
@@ -42,7 +42,7 @@ use Rattle.esto_term.proofs.ChoiceLemmas.{Decided, decided_as, decided_each}
 use Rattle.esto_term.proofs.ListLemmas.{Contains-nil, thing_at}
 use Rattle.esto_universal.proofs.PlannedLemmas.{head_stays}
 use Rattle.esto_views.specs.Plans.{plan_query}
-use Rattle.esto_reading_laws.proofs.RuleLemmas.{fixed}
+use Rattle.esto_input_laws.proofs.RuleLemmas.{fixed}
 use Rattle.esto_top.specs.Ends.{Ends}
 use Rattle.esto_top.specs.Ends.Ends.{goes, stops}
 use Rattle.esto_top.specs.LawsBelow.{BelowLaws, ReasoningLaws}

@@ -24,7 +24,7 @@ use Rattle.esto_semantics.specs.Unions.{IsUnionAnswer}
 use Rattle.esto_semantics.specs.Views.{IsFragmentAnswer}
 use Rattle.esto_semantics.specs.declared.fact.Fact.{Fact}
 use Rattle.esto_semantics.specs.declared.fact.Value.{Value}
-use Rattle.esto_plan_laws.specs.UnionSets.{AreUnionListed, IsUnionRewriting}
+use Rattle.esto_semantics.specs.UnionSets.{AreUnionListed, IsUnionRewriting}
 use Rattle.esto_semantics.proofs.CandidateLemmas.{chosen-among}
 use Rattle.esto_semantics.proofs.FactLemmas.{Mentions-among}
 use Rattle.esto_term.proofs.SetLemmas.{decided_has, Has-within}
@@ -34,7 +34,7 @@ use Rattle.esto_chase_laws.specs.RunLaws.{StartsHaveTheBody}
 use Rattle.esto_chase_laws.specs.Runs.{Step, IsEnd, IsRun, IsStart, start_of}
 use Rattle.esto_top.proofs.AnswerLemmas.{maps_decided}
 use Rattle.esto_term.proofs.DecisionLemmas.{same_bool, same_list}
-use Rattle.esto_reading_laws.proofs.RuleLemmas.{fixed}
+use Rattle.esto_input_laws.proofs.RuleLemmas.{fixed}
 
 -- ---- what is decided
 

@@ -10,11 +10,11 @@ use Rattle.esto_constraint.specs.declared.rule.Constraint.{Constraint}
 use Rattle.esto_input_laws.specs.CatalogueLaws.{CataloguesAreTotal}
 use Rattle.esto_input_laws.specs.FileLaws.{StoredRowsAreTotal}
 use Rattle.esto_run.specs.Readable.{OpenedAreReadable}
-use Rattle.esto_plan_laws.specs.CoreLaws.{MapsCompose, RenamedIsReached, RenamedMapsBack}
+use Rattle.esto_semantics.specs.CoreLaws.{MapsCompose, RenamedIsReached, RenamedMapsBack}
 use Rattle.esto_rewriting.specs.PlannedLaws.{PlanHasForm, PlanIsOver, PlanIsUniversal}
 use Rattle.esto_query.specs.Soundness.{IsSound}
 use Rattle.esto_query.specs.declared.query.Query.{Query}
-use Rattle.esto_reading_laws.specs.ReadingLaws.{ReadingsAreTotal, UnionReadingsAreTotal}
+use Rattle.esto_input_laws.specs.ReadingLaws.{ReadingsAreTotal, UnionReadingsAreTotal}
 use Rattle.esto_semantics.specs.AccessLaws.{NumbersAreStated, ExecutableIsOwnPart, PartExists, PartIsOne, StatedOrderExists}
 use Rattle.esto_semantics.specs.ContainmentLaws.{PartContains, PartIsEquivalent}
 use Rattle.esto_semantics.specs.ExpansionLaws.{ExpansionAnswers, ExpansionExists, ExpansionIsContained, ExpansionIsContainedInUnion}

@@ -6,18 +6,16 @@ use esto_chase_laws::{
     runs_reach_an_end, states_are_universal,
 };
 use esto_constraint::{ranks_rise, rules_are_sound};
-use esto_input_laws::{catalogues_are_total, files_are_total};
+use esto_input_laws::{catalogues_are_total, files_are_total, readings_are_total};
 use esto_mapping::catalogues_are_sound;
-use esto_plan_laws::{maps_between_plans_compose, renamed_plans_are_alike};
 use esto_query::queries_are_sound;
-use esto_reading_laws::readings_are_total;
 use esto_rewriting::{planned_plans_are_universal, planned_plans_have_their_form};
 use esto_run::readable_fragments_are_opened;
 use esto_semantics::{
     an_expansion_means_the_same, candidates_contain_the_query, executable_sets_unite,
-    listed_sets_are_minimal, parts_of_an_instance_contain_the_query, picks_exist,
-    queries_are_their_own_instances, queries_over_fragments_have_expansions,
-    rewritings_without_inputs, stated_orders_exist, weights_exist,
+    listed_sets_are_minimal, maps_between_plans_compose, parts_of_an_instance_contain_the_query,
+    picks_exist, queries_are_their_own_instances, queries_over_fragments_have_expansions,
+    renamed_plans_are_alike, rewritings_without_inputs, stated_orders_exist, weights_exist,
 };
 use esto_term::{all_sets_are_listed, minimal_sets_cover};
 use esto_universal::plans_of_runs_are_universal;

@@ -3,8 +3,8 @@ use Rattle.std.proofs.Common.{◌≡◌, ◌⊎◌, ◌↔◌, inl, inr, Bool, L
 use Rattle.esto_term.proofs.ListLemmas.{Contains-cases, Contains-head, Contains-map, Contains-map_from, Contains-nil, Contains-rest}
 use Rattle.esto_mapping.specs.declared.catalogue.Catalogue.{Catalogue}
 use Rattle.esto_constraint.specs.Constraints.{rules_of}
-use Rattle.esto_plan_laws.specs.UnionLaws.{ChoiceExists, ChoiceIsExecutable, EmptyListExcludes, ReceivingIsUniversal}
-use Rattle.esto_plan_laws.specs.UnionSets.{IsAnswered, IsOption, IsOfOption, HasOption, HasEmptyList}
+use Rattle.esto_semantics.specs.UnionLaws.{ChoiceExists, ChoiceIsExecutable, EmptyListExcludes, ReceivingIsUniversal}
+use Rattle.esto_semantics.specs.UnionSets.{IsAnswered, IsOption, IsOfOption, HasOption, HasEmptyList}
 use Rattle.esto_query.specs.Making.{query_of}
 use Rattle.esto_query.specs.declared.query.Query.{Query}
 use Rattle.esto_semantics.specs.Access.{Patterns}

@@ -2,7 +2,7 @@
 use Rattle.std.specs.Prelude.{Bool, List, map, Contains}
 use Rattle.esto_mapping.specs.declared.catalogue.Catalogue.{Catalogue}
 use Rattle.esto_constraint.specs.Constraints.{rules_of}
-use Rattle.esto_plan_laws.specs.UnionSets.{AnswersUnion, IsUnionListed, IsUnionRewriting, IsExecutableUnion}
+use Rattle.esto_semantics.specs.UnionSets.{AnswersUnion, IsUnionListed, IsUnionRewriting, IsExecutableUnion}
 use Rattle.esto_query.specs.Making.{query_of}
 use Rattle.esto_query.specs.declared.query.Query.{Query}
 use Rattle.esto_semantics.specs.Containment.{IsSatisfiable}

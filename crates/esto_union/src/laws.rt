@@ -1,7 +1,7 @@
 //! Laws of the sets that are listed in a union.
 ghost use Rattle.esto_union.specs.Laws.{ListedInUnionIsOne, NoRewritingIsTold, OneHasItsListedSets, PicksAnswerUnion, PicksAreRewriting};
 
-use esto_plan_laws::{
+use esto_semantics::{
     choices_are_executable_unions, executable_unions_exist, executable_unions_map_onto_sets,
     plans_receive_unions, unions_of_one,
 };

@@ -3,7 +3,7 @@ ghost use Rattle.esto_universal.specs.StatedLaws.{StatedPlanIsOne, StatedAtomsAr
 ghost use Rattle.esto_universal.specs.StatedLaws.{StatedPlanIsOfRows, StatedPlanReceivesUnions};
 ghost use Rattle.esto_universal.specs.StatedLaws.{StatedPlanIsUniversal};
 
-use esto_plan_laws::plans_receive_unions;
+use esto_semantics::plans_receive_unions;
 
 /// A law: there is one stated plan.
 pub fn stated_plans_are_one()

@@ -14,7 +14,7 @@ use Rattle.esto_semantics.specs.Maps.{IsConstant, Keeps}
 use Rattle.esto_semantics.specs.Queries.{ConjunctiveQuery}
 use Rattle.esto_semantics.specs.declared.fact.Fact.{Fact}
 use Rattle.esto_semantics.proofs.TermLemmas.{term_cases, Const-apart-Plain, Const-apart-Made}
-use Rattle.esto_plan_laws.specs.Cores.{with_head, IsRenamedTo}
+use Rattle.esto_semantics.specs.Cores.{with_head, IsRenamedTo}
 use Rattle.esto_query.specs.declared.query.Name.{Name}
 use Rattle.esto_views.specs.Plans.{fact_of}
 use Rattle.esto_views.specs.Soundness.{IsNamed, IsSoundPlan}

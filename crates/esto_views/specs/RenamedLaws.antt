@@ -6,7 +6,7 @@ use Rattle.esto_semantics.specs.Expansions.{IsOfQuery}
 use Rattle.esto_semantics.specs.Maps.{Keeps}
 use Rattle.esto_semantics.specs.Queries.{ConjunctiveQuery}
 use Rattle.esto_semantics.specs.declared.fact.Fact.{Fact}
-use Rattle.esto_plan_laws.specs.Cores.{with_head, IsRenamedTo}
+use Rattle.esto_semantics.specs.Cores.{with_head, IsRenamedTo}
 use Rattle.esto_query.specs.declared.query.Name.{Name}
 use Rattle.esto_views.specs.Plans.{plan_query}
 use Rattle.esto_views.specs.declared.plan.Plan.{Plan}

@@ -1,7 +1,7 @@
 use Rattle.std.proofs.Common.{◌<◌, ◌≡◌, ◌↔◌, inl, ◌∙◌, Bool, List, length, sym, ap, subst}
 use Rattle.esto_constraint.specs.Constraints.{rules_of}
 use Rattle.esto_bits.specs.Kept.{AreOver}
-use Rattle.esto_plan_laws.specs.Cores.{with_head}
+use Rattle.esto_semantics.specs.Cores.{with_head}
 use Rattle.esto_query.specs.Making.{query_of}
 use Rattle.esto_term.specs.Sets.{Covers}
 use Rattle.esto_semantics.specs.declared.fact.Fact.{Fact}

@@ -1,6 +1,6 @@
 use Rattle.std.proofs.Common.{[], sym, subst}
 use Rattle.esto_semantics.specs.Maps.{AreFlat}
-use Rattle.esto_plan_laws.specs.Cores.{AreLeft}
+use Rattle.esto_semantics.specs.Cores.{AreLeft}
 use Rattle.esto_views.proofs.FlatLemmas.{plan_atoms-flat}
 use Rattle.esto_core.proofs.CoredLemmas.{head-flat}
 use Rattle.esto_core.proofs.cored.cored_plan.Goals as goal

@@ -1,6 +1,6 @@
 use Rattle.std.proofs.Common.{◌↔◌, ◌∷◌, Contains, IsTrue, ap, sym, subst, ◌∙◌}
 use Rattle.esto_semantics.specs.Maps.{AreFlat}
-use Rattle.esto_plan_laws.specs.Cores.{Retracts}
+use Rattle.esto_semantics.specs.Cores.{Retracts}
 use Rattle.esto_core.specs.Left.{IsFixing}
 use Rattle.esto_core.proofs.LeftLemmas.{found-retracts}
 use Rattle.esto_core.proofs.left.retracts.Goals as goal

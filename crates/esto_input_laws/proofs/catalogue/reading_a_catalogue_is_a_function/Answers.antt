@@ -1,6 +1,6 @@
 use Rattle.esto_mapping.specs.Catalogues.{AreSame}
 use Rattle.esto_catalog.specs.Reading.{IsCatalogueOf}
-use Rattle.esto_reading_laws.proofs.FunctionLemmas.{is_function}
+use Rattle.esto_input_laws.proofs.FunctionLemmas.{is_function}
 use Rattle.esto_input_laws.proofs.CatalogueLemmas.{catalogue_or_own_error}
 use Rattle.esto_input_laws.specs.CatalogueLaws.{IsOwnError}
 use Rattle.esto_input_laws.proofs.catalogue.reading_a_catalogue_is_a_function.Goals as goal

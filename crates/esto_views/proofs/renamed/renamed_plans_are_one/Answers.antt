@@ -1,4 +1,4 @@
-use Rattle.esto_plan_laws.specs.Cores.{with_head}
+use Rattle.esto_semantics.specs.Cores.{with_head}
 use Rattle.esto_views.specs.Plans.{plan_query}
 use Rattle.esto_views.proofs.RenamedOnceLemmas.{one_renamed}
 use Rattle.esto_views.proofs.RenamedLemmas.{renamed-IsRenamedTo, renaming_undone}

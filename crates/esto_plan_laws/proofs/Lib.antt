@@ -1,4 +1,0 @@
-pub mod MapsToLemmas
-pub mod LeftLemmas
-pub mod CoreLemmas
-pub mod UnionLemmas

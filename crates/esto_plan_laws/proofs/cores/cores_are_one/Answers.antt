@@ -1,5 +1,0 @@
-use Rattle.esto_plan_laws.proofs.CoreLemmas.{universal_cores-IsRenamedTo}
-use Rattle.esto_plan_laws.proofs.cores.cores_are_one.Goals as goal
-
-pub returns : goal.returns
-returns c = universal_cores-IsRenamedTo

@@ -1,5 +1,0 @@
-use Rattle.esto_plan_laws.proofs.MapsToLemmas.{MapsTo-then}
-use Rattle.esto_plan_laws.proofs.cores.maps_between_plans_compose.Goals as goal
-
-pub returns : goal.returns
-returns c = λ first second third maps further. MapsTo-then first second third maps further

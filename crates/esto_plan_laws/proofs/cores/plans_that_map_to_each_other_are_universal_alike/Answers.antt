@@ -1,5 +1,0 @@
-use Rattle.esto_plan_laws.proofs.MapsToLemmas.{universal_alike}
-use Rattle.esto_plan_laws.proofs.cores.plans_that_map_to_each_other_are_universal_alike.Goals as goal
-
-pub returns : goal.returns
-returns c = universal_alike

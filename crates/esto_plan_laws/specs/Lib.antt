@@ -1,4 +1,0 @@
-pub mod Cores
-pub mod CoreLaws
-pub mod UnionSets
-pub mod UnionLaws

@@ -1,9 +1,0 @@
-pub mod TokenLemmas
-pub mod TreeLemmas
-pub mod PartLemmas
-pub mod ItemLemmas
-pub mod HeadLemmas
-pub mod QueryLemmas
-pub mod RuleLemmas
-pub mod LayoutLemmas
-pub mod FunctionLemmas

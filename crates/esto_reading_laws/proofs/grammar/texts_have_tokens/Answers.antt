@@ -1,5 +1,0 @@
-use Rattle.esto_reading_laws.proofs.TokenLemmas.{have_tokens}
-use Rattle.esto_reading_laws.proofs.grammar.texts_have_tokens.Goals as goal
-
-pub returns : goal.returns
-returns c = λ bytes. have_tokens bytes

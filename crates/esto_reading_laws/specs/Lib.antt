@@ -1,3 +1,0 @@
-pub mod Totality
-pub mod GrammarLaws
-pub mod ReadingLaws
