@@ -1,7 +1,8 @@
 //! Entries: claims, each with the set of atoms that it rests on and with what it follows from.
-ghost use Rattle.std.specs.Prelude.{◌≡◌, ◌⊎◌, ◌↔◌, IsTrue};
+ghost use Rattle.std.specs.Prelude.{◌≡◌, ◌⊎◌, ◌↔◌, IsTrue, IfOk};
 ghost use Rattle.esto_chase_laws.specs.Claims.{AreSameClaim};
 ghost use Rattle.esto_chase_laws.specs.Worlds.{SaysOne};
+ghost use Rattle.esto_chase_laws.specs.declared.entry.Claim.TheVariants.{Same};
 
 use esto_bits::RowBits;
 use esto_semantics::Atom;
@@ -38,11 +39,20 @@ pub struct Entry {
     pub reason: Reason,
 }
 
+/// A copy of the claim that the two terms are one.
+fn copied_pair(alloc: Global, left: &Term, right: &Term) -> Result<Claim, OutOfMemory>
+    ensures { IfOk result (λ it. it ≡ Same left.now right.now) }
+{
+    let left = left.copy(alloc)?;
+    let right = right.copy(alloc)?;
+    Ok(Claim::Same(left, right))
+}
+
 impl Replicate for Claim {
     fn copy(&self, alloc: Global) -> Result<Claim, OutOfMemory> {
         match self {
             Claim::Fact(fact) => Ok(Claim::Fact(fact.copy(alloc)?)),
-            Claim::Same(left, right) => Ok(Claim::Same(left.copy(alloc)?, right.copy(alloc)?)),
+            Claim::Same(left, right) => copied_pair(alloc, left, right),
         }
     }
 }
@@ -59,10 +69,13 @@ impl Replicate for Reason {
 
 impl Replicate for Entry {
     fn copy(&self, alloc: Global) -> Result<Entry, OutOfMemory> {
+        let product = self.product.copy(alloc)?;
+        let reason = self.reason.copy(alloc)?;
+        let claim = self.claim.copy(alloc)?;
         Ok(Entry {
-            claim: self.claim.copy(alloc)?,
-            product: self.product.copy(alloc)?,
-            reason: self.reason.copy(alloc)?,
+            claim,
+            product,
+            reason,
         })
     }
 }

@@ -31,7 +31,7 @@ use Rattle.esto_condchase.specs.Rounds.{AsksMore, AreOpen, TellOne, MeetBy, Meet
 use Rattle.esto_known.specs.Added.{IsFollowing}
 use Rattle.esto_known.specs.Live.{AreOld}
 use Rattle.esto_condchase.proofs.WayLemmas.{IsUnion-more}
-use Rattle.esto_condchase.proofs.AskLemmas.{AsksMore-then}
+use Rattle.esto_condchase.proofs.AskLemmas.{AsksMore-none, AsksMore-then, pushed_asks}
 use Rattle.esto_known.proofs.CoverLemmas.{touching_back}
 
 -- ---- claims
@@ -162,14 +162,22 @@ module _ (entries : List Entry) (first second : ℕ) (one two : Entry) (from to 
       (its ∙ sym other, length-united one.product two.product (its ∙ sym other) ∙ its)
 
   -- the entry that is made of them follows
-  pub union_following : (rules : List Rule) (count : ℕ) → AreOfCount count entries → (entry : Entry) → entry.claim ≡ Same from to
-      → entry.product ≡ united one.product two.product → entry.reason ≡ Equal (first ∷ second ∷ []) → IsFollowing rules count entries entry
-  union_following rules count counts entry claim_is product_is reason_is = record {
-    follows = λ expanded. subst (λ it. Follows expanded rules entries it entry.product entry.reason) (sym claim_is)
-        (subst (λ it. Follows expanded rules entries (Same from to) it entry.reason) (sym product_is)
-        (subst (Follows expanded rules entries (Same from to) (united one.product two.product)) (sym reason_is) (union_follows rules expanded)));
-    counted = ap length product_is ∙ (union_count count counts).1;
+  union_following : (rules : List Rule) (count : ℕ) → AreOfCount count entries → (product : List Bool) → product ≡ united one.product two.product
+      → IsFollowing rules count entries (record { claim = Same from to; product = product; reason = Equal (first ∷ second ∷ []) })
+  union_following rules count counts product is = record {
+    follows = λ expanded. subst (λ it. Follows expanded rules entries (Same from to) it (Equal (first ∷ second ∷ []))) (sym is) (union_follows rules expanded);
+    counted = ap length is ∙ (union_count count counts).1;
   }
+
+  -- so that it may be asked for
+  pub union_asks : (rules : List Rule) (count : ℕ) → AreOfCount count entries → (product : List Bool) → product ≡ united one.product two.product
+      → (more later : List Entry)
+      → (later ≡ more) ⊎ (later ≡ more ++ (record { claim = Same from to; product = product; reason = Equal (first ∷ second ∷ []) }) ∷ [])
+      → AsksMore rules count entries more later
+  union_asks rules count counts product is more later asks = elim asks [
+    | inl same ↦ subst (AsksMore rules count entries more) (sym same) (AsksMore-none rules count entries more)
+    | inr pushed ↦ pushed_asks rules count entries more later _ pushed (union_following rules count counts product is)
+  ]
 
   union_within : (set : List Bool) → Within one.product set → Within two.product set → Within (united one.product two.product) set
   union_within set within within_too number has = elim ((has_united one.product two.product number).0 has) [

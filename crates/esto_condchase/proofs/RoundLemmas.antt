@@ -97,15 +97,17 @@ pub side_is : (its_from from terms its_to to : List Term) (term it : Term) → i
     ≡ taken terms to term
 side_is its_from from terms its_to to term it same from_is same_to is = is ∙ (λ i. taken ((same ∙ from_is) i) (same_to i) term)
 
-pub made_is : (number : ℕ) (body head : List (Fact Term)) (its_from from its_to to values shared its_shared its_from_2 its_to_2 : List Term)
-    (atom fact : Fact Term) → its_from ≡ from → from ≡ terms_of body → its_to ≡ to → its_from_2 ≡ from → its_to_2 ≡ to
-    → its_shared ≡ shared → shared ≡ frontier body head → values ≡ map (taken its_from its_to) its_shared → fact
-    ≡ image (made_of number its_from_2 its_to_2 values) atom → fact ≡ image (extended number body head (taken (terms_of body) to)) atom
-made_is number body head its_from from its_to to values shared its_shared its_from_2 its_to_2 atom fact same from_is same_to same_2 same_to_2 same_shared
-    shared_is values_are is =
-    let values_is : values ≡ map (taken (terms_of body) to) (frontier body head) = values_are
-    ∙ (λ i. map (taken ((same ∙ from_is) i) (same_to i)) ((same_shared ∙ shared_is) i)) in
-    is ∙ (λ i. image (made_of number ((same_2 ∙ from_is) i) (same_to_2 i) (values_is i)) atom)
+pub values_are : (body head : List (Fact Term)) (its_from from its_to to values its_shared shared : List Term) → its_from ≡ from → from ≡ terms_of body
+    → its_to ≡ to → its_shared ≡ shared → shared ≡ frontier body head → values ≡ map (taken its_from its_to) its_shared
+    → values ≡ map (taken (terms_of body) to) (frontier body head)
+values_are body head its_from from its_to to values its_shared shared same from_is same_to same_shared shared_is are =
+    are ∙ (λ i. map (taken ((same ∙ from_is) i) (same_to i)) ((same_shared ∙ shared_is) i))
+
+pub made_is : (number : ℕ) (body head : List (Fact Term)) (its_from from its_to to values : List Term) (atom fact : Fact Term) → its_from ≡ from
+    → from ≡ terms_of body → its_to ≡ to → values ≡ map (taken (terms_of body) to) (frontier body head)
+    → fact ≡ image (made_of number its_from its_to values) atom → fact ≡ image (extended number body head (taken (terms_of body) to)) atom
+made_is number body head its_from from its_to to values atom fact same from_is same_to values_is is =
+    is ∙ (λ i. image (made_of number ((same ∙ from_is) i) (same_to i) (values_is i)) atom)
 
 -- one atom of a head more
 module _ (rules : List Rule) (number : ℕ) (body head : List (Fact Term)) (at : slice_get rules number ≡ Some (tuple body head)) (entries : List Entry)
@@ -191,35 +193,32 @@ pub IsAnswered-grows : (entries more later : List Entry) (number : ℕ) (rule : 
     → IsAnswered (entries ++ more) number rule way → IsAnswered (entries ++ later) number rule way
 IsAnswered-grows entries more later number rule way kept answered claim asked = IsThere-grows entries more later kept claim way.product (answered claim asked)
 
-module _ (rules : List Rule) (count : ℕ) (entries : List Entry) (number : ℕ) (rule : Rule) (ways items : List Way) (items_are : items ≡ ways) where
-  pub ways_turn : (place : ℕ) (way : Way) (first more later : List Entry) → place < length items → way ≡ get_or items place way → length way.product ≡ count
+module _ (rules : List Rule) (count : ℕ) (entries : List Entry) (number : ℕ) (rule : Rule) (ways : List Way) where
+  pub ways_turn : (place : ℕ) (way : Way) (first more later : List Entry) → place < length ways → way ≡ get_or ways place way → length way.product ≡ count
       → AsksMore rules count entries first more
-      → ((its : Way) → Contains (take place items) its → IsAnswered (entries ++ more) number rule its) → AsksMore rules (length way.product) entries more later
+      → ((its : Way) → Contains (take place ways) its → IsAnswered (entries ++ more) number rule its) → AsksMore rules (length way.product) entries more later
       → IsAnswered (entries ++ later) number rule way
-      → AsksMore rules count entries first later × ((its : Way) → Contains (take (place + 1) items) its → IsAnswered (entries ++ later) number rule its)
+      → AsksMore rules count entries first later × ((its : Way) → Contains (take (place + 1) ways) its → IsAnswered (entries ++ later) number rule its)
   ways_turn place way first more later within is counted grows answered step here =
       let step_count : AsksMore rules count entries more later = subst (λ it. AsksMore rules it entries more later) counted step in (
         AsksMore-then rules count entries first more later grows step_count,
-        rw (take-item items place way within is) (λ its inside. elim (Contains-push_cases (take place items) way its inside) [
+        rw (take-item ways place way within is) (λ its inside. elim (Contains-push_cases (take place ways) way its inside) [
           | inl earlier ↦ IsAnswered-grows entries more later number rule its step.kept (answered its earlier)
           | inr same ↦ subst (IsAnswered (entries ++ later) number rule) same here
         ]),
       )
 
-  pub ways_all : (since place : ℕ) (more : List Entry) → length items ≤ place
-      → AreFoundAnew entries since (body_of rule) (terms_asked rule) (sides_asked rule) ways
+  pub ways_all : (since : ℕ) (more : List Entry) → AreFoundAnew entries since (body_of rule) (terms_asked rule) (sides_asked rule) ways
       → IsRuleAnswered (take since entries) entries number rule
-      → ((its : Way) → Contains (take place items) its → IsAnswered (entries ++ more) number rule its) → IsRuleAnswered entries (entries ++ more) number rule
-  ways_all since place more past found before answered atoms chosen matches claim asked = elim (found.complete atoms chosen matches) [
+      → ((its : Way) → Contains ways its → IsAnswered (entries ++ more) number rule its) → IsRuleAnswered entries (entries ++ more) number rule
+  ways_all since more found before answered atoms chosen matches claim asked = elim (found.complete atoms chosen matches) [
     | inl older ↦
         IsCovered-more (InWorld-more entries (entries ++ more) atoms (λ entry inside. Contains-append_left entries more entry inside)) claim
         (before atoms older.0 older.2 claim (asked_too (terms_of older.0) older.1))
     | inr (inr one) ↦
         IsCovered-more (InWorld-more entries (entries ++ more) atoms (λ entry inside. Contains-append_left entries more entry inside)) claim
         (one_covered entries number rule (terms_of (body_of rule)) (terms_of chosen) atoms claim one asked)
-    | inr (inl way) ↦
-        let inside : Contains (take place items) way.0 = rw (take_all place items past) (subst (λ it. Contains it way.0) (sym items_are) way.1) in
-        answered way.0 inside claim (asked_too way.0.to way.2) atoms way.3
+    | inr (inl way) ↦ answered way.0 way.1 claim (asked_too way.0.to way.2) atoms way.3
   ]
     where
       asked_too : (to : List Term) → AgreeOn (terms_asked rule) (terms_of (body_of rule)) to (terms_of chosen)

@@ -18,7 +18,7 @@ use Rattle.esto_term.specs.Sets.{Has}
 use Rattle.esto_semantics.specs.Views.{IsFragmentAnswer}
 use Rattle.esto_semantics.specs.declared.fact.Fact.{Fact}
 use Rattle.esto_term.proofs.SetLemmas.{Has-within}
-use Rattle.esto_plan_laws.specs.UnionSets.{AnswersUnion}
+use Rattle.esto_semantics.specs.UnionSets.{AnswersUnion}
 use Rattle.esto_query.specs.Making.{query_of}
 use Rattle.esto_query.specs.declared.query.Query.{Query}
 use Rattle.esto_views.specs.Expanded.{Expands}

@@ -28,6 +28,21 @@ use esto_semantics::{ExpandedFact, ExpandedFacts};
 use esto_term::{List, OutOfMemory, Replicate};
 use std::alloc::Global;
 
+/// The entry of an expanded fact.
+fn entry_of(alloc: Global, fact: &ExpandedFact, atoms: usize) -> Result<Entry, OutOfMemory>
+    requires { fact.now.atom < atoms }
+    ensures is { IfOk result (IsEntryOf fact.now) }
+    ensures counted { IfOk result (λ it. length it.product ≡ atoms) }
+{
+    let product = RowBits::of(alloc, atoms, &[fact.atom])?;
+    let own = fact.fact.copy(alloc)?;
+    Ok(Entry {
+        claim: Claim::Fact(own),
+        product,
+        reason: Reason::Expanded(fact.atom, fact.place),
+    })
+}
+
 /// Adds the entry of an expanded fact, unless the entries cover it.
 fn give(
     alloc: Global,
@@ -41,13 +56,7 @@ fn give(
         × (length entry.product ≡ atoms)
         × IsAdded entries.old entry.claim entry.product entry.reason entries.new) }
 {
-    let product = RowBits::of(alloc, atoms, &[fact.atom])?;
-    let own = fact.fact.copy(alloc)?;
-    let entry = Entry {
-        claim: Claim::Fact(own),
-        product,
-        reason: Reason::Expanded(fact.atom, fact.place),
-    };
+    let entry = entry_of(alloc, fact, atoms)?;
     add(alloc, entries, &entry)
 }
 

@@ -1,5 +1,5 @@
 //! What links ask for: two that meet in one term link the terms at their ends.
-ghost use Rattle.std.specs.Prelude.{◌≡◌, ◌++◌, ◌<◌, ◌⊎◌, ℕ, false, List, Some, Contains, length, slice_get, take, IsTrue, IfOk, OnOk};
+ghost use Rattle.std.specs.Prelude.{◌≡◌, ◌++◌, ◌∷◌, [], ◌<◌, ◌⊎◌, ℕ, List, Some, Contains, length, slice_get, take, IsTrue, IfOk, OnOk};
 ghost use Rattle.esto_semantics.specs.Rules.{Rule};
 ghost use Rattle.esto_term.specs.Sets.{Covers};
 ghost use Rattle.esto_term.specs.declared.term.Term.{Term};
@@ -14,10 +14,10 @@ ghost use Rattle.esto_known.specs.declared.group.Group.{Group};
 ghost use Rattle.esto_condchase.specs.Rounds.{AsksMore, AreOpen, IsEndMet, IsMetWithAll, IsSideMet, IsUnionMet, MeetAt, MeetBy, TellOne};
 ghost use Rattle.esto_known.specs.Live.{AreOld};
 
-use crate::passing::union_of;
 use esto_bits::{Products, RowBits};
 use esto_chase_laws::{Claim, Entry, Reason};
 use esto_known::{Group, Groups, Known, has_later, same};
+use esto_prov::union_of;
 use esto_term::{List, OutOfMemory, Places, Replicate, Term, Values};
 use std::alloc::Global;
 
@@ -93,6 +93,36 @@ fn linked(
     })
 }
 
+/// Asks for the two terms to be one with a product, by the entries at the places, unless the sets cover the product.
+fn link(
+    alloc: Global,
+    entries: &[Entry],
+    places: &[usize],
+    from: &Term,
+    to: &Term,
+    product: &RowBits,
+    sets: &mut Products,
+    more: &mut List<Entry>,
+) -> Result<(), OutOfMemory>
+    requires same_count { length product.now ≡ sets.old.count }
+    requires tell { TellOne (entries.now ++ more.old) sets.old.sets from.now to.now }
+    ensures count { sets.new.count ≡ sets.old.count }
+    ensures covers { OnOk result (Covers sets.new.sets product.now) }
+    ensures tell { OnOk result (TellOne (entries.now ++ more.new) sets.new.sets from.now to.now) }
+    ensures asks { OnOk result ((more.new ≡ more.old)
+        ⊎ (more.new ≡ more.old ++ (record {
+          claim = Same from.now to.now;
+          product = product.now;
+          reason = Equal places.now;
+        }) ∷ [])) }
+{
+    if !sets.add(alloc, product)? {
+        return Ok(());
+    }
+    let entry = linked(alloc, from, to, product, places)?;
+    more.push(entry)
+}
+
 /// Asks for the two terms to be one by the entries at two places, unless both are among the first few entries, or the sets
 /// cover the union of their products.
 fn join_two(
@@ -126,11 +156,16 @@ fn join_two(
         return Ok(());
     };
     let product = union_of(alloc, &one.product, &two.product)?;
-    if !sets.add(alloc, &product)? {
-        return Ok(());
-    }
-    let entry = linked(alloc, from, to, &product, &[first, second])?;
-    more.push(entry)
+    link(
+        alloc,
+        entries,
+        &[first, second],
+        from,
+        to,
+        &product,
+        sets,
+        more,
+    )
 }
 
 /// The same for one place and each of others.
@@ -190,6 +225,48 @@ fn join_each(
     Ok(())
 }
 
+/// The same for the entries of two groups that the sets leave open, where those of the first are given.
+fn join_given(
+    alloc: Global,
+    entries: &[Entry],
+    since: usize,
+    first: &Group,
+    second: &Group,
+    firsts: &[usize],
+    from: &Term,
+    to: &Term,
+    sets: &mut Products,
+    more: &mut List<Entry>,
+) -> Result<(), OutOfMemory>
+    requires first { IsGroup entries.now first.now }
+    requires second { IsGroup entries.now second.now }
+    requires open { AreOpen entries.now sets.old.sets first.now.places firsts.now }
+    requires meet { MeetBy first.now.claim second.now.claim from.now to.now }
+    requires before { AreJoined (take since entries.now) entries.now }
+    requires counts { AreOfCount sets.old.count entries.now }
+    requires tell { TellOne entries.now sets.old.sets from.now to.now }
+    ensures asks { OnOk result
+        ((rules : List Rule) → AsksMore rules sets.old.count entries.now more.old more.new) }
+    ensures met { OnOk result (IsEndMet entries.now (entries.now ++ more.new)
+        first.now.claim second.now.claim from.now to.now) }
+{
+    let seconds = open_places(alloc, entries, second.places.items(), sets)?;
+    if !has_later(firsts, since) && !has_later(seconds.items(), since) {
+        return Ok(());
+    }
+    join_each(
+        alloc,
+        entries,
+        since,
+        firsts,
+        seconds.items(),
+        from,
+        to,
+        sets,
+        more,
+    )
+}
+
 /// The same for the entries of two groups that the sets leave open.
 fn join_open(
     alloc: Global,
@@ -214,16 +291,13 @@ fn join_open(
         first.now.claim second.now.claim from.now to.now) }
 {
     let firsts = open_places(alloc, entries, first.places.items(), sets)?;
-    let seconds = open_places(alloc, entries, second.places.items(), sets)?;
-    if !has_later(firsts.items(), since) && !has_later(seconds.items(), since) {
-        return Ok(());
-    }
-    join_each(
+    join_given(
         alloc,
         entries,
         since,
+        first,
+        second,
         firsts.items(),
-        seconds.items(),
         from,
         to,
         sets,

@@ -1,19 +1,17 @@
 //! What is new since a round, and the matches that use something of it.
-ghost use Rattle.std.specs.Prelude.{◌≡◌, ◌↔◌, ◌<◌, ◌++◌, ◌∷◌, [], ℕ, false, Contains, IsTrue, IfOk};
+ghost use Rattle.std.specs.Prelude.{◌≡◌, ◌↔◌, ◌<◌, ◌++◌, ◌∷◌, [], false, Contains, IsTrue, IfOk};
 ghost use Rattle.esto_semantics.specs.declared.fact.Fact.{Fact};
 ghost use Rattle.esto_term.specs.declared.term.Term.{Term};
 ghost use Rattle.esto_chase_laws.specs.Worlds.{AreOfCount};
 ghost use Rattle.esto_constraint.specs.Relations.{HasRelation};
 ghost use Rattle.esto_condchase.specs.News.{IsApart, IsSettled, AreFoundAnew};
-ghost use Rattle.esto_known.specs.Live.{AreOld};
 ghost use Rattle.esto_condchase.specs.Ways.{IsOldWay};
 ghost use Rattle.esto_known.specs.KeptWays.{AreCounted};
 
-use crate::steps::both;
 use crate::ways::{match_next, matches_of};
 use esto_chase_laws::{Claim, Entry};
 use esto_known::{Known, Way, has_later};
-use esto_prov::terms_of;
+use esto_prov::{both, terms_of};
 use esto_semantics::Atom;
 use esto_term::{List, OutOfMemory, Term};
 use std::alloc::Global;

@@ -1,6 +1,6 @@
 //! How a fact goes on from a way: the equalities by which its terms are one with what they have to meet.
 ghost use Rattle.std.specs.Prelude.{◌≡◌, ◌++◌, ◌∷◌, ◌<◌, ◌≤◌, MatchOption, ◌⊎◌, [], List, Some, Bool, Contains, length, slice_get, IsTrue, IfOk, IfSome, OnOk, ◌==◌, false, take};
-ghost use Rattle.esto_term.specs.Sets.{Within, united};
+ghost use Rattle.esto_term.specs.Sets.{Within};
 ghost use Rattle.esto_chase_laws.specs.WorldMatches.{taken};
 ghost use Rattle.esto_chase_laws.specs.Worlds.{AreOfCount, SaysOne};
 ghost use Rattle.esto_chase_laws.specs.declared.entry.Entry.{Entry};
@@ -12,7 +12,7 @@ ghost use Rattle.esto_known.specs.Live.{AreAllLive};
 use esto_bits::RowBits;
 use esto_chase_laws::Entry;
 use esto_known::{Kept, Known, has_later, links_of, term_at};
-use esto_prov::taken_term;
+use esto_prov::{only, taken_term, union_of};
 use esto_term::{List, OutOfMemory, Places, Replicate, Term, has_term};
 use std::alloc::Global;
 
@@ -102,16 +102,6 @@ fn with_link(
     let mut links = before.links.copy(alloc)?;
     links.push(place)?;
     Ok(Support { links, product })
-}
-
-/// The union of two products.
-pub fn union_of(alloc: Global, one: &RowBits, other: &RowBits) -> Result<RowBits, OutOfMemory>
-    requires { length one.now ≡ length other.now }
-    ensures { IfOk result (λ it. it ≡ united one.now other.now) }
-{
-    let mut product = one.copy(alloc)?;
-    product.union(other);
-    Ok(product)
 }
 
 /// Adds the support with an equality more, unless a kept way tells the same with a product within its own, or nothing
@@ -431,15 +421,6 @@ fn floor_of(at: usize, floor: usize, index: usize) -> usize
     ensures { result ≡ floor_of at floor index }
 {
     if index == at { floor } else { 0 }
-}
-
-/// The list of the item alone.
-pub fn only<T: Drop>(alloc: Global, item: T) -> Result<List<T>, OutOfMemory>
-    ensures { IfOk result (λ it. it ≡ item ∷ []) }
-{
-    let mut items = List::new(alloc);
-    items.push(item)?;
-    Ok(items)
 }
 
 /// What goes on from the start by all of the fact's terms; at one of them by an equality from a place on.

@@ -13,13 +13,11 @@ ghost use Rattle.esto_condchase.specs.Products.{AreReachedOf, IsNext, IsFirst};
 ghost use Rattle.esto_known.specs.Told.{Tell};
 ghost use Rattle.esto_known.specs.Touching.{AreGroupsOf, AreTouching};
 
-use crate::passing::only;
 use crate::reached::{Reached, next, sets_of_all, touching};
-use crate::steps::put_terms;
 use esto_bits::{Products, RowBits};
 use esto_chase_laws::Entry;
 use esto_known::{Groups, telling};
-use esto_prov::terms_of;
+use esto_prov::{only, put_terms, terms_of};
 use esto_semantics::Atom;
 use esto_term::{List, OutOfMemory, Replicate, Term, Terms};
 use std::alloc::Global;

@@ -1,25 +1,28 @@
 //! A round: what the rules and the links ask for among the entries that stood when it began.
-ghost use Rattle.std.specs.Prelude.{◌≡◌, ◌∷◌, ◌++◌, [], List, Some, length, slice_get, take, IfOk, OnOk};
+ghost use Rattle.std.specs.Prelude.{◌≡◌, ◌∷◌, ◌++◌, [], List, Some, length, slice_get, map, take, Contains, IfOk, OnOk};
 ghost use Rattle.esto_semantics.specs.Facts.{terms_of};
 ghost use Rattle.esto_semantics.specs.Rules.{tuple, equality};
 ghost use Rattle.esto_constraint.specs.Constraints.{rule_of, rules_of};
 ghost use Rattle.esto_chase_laws.specs.Making.{frontier};
+ghost use Rattle.esto_chase_laws.specs.WorldMatches.{taken};
 ghost use Rattle.esto_chase_laws.specs.Worlds.{AreOfCount};
 ghost use Rattle.esto_chase_laws.specs.WorldSteps.{AreAnswered, AreJoined};
 ghost use Rattle.esto_chase_laws.specs.declared.entry.Entry.{Entry};
 ghost use Rattle.esto_chase_laws.specs.declared.entry.Reason.TheVariants.{Step};
+ghost use Rattle.esto_condchase.specs.News.{AreFoundAnew};
 ghost use Rattle.esto_condchase.specs.Ways.{IsFound};
 ghost use Rattle.esto_condchase.specs.Rounds.{IsNoted, AsksMore, IsAnswered, IsRuleAnswered};
+ghost use Rattle.esto_known.specs.KeptWays.{AreCounted};
+ghost use Rattle.esto_known.specs.declared.way.Way.{Way};
 
 use crate::joining::join;
 use crate::news::matches_since;
-use crate::steps::both;
 use esto_bits::RowBits;
 use esto_chase_laws::{Claim, Entry, Reason};
 use esto_constraint::{Constraint, Egd, Tgd, frontier_of};
 use esto_known::{Known, Way, is_covered, same};
-use esto_prov::{made_fact, taken_term, taken_terms, terms_of};
-use esto_term::{List, OutOfMemory, Places, Replicate, Term, Terms, Values};
+use esto_prov::{both, made_fact, taken_term, taken_terms, terms_of};
+use esto_term::{List, OutOfMemory, Places, Replicate, Terms};
 use std::alloc::Global;
 use std::slice;
 
@@ -44,6 +47,29 @@ fn support(alloc: Global, way: &Way) -> Result<(RowBits, Places), OutOfMemory>
     Ok((product, places))
 }
 
+/// Puts the entry of a claim that a rule asks for at a way.
+fn put_asked(
+    alloc: Global,
+    number: usize,
+    way: &Way,
+    claim: Claim,
+    more: &mut List<Entry>,
+) -> Result<(), OutOfMemory>
+    ensures { OnOk result (more.new ≡ more.old ++ (record {
+      claim = claim;
+      product = way.now.product;
+      reason = Step number (way.now.facts ++ way.now.links);
+    }) ∷ []) }
+{
+    let (product, places) = support(alloc, way)?;
+    let entry = Entry {
+        claim,
+        product,
+        reason: Reason::Step(number, places),
+    };
+    more.push(entry)
+}
+
 /// Asks for a claim that a rule asks for at a way, unless the entries cover it.
 fn ask(
     alloc: Global,
@@ -61,13 +87,38 @@ fn ask(
     if is_covered(entries, &claim, &way.product) {
         return Ok(());
     }
-    let (product, places) = support(alloc, way)?;
-    let entry = Entry {
-        claim,
-        product,
-        reason: Reason::Step(number, places),
-    };
-    more.push(entry)
+    put_asked(alloc, number, way, claim, more)
+}
+
+/// Asks for the facts of a tuple rule's head at a way, where the values of the terms that the head shares with the body are
+/// given.
+fn answer_head(
+    alloc: Global,
+    entries: &Known,
+    rules: &[Constraint],
+    number: usize,
+    rule: &Tgd,
+    from: &Terms,
+    values: &Terms,
+    way: &Way,
+    more: &mut List<Entry>,
+) -> Result<(), OutOfMemory>
+    requires at { slice_get (rules_of rules.now) number ≡ Some (tuple rule.now.body rule.now.head) }
+    requires found { IsFound entries.now rule.now.body way.now }
+    requires from_is { from.now ≡ terms_of rule.now.body }
+    requires values_are { values.now ≡ map (taken (terms_of rule.now.body) way.now.to)
+        (frontier rule.now.body rule.now.head) }
+    requires counts { AreOfCount (length way.now.product) entries.now }
+    ensures grows { OnOk result
+        (AsksMore (rules_of rules.now) (length way.now.product) entries.now more.old more.new) }
+    ensures answered { OnOk result
+        (IsAnswered (entries.now ++ more.new) number (tuple rule.now.body rule.now.head) way.now) }
+{
+    'head: for atom in rule.head.items() {
+        let fact = made_fact(alloc, number, from.items(), way.to.items(), values, atom)?;
+        ask(alloc, entries, number, way, Claim::Fact(fact), more)?;
+    }
+    Ok(())
 }
 
 /// Asks for what a tuple rule asks for at a way.
@@ -93,11 +144,9 @@ fn answer_tuple(
         (IsAnswered (entries.now ++ more.new) number (tuple rule.now.body rule.now.head) way.now) }
 {
     let values = taken_terms(alloc, from.items(), way.to.items(), shared.items())?;
-    'head: for atom in rule.head.items() {
-        let fact = made_fact(alloc, number, from.items(), way.to.items(), &values, atom)?;
-        ask(alloc, entries, number, way, Claim::Fact(fact), more)?;
-    }
-    Ok(())
+    answer_head(
+        alloc, entries, rules, number, rule, from, &values, way, more,
+    )
 }
 
 /// Asks for what an equality rule asks for at a way.
@@ -128,6 +177,89 @@ fn answer_equality(
     ask(alloc, entries, number, way, claim, more)
 }
 
+/// The direct matches of a tuple rule's body, but for those among the first few entries, as far as they tell what its head
+/// meets.
+fn tuple_ways(
+    alloc: Global,
+    entries: &Known,
+    since: usize,
+    rule: &Tgd,
+    count: usize,
+) -> Result<List<Way>, OutOfMemory>
+    requires { AreOfCount count entries.now }
+    ensures found { IfOk result
+        (AreFoundAnew entries.now since rule.now.body (terms_of rule.now.head) []) }
+    ensures counted { IfOk result (AreCounted count) }
+{
+    let asked = terms_of(alloc, rule.head.items())?;
+    matches_since(
+        alloc,
+        entries,
+        since,
+        rule.body.items(),
+        asked.items(),
+        &[],
+        count,
+    )
+}
+
+/// Asks for what a tuple rule asks for at each of the ways.
+fn answer_each_tuple(
+    alloc: Global,
+    entries: &Known,
+    rules: &[Constraint],
+    number: usize,
+    rule: &Tgd,
+    from: &Terms,
+    shared: &Terms,
+    ways: &[Way],
+    count: usize,
+    more: &mut List<Entry>,
+) -> Result<(), OutOfMemory>
+    requires at { slice_get (rules_of rules.now) number ≡ Some (tuple rule.now.body rule.now.head) }
+    requires found { (way : Way) → Contains ways.now way → IsFound entries.now rule.now.body way }
+    requires counted { AreCounted count ways.now }
+    requires from_is { from.now ≡ terms_of rule.now.body }
+    requires shared_is { shared.now ≡ frontier rule.now.body rule.now.head }
+    requires counts { AreOfCount count entries.now }
+    ensures grows { OnOk result
+        (AsksMore (rules_of rules.now) count entries.now more.old more.new) }
+    ensures answered { OnOk result ((way : Way) → Contains ways.now way
+        → IsAnswered (entries.now ++ more.new) number (tuple rule.now.body rule.now.head) way) }
+{
+    'ways: for way in ways {
+        answer_tuple(alloc, entries, rules, number, rule, from, shared, way, more)?;
+    }
+    Ok(())
+}
+
+/// The same, where the terms of the rule's body and those that its head shares with it are still to be found.
+fn answer_tuple_ways(
+    alloc: Global,
+    entries: &Known,
+    rules: &[Constraint],
+    number: usize,
+    rule: &Tgd,
+    ways: &[Way],
+    count: usize,
+    more: &mut List<Entry>,
+) -> Result<(), OutOfMemory>
+    requires at { slice_get (rules_of rules.now) number ≡ Some (tuple rule.now.body rule.now.head) }
+    requires found { (way : Way) → Contains ways.now way → IsFound entries.now rule.now.body way }
+    requires counted { AreCounted count ways.now }
+    requires counts { AreOfCount count entries.now }
+    ensures grows { OnOk result
+        (AsksMore (rules_of rules.now) count entries.now more.old more.new) }
+    ensures answered { OnOk result ((way : Way) → Contains ways.now way
+        → IsAnswered (entries.now ++ more.new) number (tuple rule.now.body rule.now.head) way) }
+{
+    let from = terms_of(alloc, rule.body.items())?;
+    let shared = frontier_of(alloc, rule.body.items(), rule.head.items())?;
+    answer_each_tuple(
+        alloc, entries, rules, number, rule, &from, &shared, ways, count, more,
+    )
+}
+
 /// Asks for what a tuple rule asks for at all its direct matches, where what it asks for at those among the first few
 /// entries is there.
 fn answer_tuples(
@@ -149,24 +281,17 @@ fn answer_tuples(
         (IsRuleAnswered entries.now (entries.now ++ more.new) number
         (tuple rule.now.body rule.now.head)) }
 {
-    let from = terms_of(alloc, rule.body.items())?;
-    let shared = frontier_of(alloc, rule.body.items(), rule.head.items())?;
-    let asked = terms_of(alloc, rule.head.items())?;
-    let found = matches_since(
+    let found = tuple_ways(alloc, entries, since, rule, count)?;
+    answer_tuple_ways(
         alloc,
         entries,
-        since,
-        rule.body.items(),
-        asked.items(),
-        &[],
+        rules,
+        number,
+        rule,
+        found.items(),
         count,
-    )?;
-    'found: for way in found.items() {
-        answer_tuple(
-            alloc, entries, rules, number, rule, &from, &shared, way, more,
-        )?;
-    }
-    Ok(())
+        more,
+    )
 }
 
 /// The two sides of an equality rule.
@@ -178,6 +303,61 @@ fn sides_of(alloc: Global, rule: &Egd) -> Result<Terms, OutOfMemory>
         slice::from_ref(&rule.left),
         slice::from_ref(&rule.right),
     )
+}
+
+/// The direct matches of an equality rule's body, but for those among the first few entries, and for those by which its two
+/// sides are one already, as far as they tell what the sides meet.
+fn equality_ways(
+    alloc: Global,
+    entries: &Known,
+    since: usize,
+    rule: &Egd,
+    count: usize,
+) -> Result<List<Way>, OutOfMemory>
+    requires { AreOfCount count entries.now }
+    ensures found { IfOk result (AreFoundAnew entries.now since rule.now.body
+        (rule.now.left ∷ rule.now.right ∷ []) (rule.now.left ∷ rule.now.right ∷ [])) }
+    ensures counted { IfOk result (AreCounted count) }
+{
+    let sides = sides_of(alloc, rule)?;
+    matches_since(
+        alloc,
+        entries,
+        since,
+        rule.body.items(),
+        sides.items(),
+        sides.items(),
+        count,
+    )
+}
+
+/// Asks for what an equality rule asks for at each of the ways.
+fn answer_equality_ways(
+    alloc: Global,
+    entries: &Known,
+    rules: &[Constraint],
+    number: usize,
+    rule: &Egd,
+    ways: &[Way],
+    count: usize,
+    more: &mut List<Entry>,
+) -> Result<(), OutOfMemory>
+    requires at { slice_get (rules_of rules.now) number ≡ Some
+        (equality rule.now.body rule.now.left rule.now.right) }
+    requires found { (way : Way) → Contains ways.now way → IsFound entries.now rule.now.body way }
+    requires counted { AreCounted count ways.now }
+    requires counts { AreOfCount count entries.now }
+    ensures grows { OnOk result
+        (AsksMore (rules_of rules.now) count entries.now more.old more.new) }
+    ensures answered { OnOk result ((way : Way) → Contains ways.now way
+        → IsAnswered (entries.now ++ more.new) number
+        (equality rule.now.body rule.now.left rule.now.right) way) }
+{
+    let from = terms_of(alloc, rule.body.items())?;
+    'ways: for way in ways {
+        answer_equality(alloc, entries, rules, number, rule, &from, way, more)?;
+    }
+    Ok(())
 }
 
 /// Asks for what an equality rule asks for at all its direct matches, where what it asks for at those among the first few
@@ -202,21 +382,17 @@ fn answer_equalities(
         (IsRuleAnswered entries.now (entries.now ++ more.new) number
         (equality rule.now.body rule.now.left rule.now.right)) }
 {
-    let from = terms_of(alloc, rule.body.items())?;
-    let sides = sides_of(alloc, rule)?;
-    let found = matches_since(
+    let found = equality_ways(alloc, entries, since, rule, count)?;
+    answer_equality_ways(
         alloc,
         entries,
-        since,
-        rule.body.items(),
-        sides.items(),
-        sides.items(),
+        rules,
+        number,
+        rule,
+        found.items(),
         count,
-    )?;
-    'found: for way in found.items() {
-        answer_equality(alloc, entries, rules, number, rule, &from, way, more)?;
-    }
-    Ok(())
+        more,
+    )
 }
 
 /// Asks for what a rule asks for at all its direct matches, where what it asks for at those among the first few

@@ -14,34 +14,14 @@ ghost use Rattle.esto_known.specs.KeptWays.{AreCounted, HasWay};
 ghost use Rattle.esto_known.specs.Live.{AreAllFacts, AreFresh};
 
 use crate::news::is_new;
-use crate::passing::{Step, Support, is_old, is_settled, met_first, through_row, union_of};
+use crate::passing::{Step, Support, is_old, is_settled, met_first, through_row};
 use esto_bits::RowBits;
-use esto_chase_laws::{Claim, Entry};
+use esto_chase_laws::Entry;
 use esto_known::{Kept, Known, Way, has_later, hash_at};
+use esto_prov::{both, like, union_of};
 use esto_semantics::Atom;
-use esto_term::{List, OutOfMemory, Places, Replicate, Term, Terms};
+use esto_term::{List, OutOfMemory, Places, Replicate, Term};
 use std::alloc::Global;
-
-/// Puts copies of the terms at the end of the others.
-pub fn put_terms(alloc: Global, more: &[Term], terms: &mut Terms) -> Result<(), OutOfMemory>
-    ensures { OnOk result (terms.new ≡ terms.old ++ more.now) }
-{
-    'more: for term in more {
-        let own = term.copy(alloc)?;
-        terms.push(own)?;
-    }
-    Ok(())
-}
-
-/// Two lists of terms in one.
-pub fn both(alloc: Global, to: &[Term], owns: &[Term]) -> Result<Terms, OutOfMemory>
-    ensures { IfOk result (λ it. it ≡ to.now ++ owns.now) }
-{
-    let mut terms = List::new(alloc);
-    put_terms(alloc, to, &mut terms)?;
-    put_terms(alloc, owns, &mut terms)?;
-    Ok(terms)
-}
 
 /// The places of the way's facts, and one more.
 fn facts_with(alloc: Global, before: &Way, place: usize) -> Result<Places, OutOfMemory>
@@ -50,6 +30,15 @@ fn facts_with(alloc: Global, before: &Way, place: usize) -> Result<Places, OutOf
     let mut facts = before.facts.copy(alloc)?;
     facts.push(place)?;
     Ok(facts)
+}
+
+/// A support of these equalities and this product.
+fn support_of(alloc: Global, links: &Places, product: &RowBits) -> Result<Support, OutOfMemory>
+    ensures { IfOk result (λ it. it ≡ record { links = links.now; product = product.now }) }
+{
+    let links = links.copy(alloc)?;
+    let product = product.copy(alloc)?;
+    Ok(Support { links, product })
 }
 
 /// The way with a fact more, of the entry at a place, whose terms go through with a support.
@@ -63,11 +52,14 @@ fn extended(
     requires { step.now.to.now ≡ before.now.to }
     ensures { IfOk result (λ it. it ≡ extended before.now place step.now.owns.now support.now) }
 {
+    let facts = facts_with(alloc, before, place)?;
+    let to = both(alloc, step.to, step.owns)?;
+    let Support { links, product } = support_of(alloc, &support.links, &support.product)?;
     Ok(Way {
-        facts: facts_with(alloc, before, place)?,
-        links: support.links.copy(alloc)?,
-        product: support.product.copy(alloc)?,
-        to: both(alloc, step.to, step.owns)?,
+        facts,
+        links,
+        product,
+        to,
     })
 }
 
@@ -125,15 +117,6 @@ fn keep_all(
     Ok(())
 }
 
-/// What a step begins with: the way's equalities, and the product.
-fn start_of(alloc: Global, before: &Way, product: &RowBits) -> Result<Support, OutOfMemory>
-    ensures { IfOk result (λ it. it ≡ record { links = before.now.links; product = product.now }) }
-{
-    let links = before.links.copy(alloc)?;
-    let product = product.copy(alloc)?;
-    Ok(Support { links, product })
-}
-
 /// Keeps the ways that go on with the fact of the entry at a place; at one of its terms by an equality from a place on.
 fn pass(
     alloc: Global,
@@ -164,7 +147,7 @@ fn pass(
         (step.now.to.now ++ step.now.owns.now) set) }
     ensures counted { OnOk result (AreCounted count kept.new) }
 {
-    let start = start_of(alloc, before, product)?;
+    let start = support_of(alloc, &before.links, product)?;
     let supports = through_row(alloc, step, at, floor, start, kept, count)?;
     keep_all(alloc, step, before, place, supports.items(), count, kept)
 }
@@ -333,26 +316,6 @@ pub struct Level<'a> {
     pub atom: &'a Atom,
     pub sides: Option<(usize, usize)>,
     pub places: &'a [usize],
-}
-
-/// The fact, if the claim is one that is alike to the atom.
-fn like<'a>(claim: &'a Claim, atom: &Atom) -> Option<&'a Atom>
-    ensures { MatchOption result
-        ((fact : Fact Term) → claim.now ≡ Stated fact → ¬ (IsLike atom.now fact))
-        (λ fact. (claim.now ≡ Stated fact.now) × IsLike atom.now fact.now) }
-{
-    match claim {
-        Claim::Same(_, _) => None,
-        Claim::Fact(fact) => {
-            if fact.relation != atom.relation {
-                return None;
-            }
-            if fact.terms.len() != atom.terms.len() {
-                return None;
-            }
-            Some(fact)
-        }
-    }
 }
 
 /// The entry at the place and its fact, if it has one that is alike to the atom.

@@ -7,11 +7,10 @@ ghost use Rattle.esto_known.specs.KeptWays.{AreCounted};
 ghost use Rattle.esto_known.specs.Told.{AreMetAt, TellsOne};
 ghost use Rattle.esto_known.specs.declared.way.Way.{Way};
 
-use crate::passing::only;
-use crate::steps::{Level, both, match_all, put_terms};
+use crate::steps::{Level, match_all};
 use esto_bits::RowBits;
 use esto_known::{Kept, Known, Way, facts_of, fresh_of, places_met, telling_places};
-use esto_prov::terms_of;
+use esto_prov::{both, only, put_terms, terms_of};
 use esto_semantics::Atom;
 use esto_term::{List, OutOfMemory, Places, Replicate, Term, Terms, Values};
 use std::alloc::Global;

@@ -3,10 +3,12 @@
 #![tactic(auto)]
 
 mod entries;
+mod lists;
 mod taking;
 mod why;
 
 pub use entries::{Entries, derivations_derive, entries_are_reasoned};
 pub use esto_chase_laws::{Chain, Claim, Entry, Reason};
+pub use lists::{both, like, only, put_terms, union_of};
 pub use taking::{followed, made_fact, taken_term, taken_terms, terms_of};
 pub use why::{Why, Whys};

@@ -1,5 +1,5 @@
 //! Derivations, written out as trees.
-ghost use Rattle.std.specs.Prelude.{ℕ, ◌<◌, ◌≤◌, length, Contains, IfOk};
+ghost use Rattle.std.specs.Prelude.{ℕ, ◌≡◌, ◌<◌, ◌≤◌, length, Contains, IfOk};
 ghost use Rattle.esto_chase_laws.specs.WorldLaws.{AreReasoned};
 ghost use Rattle.esto_prov.specs.Derivations.{IsWhy, AreWhys};
 
@@ -23,27 +23,40 @@ pub enum Why {
 /// A list of derivations.
 pub type Whys = List<Why>;
 
+/// A copy of the derivation.
+#[cycle(copy)]
+fn copied(alloc: Global, why: &Why) -> Result<Why, OutOfMemory>
+    ensures { IfOk result (λ it. it ≡ why.now) }
+{
+    match why {
+        Why::Expanded(atom, place) => Ok(Why::Expanded(*atom, *place)),
+        Why::Step(number, parts) => {
+            let own = copied_all(alloc, parts.items())?;
+            Ok(Why::Step(*number, own))
+        }
+        Why::Same(parts) => {
+            let own = copied_all(alloc, parts.items())?;
+            Ok(Why::Same(own))
+        }
+    }
+}
+
+/// Copies of the derivations, in order.
+#[cycle(copy)]
+fn copied_all(alloc: Global, whys: &[Why]) -> Result<Whys, OutOfMemory>
+    ensures { IfOk result (λ it. it ≡ whys.now) }
+{
+    let mut own = List::new(alloc);
+    'whys: for why in whys {
+        let copy = copied(alloc, why)?;
+        own.push(copy)?;
+    }
+    Ok(own)
+}
+
 impl Replicate for Why {
     fn copy(&self, alloc: Global) -> Result<Why, OutOfMemory> {
-        match self {
-            Why::Expanded(atom, place) => Ok(Why::Expanded(*atom, *place)),
-            Why::Step(number, parts) => {
-                let mut copied = List::new(alloc);
-                'parts: for part in parts.items() {
-                    let part = part.copy(alloc)?;
-                    copied.push(part)?;
-                }
-                Ok(Why::Step(*number, copied))
-            }
-            Why::Same(parts) => {
-                let mut copied = List::new(alloc);
-                'same: for part in parts.items() {
-                    let part = part.copy(alloc)?;
-                    copied.push(part)?;
-                }
-                Ok(Why::Same(copied))
-            }
-        }
+        copied(alloc, self)
     }
 }
 

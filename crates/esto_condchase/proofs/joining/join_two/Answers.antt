@@ -3,9 +3,10 @@ use Rattle.std.proofs.lemmas.Bool.Decides.{nat_tests}
 use Rattle.std.proofs.lemmas.Option.{slice_get_within}
 use Rattle.std.proofs.lemmas.Result.{on_ok_weaker}
 use Rattle.esto_term.specs.Sets.{Covers}
-use Rattle.esto_condchase.proofs.AskLemmas.{AsksMore-none, pushed_asks}
+use Rattle.esto_condchase.proofs.AskLemmas.{AsksMore-none}
 use Rattle.esto_known.proofs.CoverLemmas.{read_at}
-use Rattle.esto_condchase.proofs.JoinLemmas.{union_count, union_following, union_met, tell_same, tell_more, covers_itself}
+use Rattle.esto_condchase.proofs.MeetLemmas.{on_ok_both}
+use Rattle.esto_condchase.proofs.JoinLemmas.{union_count, union_asks, union_met}
 use Rattle.esto_condchase.proofs.joining.join_two.Goals as goal
 
 pub returns-then-second-since-clause-count : goal.returns-then-second-since-clause-count
@@ -47,8 +48,8 @@ returns-in_default-get-clause-met c one two at at_other = absurd
     (let below = slice_get_within c.args.entries.now c.args.second two at_other in let past = c.in_default-get.ensures.lookup in
     grind (arith, nat_tests, below, past))
 
-pub add-requires : goal.add-requires
-add-requires c =
+pub link-requires-clause-same_count : goal.link-requires-clause-same_count
+link-requires-clause-same_count c =
     let at = read_at c.args.entries.now c.args.first c.in-Some.one.now c.in-Some.ensures.lookup.0 c.in-Some.ensures.lookup.1 in
     let at_other = read_at c.args.entries.now c.args.second c.in-Some-get.two.now c.in-Some-get.ensures.lookup.0
     c.in-Some-get.ensures.lookup.1 in
@@ -57,52 +58,23 @@ add-requires c =
     (c.requires.meet c.in-Some.one.now c.in-Some-get.two.now at at_other)
     c.args.sets.now.count c.requires.counts).1
 
-pub returns-then-not-branch-clause-count : goal.returns-then-not-branch-clause-count
-returns-then-not-branch-clause-count c = c.in_ok-add.ensures.count
-
-pub returns-then-not-branch-clause-asks : goal.returns-then-not-branch-clause-asks
-returns-then-not-branch-clause-asks c rules = AsksMore-none rules c.args.sets.now.count c.args.entries.now c.args.more.now
-
-pub returns-then-not-branch-clause-tell : goal.returns-then-not-branch-clause-tell
-returns-then-not-branch-clause-tell c = tell_same _ c.args.sets.now.sets c.add.new.self.sets _ c.args.from.now c.args.to.now c.in_ok-add.ensures.covers
-    (c.in_ok-add.ensures.answer.0 c.if-not-branch.true) c.requires.tell
-
-pub returns-then-not-branch-clause-met : goal.returns-then-not-branch-clause-met
-returns-then-not-branch-clause-met c =
-    let at = read_at c.args.entries.now c.args.first c.in-Some.one.now c.in-Some.ensures.lookup.0 c.in-Some.ensures.lookup.1 in
-    let at_other = read_at c.args.entries.now c.args.second c.in-Some-get.two.now c.in-Some-get.ensures.lookup.0
-    c.in-Some-get.ensures.lookup.1 in
-    union_met c.args.entries.now c.args.first c.args.second c.in-Some.one.now c.in-Some-get.two.now c.args.from.now c.args.to.now at at_other
-    (c.requires.meet c.in-Some.one.now c.in-Some-get.two.now at at_other)
-    c.args.since (c.args.entries.now ++ c.args.more.now) c.args.sets.now.sets c.requires.tell
-    (subst (Covers c.args.sets.now.sets) c.in_ok-product.ensures (c.in_ok-add.ensures.answer.0 c.if-not-branch.true))
-
-pub returns-clause-tell : goal.returns-clause-tell
-returns-clause-tell c = on_ok_weaker c.push.result
-    (λ is. tell_more c.args.entries.now c.args.more.now _ c.in_ok-entry.entry c.args.sets.now.sets c.add.new.self.sets _ c.args.from.now c.args.to.now is
-    c.in_ok-entry.ensures.claim c.in_ok-entry.ensures.product c.in_ok-add.ensures.covers c.requires.tell) c.push.ensures.ok
-
 pub returns-clause-asks : goal.returns-clause-asks
 returns-clause-asks c =
     let at = read_at c.args.entries.now c.args.first c.in-Some.one.now c.in-Some.ensures.lookup.0 c.in-Some.ensures.lookup.1 in
     let at_other = read_at c.args.entries.now c.args.second c.in-Some-get.two.now c.in-Some-get.ensures.lookup.0
     c.in-Some-get.ensures.lookup.1 in
-    on_ok_weaker c.push.result
-    (λ is rules. pushed_asks rules c.args.sets.now.count c.args.entries.now c.args.more.now c.push.new.self c.in_ok-entry.entry is
-    (union_following c.args.entries.now c.args.first c.args.second c.in-Some.one.now c.in-Some-get.two.now c.args.from.now c.args.to.now at at_other
-    (c.requires.meet c.in-Some.one.now c.in-Some-get.two.now at at_other) rules c.args.sets.now.count
-    c.requires.counts c.in_ok-entry.entry c.in_ok-entry.ensures.claim (c.in_ok-entry.ensures.product ∙ c.in_ok-product.ensures)
-    c.in_ok-entry.ensures.reason)) c.push.ensures.ok
+    on_ok_weaker c.link.result (λ asks rules. union_asks c.args.entries.now c.args.first c.args.second c.in-Some.one.now c.in-Some-get.two.now c.args.from.now
+    c.args.to.now at at_other
+    (c.requires.meet c.in-Some.one.now c.in-Some-get.two.now at at_other) rules c.args.sets.now.count c.requires.counts c.in_ok-product.product
+    c.in_ok-product.ensures c.args.more.now c.link.new.more asks) c.link.ensures.asks
 
 pub returns-clause-met : goal.returns-clause-met
 returns-clause-met c =
     let at = read_at c.args.entries.now c.args.first c.in-Some.one.now c.in-Some.ensures.lookup.0 c.in-Some.ensures.lookup.1 in
     let at_other = read_at c.args.entries.now c.args.second c.in-Some-get.two.now c.in-Some-get.ensures.lookup.0
     c.in-Some-get.ensures.lookup.1 in
-    on_ok_weaker c.push.result
-    (λ is. union_met c.args.entries.now c.args.first c.args.second c.in-Some.one.now c.in-Some-get.two.now c.args.from.now c.args.to.now at at_other
+    on_ok_both c.link.result (λ tell covers. union_met c.args.entries.now c.args.first c.args.second c.in-Some.one.now c.in-Some-get.two.now c.args.from.now
+    c.args.to.now at at_other
     (c.requires.meet c.in-Some.one.now c.in-Some-get.two.now at at_other)
-    c.args.since (c.args.entries.now ++ c.push.new.self) c.add.new.self.sets
-    (tell_more c.args.entries.now c.args.more.now _ c.in_ok-entry.entry c.args.sets.now.sets c.add.new.self.sets _ c.args.from.now c.args.to.now is
-    c.in_ok-entry.ensures.claim c.in_ok-entry.ensures.product c.in_ok-add.ensures.covers c.requires.tell)
-    (covers_itself c.args.sets.now.sets c.add.new.self.sets _ _ c.in_ok-product.ensures c.in_ok-add.ensures.covers)) c.push.ensures.ok
+    c.args.since (c.args.entries.now ++ c.link.new.more) c.link.new.sets.sets tell
+    (subst (Covers c.link.new.sets.sets) c.in_ok-product.ensures covers)) c.link.ensures.tell c.link.ensures.covers

@@ -1,15 +1,9 @@
-use Rattle.std.proofs.Common.{◌++◌, ◌∷◌, [], inl, inr, refl, ◌∙◌}
+use Rattle.std.proofs.Common.{inl, inr, refl}
 use Rattle.std.proofs.lemmas.Result.{on_ok_weaker}
-use Rattle.esto_chase_laws.specs.declared.entry.Reason.TheVariants.{Step}
 use Rattle.esto_condchase.proofs.rounds.ask.Goals as goal
 
 pub returns-then-is_covered : goal.returns-then-is_covered
 returns-then-is_covered c = inl (c.is_covered.ensures.0 c.if-is_covered.true, refl)
 
 pub returns : goal.returns
-returns c = on_ok_weaker c.push.result
-    (λ is. inr (is ∙ (λ i. c.args.more.now ++ (record {
-      claim = c.args.claim;
-      product = c.in_ok-product.ensures.0 i;
-      reason = Step c.args.number (c.in_ok-product.ensures.1 i);
-    }) ∷ []))) c.push.ensures.ok
+returns c = on_ok_weaker c.put_asked.result (λ is. inr is) c.put_asked.ensures

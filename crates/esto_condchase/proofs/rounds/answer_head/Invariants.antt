@@ -8,7 +8,7 @@ use Rattle.esto_chase_laws.specs.Making.{extended}
 use Rattle.esto_chase_laws.specs.declared.entry.Claim.TheVariants.{Fact as Stated}
 use Rattle.esto_condchase.specs.Rounds.{AsksMore}
 use Rattle.esto_known.specs.Added.{IsThere}
-use Rattle.esto_condchase.proofs.rounds.answer_tuple.Given as goal
+use Rattle.esto_condchase.proofs.rounds.answer_head.Given as goal
 
 abbrev pub invariant-head : goal.invariant-head
 invariant-head l = record {
