@@ -17,9 +17,11 @@ use Rattle.esto_semantics.specs.declared.fact.Fact.{Fact}
 use Rattle.esto_chase_laws.specs.Worlds.{Linked}
 use Rattle.esto_chase_laws.specs.WorldMatches.{taken, match_map}
 use Rattle.esto_chase_laws.specs.declared.entry.Claim.{Claim}
-use Rattle.esto_cert.specs.Certificates.{numbered, made_at, Matches}
+use Rattle.esto_cert.specs.Certificates.{Case, numbered, made_at, Matches}
+use Rattle.esto_cert.specs.Judging.{IsJudged, judged_of}
 use Rattle.esto_cert.specs.Linking.{IsAmong, StandsAsOne}
 use Rattle.esto_cert.specs.Matching.{IsFound}
+use Rattle.esto_cert.specs.declared.line.Line.TheVariants.{Step}
 use Rattle.esto_cert.specs.declared.linking.Equality.{Equality}
 use Rattle.esto_cert.specs.declared.matching.Found.{Found}
 
@@ -90,11 +92,53 @@ module _ (rules : List Rule) (number place : ℕ) (rule : Rule) (claims : List C
       ap (λ (it : Rule). made_at place (number - 1) it (match_map (body_of other) chosen)) same ∙ ap (made_at place (number - 1) rule) m ∙ made in
       cc
 
+-- a step whose rule has no match among the named lines makes nothing
+pub unmatched : (rules : List Rule) (number : ℕ) (rule : Rule) (claims : List Claim) (body : List (Fact Term)) (facts links : List ℕ) (option : Option Found)
+    → numbered rules number ≡ Some rule → body ≡ body_of rule → IsFound claims body facts links option → option ≡ None → (other : Rule)
+    → numbered rules number ≡ Some other → (chosen : List (Fact Term)) (equalities : List Equality)
+    → ¬ (Matches claims (body_of other) facts links chosen equalities)
+unmatched rules number rule claims body facts links option numbered_is body_is is none other other_is chosen equalities matches =
+    let same : other ≡ rule = same_Some other rule (sym other_is ∙ numbered_is) in
+    subst (λ (it : Option Found). IsFound claims body facts links it) none is chosen equalities
+    (subst (λ (it : List (Fact Term)). Matches claims it facts links chosen equalities) (ap body_of same ∙ sym body_is) matches)
+
+-- the line of a step whose match is found makes what the rule makes there, or nothing
+module _ (case : Case) (claims : List Claim) (number place : ℕ) (facts links : List ℕ) (rule : Rule) (body : List (Fact Term)) (option : Option Found) (found : Found)
+    (numbered_is : numbered case.rules number ≡ Some rule) (body_is : body ≡ body_of rule) (is : IsFound claims body facts links option)
+    (some : option ≡ Some found) where
+  its_match : IsFound claims (body_of rule) facts links (Some found)
+  its_match = subst (λ (it : List (Fact Term)). IsFound claims it facts links (Some found)) body_is
+      (subst (λ (it : Option Found). IsFound claims body facts links it) some is)
+
+  pub from_is : found.from ≡ terms_of (body_of rule)
+  from_is = its_match.3
+
+  pub step_judged : IsJudged case claims (Step number place facts links) (judged_of (made_at place (number - 1) rule (taken found.from found.to)))
+  step_judged = by (made_at place (number - 1) rule (taken found.from found.to)) refl
+    where
+      by : (made : Option Claim) → made_at place (number - 1) rule (taken found.from found.to) ≡ made
+          → IsJudged case claims (Step number place facts links) (judged_of made)
+      by None made_is = (
+        (λ claim it. makes_nothing case.rules number place rule claims body facts links option found numbered_is body_is is some made_is claim
+            it.0 it.1 it.2.0 it.2.1 it.2.2 it.2.3),
+        (λ wrong. wrong),
+      )
+      by (Some claim) made_is = (
+        rule,
+        numbered_is,
+        (
+          found.chosen,
+          its_match.0,
+          its_match.1,
+          ap (made_at place (number - 1) rule) (sym (maps_as claims (body_of rule) facts links found its_match)) ∙ made_is,
+        ),
+      )
+
 -- ---- the last line
 
 module _ (claims : List Claim) (body shown : List (Fact Term)) (facts links : List ℕ) (head targets : List Term) (option : Option Found)
     (shown_is : shown ≡ body) (is : IsFound claims shown facts links option) where
-  found_at : (its : Option Found) → option ≡ its → IsFound claims body facts links its
+  pub found_at : (its : Option Found) → option ≡ its → IsFound claims body facts links its
   found_at its same = subst (λ (it : List (Fact Term)). IsFound claims it facts links its) shown_is
       (subst (λ (it : Option Found). IsFound claims shown facts links it) same is)
 

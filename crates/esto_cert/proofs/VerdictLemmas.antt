@@ -9,7 +9,7 @@ use Rattle.esto_semantics.specs.Queries.{ConjunctiveQuery}
 use Rattle.esto_semantics.specs.declared.expanded.ExpandedFact.{ExpandedFact}
 use Rattle.esto_chase_laws.specs.declared.entry.Claim.{Claim}
 use Rattle.esto_cert.specs.Certificates.{Case}
-use Rattle.esto_cert.specs.Judging.{Answers, IsJudgedText, Verdict, after_end}
+use Rattle.esto_cert.specs.Judging.{Answers, Decides, IsJudgedText, Verdict, after_end}
 use Rattle.esto_cert.specs.Lines.{line_of}
 use Rattle.esto_cert.specs.declared.check.CertError.{CertError}
 use Rattle.esto_cert.specs.declared.judging.Judged.{Judged}
@@ -99,11 +99,10 @@ pub same_case : (set : List Bool) (query : ConjunctiveQuery) (expanded other : L
 same_case set query expanded other rules others targets others_too a b c = λ i.
     record { expanded = a i; set = set; rules = rules_of (b i); query = query; targets = c i }
 
-pub decided : (case other : Case) (texts parts : List (List ℕ)) (found verdict : Option ℕ) → case ≡ other → texts ≡ parts → found ≡ verdict
-    → Verdict case [] 1 texts found → Verdict other [] 1 parts verdict
-decided case other texts parts found verdict cases text is it =
-    subst (λ (its : Case). Verdict its [] 1 parts verdict) cases
-    (subst (λ (its : List (List ℕ)). Verdict case [] 1 its verdict) text (subst (λ (its : Option ℕ). Verdict case [] 1 texts its) is it))
+pub decided : (case other : Case) (bytes : List ℕ) (found verdict : Option ℕ) → case ≡ other → found ≡ verdict → Decides case bytes found
+    → Decides other bytes verdict
+decided case other bytes found verdict cases is it =
+    subst (λ (its : Case). Decides its bytes verdict) cases (subst (Decides case bytes) is it)
 
 pub accepted_only : {A : Type 0} (Verdicts : Option ℕ → Type 0) (Shown : Type 0) (result : Result A CertError) → Answers Verdicts result
     → (Verdicts None → Shown) → IfOk result (λ _. Shown)

@@ -50,6 +50,11 @@ IsJudged case claims line (Claims claim) = MayClaim case claims line claim
 IsJudged case claims line Ends = MayEnd case claims line
 IsJudged case claims line Refused = ((claim : Claim) → ¬ (MayClaim case claims line claim)) × ¬ (MayEnd case claims line)
 
+-- The judgement of a line that may make this claim alone, or that may do nothing where there is none.
+abbrev pub judged_of : Option Claim → Judged
+judged_of None = Refused
+judged_of (Some claim) = Claims claim
+
 -- The judgement of what a line's bytes say is right, where bytes that say nothing are refused.
 abbrev pub IsJudgedText : Case → List Claim → Option Line → Judged → Type 0
 IsJudgedText case claims None judged = judged ≡ Refused

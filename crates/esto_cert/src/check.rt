@@ -5,13 +5,14 @@ ghost use Rattle.esto_query.specs.Making.{query_of};
 ghost use Rattle.esto_views.specs.Fragments.{views_of};
 ghost use Rattle.esto_views.specs.Plans.{plan_query, IsPlanOver};
 ghost use Rattle.esto_views.specs.Contained.{IsSafelyContained};
-ghost use Rattle.esto_cert.specs.Judging.{after_end, case_of, AreNumbersOf, Verdict, DecidesFor, Answers};
+ghost use Rattle.esto_cert.specs.Judging.{after_end, case_of, AreNumbersOf, Verdict, Decides, DecidesFor, Answers};
 ghost use Rattle.esto_cert.specs.declared.check.CertError.TheVariants as error;
 
 use crate::judging::{Case, Judged};
 use crate::laws::accepted_certificates_show;
 use crate::reading::lines_and_rest;
 use esto_bits::RowBits;
+use esto_chase_laws::Claim;
 use esto_constraint::Rules;
 use esto_query::Query;
 use esto_term::{List, OutOfMemory};
@@ -54,13 +55,19 @@ fn after_end(number: u64, rest: &[&[u8]]) -> Option<u64>
     }
 }
 
-/// The number of the first line that is not so, if there is one.
-fn verdict(alloc: Global, case: &Case<'_>, parts: &[&[u8]]) -> Result<Option<u64>, OutOfMemory>
-    requires { AreNumbersOf case.now.set.now case.now.expanded.now }
+/// The number of the first line that is not so, if there is one. What the lines before it claim is put into the list,
+/// which is empty before.
+fn first_wrong(
+    alloc: Global,
+    case: &Case<'_>,
+    parts: &[&[u8]],
+    claims: &mut List<Claim>,
+) -> Result<Option<u64>, OutOfMemory>
+    requires numbers { AreNumbersOf case.now.set.now case.now.expanded.now }
+    requires none { claims.old ≡ [] }
     ensures { IfOk result
         (Verdict (case_of case.now) [] 1 (map (λ part. part.now) parts.now)) }
 {
-    let mut claims = List::new(alloc);
     'lines: for place in 0..parts.len() {
         let number = place as u64 + 1;
         if place + 1 == parts.len() {
@@ -74,6 +81,16 @@ fn verdict(alloc: Global, case: &Case<'_>, parts: &[&[u8]]) -> Result<Option<u64
         }
     }
     Ok(Some(1))
+}
+
+/// The number of the first line of the bytes that is not so, if there is one.
+fn verdict(alloc: Global, case: &Case<'_>, bytes: &[u8]) -> Result<Option<u64>, OutOfMemory>
+    requires { AreNumbersOf case.now.set.now case.now.expanded.now }
+    ensures { IfOk result (Decides (case_of case.now) bytes.now) }
+{
+    let parts = lines_and_rest(alloc, bytes)?;
+    let mut claims = List::new(alloc);
+    first_wrong(alloc, case, parts.as_slice(), &mut claims)
 }
 
 /// Decides which line of a certificate is the first that is not so.
@@ -92,7 +109,6 @@ fn decide(
         result }
 {
     let expanded = expand(alloc, plan, fragments)?;
-    let parts = lines_and_rest(alloc, bytes)?;
     let case = Case {
         expanded: expanded.items(),
         set,
@@ -100,7 +116,7 @@ fn decide(
         query,
         targets: plan.head.items(),
     };
-    match verdict(alloc, &case, parts.as_slice())? {
+    match verdict(alloc, &case, bytes)? {
         Some(line) => Err(CertError::Rejected(line)),
         None => Ok(()),
     }

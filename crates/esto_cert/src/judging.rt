@@ -1,20 +1,21 @@
 //! What a line may claim after others, and which line may be the last.
-ghost use Rattle.std.specs.Prelude.{◌≡◌, ◌↔◌, ◌<◌, ℕ, List, length, IsTrue, IfOk};
+ghost use Rattle.std.specs.Prelude.{◌≡◌, ◌↔◌, ◌<◌, ℕ, List, Some, length, IsTrue, IfOk};
 ghost use Rattle.esto_constraint.specs.Constraints.{rule_of};
 ghost use Rattle.esto_semantics.specs.Facts.{terms_of};
 ghost use Rattle.esto_semantics.specs.Rules.{tuple, equality, body_of};
 ghost use Rattle.esto_chase_laws.specs.WorldMatches.{taken};
 ghost use Rattle.esto_chase_laws.specs.declared.entry.Claim.{Claim};
 ghost use Rattle.esto_cert.specs.Certificates.{made_at, IsNamed};
-ghost use Rattle.esto_cert.specs.Judging.{case_of, AreFew, AreNumbersOf, IsJudged, IsJudgedText};
+ghost use Rattle.esto_cert.specs.Judging.{case_of, AreFew, AreNumbersOf, IsJudged, IsJudgedText, judged_of};
 ghost use Rattle.esto_cert.specs.Lines.{line_of};
+ghost use Rattle.esto_cert.specs.Matching.{IsFound};
 ghost use Rattle.esto_cert.specs.Reading.{head_atoms, nearest, StandsFor};
 ghost use Rattle.esto_cert.specs.declared.line.Line.{Line};
 ghost use Rattle.esto_cert.specs.declared.line.Line.TheVariants.{Expanded, Step, Match};
 
 use crate::line::Line;
 use crate::linking::stand_as_one;
-use crate::matching::find_match;
+use crate::matching::{Found, find_match};
 use crate::naming::{count, numbered};
 use crate::reading::read_line;
 use esto_bits::RowBits;
@@ -145,6 +146,26 @@ fn made_near(
     made_at(alloc, place, number, rule, from, to)
 }
 
+/// Judges the line of a step whose match is found, at the place that was said, where this is the nearest that 64 bits hold.
+fn judge_made(
+    alloc: Global,
+    place: u64,
+    number: usize,
+    rule: &Constraint,
+    it: &Found,
+) -> Result<Judged, OutOfMemory>
+    requires { it.now.from ≡ terms_of (body_of (rule_of rule.now)) }
+    ensures { IfOk result (λ judged. (said : ℕ) → nearest said ≡ place → judged
+        ≡ judged_of (made_at said number (rule_of rule.now) (taken it.now.from it.now.to))) }
+{
+    let from = it.from.items();
+    let to = it.to.items();
+    match made_near(alloc, place, number, rule, from, to)? {
+        Some(claim) => Ok(Judged::Claims(claim)),
+        None => Ok(Judged::Refused),
+    }
+}
+
 /// What a certificate is for: the expanded facts of a plan, a set of its atoms, the rules, the query, and the plan's head.
 #[derive(Clone, Copy)]
 pub struct Case<'a> {
@@ -201,15 +222,24 @@ impl Case<'_> {
         let Some(rule) = numbered(self.rules, number) else {
             return Ok(Judged::Refused);
         };
-        let Some(it) = find_match(alloc, claims, body_of(rule), facts, links)? else {
-            return Ok(Judged::Refused);
-        };
-        let from = it.from.items();
-        let to = it.to.items();
-        match made_near(alloc, place, (number - 1) as usize, rule, from, to)? {
-            Some(claim) => Ok(Judged::Claims(claim)),
+        match find_match(alloc, claims, body_of(rule), facts, links)? {
+            Some(it) => judge_made(alloc, place, (number - 1) as usize, rule, &it),
             None => Ok(Judged::Refused),
         }
+    }
+
+    /// Judges the line of a match that is found.
+    fn judge_found(&self, alloc: Global, it: &Found) -> Result<Judged, OutOfMemory>
+        ensures { IfOk result (λ judged. (claims : List Claim) (facts links : List ℕ)
+            → IsFound claims self.now.query.now.body facts links (Some it.now)
+            → IsJudged (case_of self.now) claims (Match facts links) judged) }
+    {
+        let head = self.query.head.items();
+        let met = taken_terms(alloc, it.from.items(), it.to.items(), head)?;
+        if stand_as_one(it.renamings.items(), self.targets, met.items()) {
+            return Ok(Judged::Ends);
+        }
+        Ok(Judged::Refused)
     }
 
     /// Judges the line of a match.
@@ -223,15 +253,10 @@ impl Case<'_> {
         ensures { IfOk result (IsJudged (case_of self.now) claims.now (Match facts.now links.now)) }
     {
         let body = self.query.body.items();
-        let Some(it) = find_match(alloc, claims, body, facts, links)? else {
-            return Ok(Judged::Refused);
-        };
-        let head = self.query.head.items();
-        let met = taken_terms(alloc, it.from.items(), it.to.items(), head)?;
-        if stand_as_one(it.renamings.items(), self.targets, met.items()) {
-            return Ok(Judged::Ends);
+        match find_match(alloc, claims, body, facts, links)? {
+            Some(it) => self.judge_found(alloc, &it),
+            None => Ok(Judged::Refused),
         }
-        Ok(Judged::Refused)
     }
 
     /// Judges the line that was said, where this line was read.

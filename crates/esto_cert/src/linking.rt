@@ -18,6 +18,15 @@ pub struct Equality {
 /// A list of equalities.
 pub type Equalities = List<Equality>;
 
+/// The equality of the two terms, copied.
+pub fn equality_of(alloc: Global, left: &Term, right: &Term) -> Result<Equality, OutOfMemory>
+    ensures { IfOk result (λ it. it ≡ record { left = left.now; right = right.now }) }
+{
+    let left = left.copy(alloc)?;
+    let right = right.copy(alloc)?;
+    Ok(Equality { left, right })
+}
+
 /// The term that stands for a term.
 fn standing<'a>(renamings: &'a [Equality], term: &'a Term) -> &'a Term
     ensures { result.now ≡ standing renamings.now term.now }
@@ -64,9 +73,9 @@ fn renaming_of(
       right = standing renamings.now equality.now.right;
     }) }
 {
-    let left = standing(renamings, &equality.left).copy(alloc)?;
-    let right = standing(renamings, &equality.right).copy(alloc)?;
-    Ok(Equality { left, right })
+    let left = standing(renamings, &equality.left);
+    let right = standing(renamings, &equality.right);
+    equality_of(alloc, left, right)
 }
 
 /// Renamings under which one term stands for two exactly where the equalities link them.

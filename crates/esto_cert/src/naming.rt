@@ -2,7 +2,7 @@
 ghost use Rattle.std.specs.Prelude.{◌≡◌, ◌≤◌, length, option_map, IfOk};
 ghost use Rattle.esto_cert.specs.Certificates.{numbered, fact_of, equality_of, facts_at, equalities_at};
 
-use crate::linking::{Equalities, Equality};
+use crate::linking::{Equalities, Equality, equality_of};
 use esto_chase_laws::Claim;
 use esto_semantics::{Atom, Atoms};
 use esto_term::{List, OutOfMemory, Replicate};
@@ -50,7 +50,8 @@ pub fn facts_at(
         let Some(fact) = fact_at(claims, *number) else {
             return Ok(None);
         };
-        facts.push(fact.copy(alloc)?)?;
+        let own = fact.copy(alloc)?;
+        facts.push(own)?;
     }
     Ok(Some(facts))
 }
@@ -65,10 +66,7 @@ fn equality_at(
 {
     match numbered(claims, number) {
         Some(Claim::Fact(_)) => Ok(None),
-        Some(Claim::Same(left, right)) => Ok(Some(Equality {
-            left: left.copy(alloc)?,
-            right: right.copy(alloc)?,
-        })),
+        Some(Claim::Same(left, right)) => Ok(Some(equality_of(alloc, left, right)?)),
         None => Ok(None),
     }
 }

@@ -1,20 +1,14 @@
 -- What is written is accepted.
-use Rattle.std.proofs.Common.{◌≡◌, Bool, inl, inr, ℕ, ◌+◌, zero, suc, List, [], ◌∷◌, ◌++◌, length, map, take, slice_get, Option, Some, None, refl, sym, subst}
-use Rattle.std.proofs.Common.{arith}
-use Rattle.std.proofs.lemmas.List.{append_assoc, append-nil}
+use Rattle.std.proofs.Common.{◌≡◌, Bool, ℕ, List, [], None, sym, subst}
 use Rattle.esto_term.specs.declared.term.Term.{Term}
 use Rattle.esto_constraint.specs.Constraints.{rules_of}
 use Rattle.esto_constraint.specs.declared.rule.Constraint.{Constraint}
 use Rattle.esto_semantics.specs.Queries.{ConjunctiveQuery}
 use Rattle.esto_semantics.specs.declared.expanded.ExpandedFact.{ExpandedFact}
 use Rattle.esto_chase_laws.specs.Derived.{AreDerived}
-use Rattle.esto_chase_laws.specs.declared.entry.Claim.{Claim}
 use Rattle.esto_chase_laws.specs.declared.entry.Entry.{Entry}
-use Rattle.esto_cert.specs.Certificates.{Case, MayClaim, MayEnd}
-use Rattle.esto_cert.specs.Judging.{IsJudgedText, Verdict, Decides}
-use Rattle.esto_cert.specs.Lines.{line_of}
-use Rattle.esto_cert.specs.declared.judging.Judged.TheVariants.{Claims, Ends}
-use Rattle.esto_cert.specs.declared.line.Line.{Line}
+use Rattle.esto_cert.specs.Certificates.{Case}
+use Rattle.esto_cert.specs.Judging.{Verdict, Decides}
 use Rattle.esto_cert.specs.declared.line.Line.TheVariants.{Match}
 use Rattle.esto_cert.proofs.ClaimLemmas.{no_verdict}
 use Rattle.esto_derive.specs.Writing.{IsWritten}

@@ -22,7 +22,7 @@ use Rattle.esto_chase_laws.specs.declared.entry.Claim.TheVariants.{Fact as State
 use Rattle.esto_chase_laws.specs.declared.entry.Entry.{Entry}
 use Rattle.std.proofs.lemmas.Option.{same_Some, slice_get_within}
 use Rattle.esto_derive.proofs.MarkLemmas.{same_or_later}
-use Rattle.esto_derive.specs.Searching.{ClaimsIn, IsLink, GoesOn, IsFound, IsFoundAfter, IsFoundBy, AddsLink}
+use Rattle.esto_derive.specs.Searching.{ClaimsIn, IsLink, GoesOn, IsFound, IsFoundAfter, IsFoundBy, IsFoundIfOne, AddsLink}
 
 -- ---- going on
 
@@ -80,6 +80,15 @@ module _ (Holds : Claim → Type 0) (from to : List Term) (lengths : length from
       → Fits One (from ++ atom.terms) (to ++ fact.terms)
   fits_row atom fact fits row = Fits-join One from to lengths atom.terms fact.terms fits row
 
+  -- so that longer rows fit where it is right
+  pub fits_then : (atom fact : Fact Term) → Fits One from to → (longer met : List Term) → longer ≡ from ++ atom.terms → met ≡ to ++ fact.terms
+      → AllZip One fact.terms (map (taken longer met) atom.terms) → Fits One longer met
+  fits_then atom fact fits longer met longer_is met_is row =
+      subst (λ (it : List Term). Fits One it met) (sym longer_is)
+      (subst (Fits One (from ++ atom.terms)) (sym met_is)
+      (fits_row atom fact fits (subst (λ (it : List Term). AllZip One fact.terms (map (taken it (to ++ fact.terms)) atom.terms)) longer_is
+      (subst (λ (it : List Term). AllZip One fact.terms (map (taken longer it) atom.terms)) met_is row))))
+
 -- ---- found
 
 module _ (entries : List Entry) (set : List Bool) (from to : List Term) (lengths : length from ≡ length to) (atom : Fact Term) (rest : List (Fact Term)) where
@@ -100,6 +109,17 @@ module _ (entries : List Entry) (set : List Bool) (from to : List Term) (lengths
   found_after fact relation terms None none = λ chosen goes. none chosen (goes_first World from to lengths atom fact rest chosen goes).2
   found_after fact relation terms (Some places) (chosen, stated, goes) =
       (chosen, stated, (λ holds. goes_more World from to lengths atom fact rest chosen holds relation terms goes))
+
+  -- where the row is right, what is found for longer rows goes on after it; else nothing does
+  pub found_if_one : (fact : Fact Term) → fact.relation ≡ atom.relation → length fact.terms ≡ length atom.terms
+      → (places : Option (List ℕ)) (longer met : List Term) → longer ≡ from ++ atom.terms → met ≡ to ++ fact.terms
+      → IsFoundIfOne entries set longer met atom.terms fact.terms rest places → IsFoundAfter entries set from to atom rest fact places
+  found_if_one fact relation terms places longer met longer_is met_is found =
+      elim (subst (λ (it : List Term). IsFoundIfOne entries set it (to ++ fact.terms) atom.terms fact.terms rest places) longer_is
+      (subst (λ (it : List Term). IsFoundIfOne entries set longer it atom.terms fact.terms rest places) met_is found)) [
+        | inl (row, goes) ↦ found_after fact relation terms places goes
+        | inr (wrong, none) ↦ subst (IsFoundAfter entries set from to atom rest fact) (sym none) (unfit fact wrong)
+      ]
 
   -- an entry outside the world, or of an equality, has no fact to go on with
   pub outside : (entry : Entry) → ¬ (Within entry.product set) → IsFoundBy entries set from to atom rest entry None
@@ -243,12 +263,15 @@ module _ (entries : List Entry) (set : List Bool) (term other : Term) where
 
 -- ---- the row that is tested
 
-pub row_of : (Holds : Claim → Type 0) (longer met from to terms owns wanted : List Term) → longer ≡ from ++ terms → met ≡ to ++ owns
-    → wanted ≡ map (taken longer met) terms → AllZip (Linked Holds) owns wanted ↔ AllZip (Linked Holds) owns (map (taken (from ++ terms) (to ++ owns)) terms)
-row_of Holds longer met from to terms owns wanted longer_is met_is wanted_is = (
-  subst (AllZip (Linked Holds) owns) all,
-  subst (AllZip (Linked Holds) owns) (sym all),
+pub row_of : (Holds : Claim → Type 0) (from to terms others from_items to_items items other_items met met_items : List Term) → from_items ≡ from → to_items ≡ to
+    → items ≡ terms → other_items ≡ others → met ≡ map (taken from_items to_items) items → met_items ≡ met
+    → AllZip (Linked Holds) other_items met_items ↔ AllZip (Linked Holds) others (map (taken from to) terms)
+row_of Holds from to terms others from_items to_items items other_items met met_items from_is to_is are others_are met_is met_are = (
+  (λ all. subst (λ (it : List Term). AllZip (Linked Holds) it (map (taken from to) terms)) others_are (subst (AllZip (Linked Holds) other_items) same all)),
+  (λ all. subst (AllZip (Linked Holds) other_items) (sym same) (subst (λ (it : List Term). AllZip (Linked Holds) it (map (taken from to) terms))
+      (sym others_are) all)),
 )
   where
-    all : wanted ≡ map (taken (from ++ terms) (to ++ owns)) terms
-    all = wanted_is ∙ ap (λ (it : List Term). map (taken it met) terms) longer_is ∙ ap (λ (it : List Term). map (taken (from ++ terms) it) terms) met_is
+    same : met_items ≡ map (taken from to) terms
+    same = met_are ∙ met_is ∙ ap (λ (it : List Term). map (taken it to_items) items) from_is ∙ ap (λ (it : List Term). map (taken from it) items) to_is
+        ∙ ap (map (taken from to)) are

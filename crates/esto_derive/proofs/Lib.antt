@@ -3,6 +3,7 @@ mod LoopLemmas
 mod FoundLemmas
 mod MarkLemmas
 mod PlaceLemmas
+mod PutLemmas
 mod StepLemmas
 mod ReasonLemmas
 mod NamingLemmas

@@ -1,5 +1,5 @@
 -- The entries that are used, directly or through reasons.
-use Rattle.std.proofs.Common.{◌≡◌, ◌⊎◌, inl, inr, ℕ, ◌+◌, ◌<◌, ◌≤◌, Bool, List, take, slice_get, Some, Contains, All, subst, refl, sym, ap, ◌∙◌, arith, zero}
+use Rattle.std.proofs.Common.{◌≡◌, ◌⊎◌, ◌↔◌, inl, inr, ℕ, ◌+◌, ◌<◌, ◌≤◌, Bool, List, take, slice_get, Some, Contains, All, subst, refl, sym, ap, ◌∙◌, arith, zero}
 use Rattle.std.proofs.Common.{suc}
 use Rattle.std.proofs.lemmas.List.{length-take}
 use Rattle.std.proofs.lemmas.List.Elements.{All-weaker, All-contains_itself}
@@ -12,7 +12,7 @@ use Rattle.esto_chase_laws.specs.WorldLaws.{AreReasoned, IsReasoned}
 use Rattle.esto_chase_laws.specs.declared.entry.Entry.{Entry}
 use Rattle.esto_chase_laws.specs.declared.entry.Reason.{Reason}
 use Rattle.esto_chase_laws.specs.declared.entry.Reason.TheVariants.{Expanded, Step, Equal}
-use Rattle.esto_derive.specs.Marking.{named_by, AddsNamed, AreUsedWithin, IsNamedByUsed}
+use Rattle.esto_derive.specs.Marking.{named_by, AddsNamed, AreUsed, AreUsedWithin, Closes, IsNamedByUsed}
 
 pub all_below : (count : ℕ) (places : List ℕ) → ((place : ℕ) → Contains places place → place < count) → All (λ place. place < count) places
 all_below count places below = All-weaker (Contains places) (λ place. place < count) below places (All-contains_itself places)
@@ -89,3 +89,21 @@ module _ (entries : List Entry) (reasoned : AreReasoned entries) (place : ℕ) (
       | inl had ↦ within at_place its its_at had number holds
       | inr (had, its_named) ↦ within place entry at had number (named_within at_place its its_named its_at number holds)
     ]
+
+-- ---- facts and links
+
+pub used_with : (entries : List Entry) (facts links : List ℕ) (old mid new : List Bool) → ((place : ℕ) → Has old place ↔ Contains facts place)
+    → ((place : ℕ) → Has mid place ↔ (Has old place ⊎ Contains links place)) → Closes entries mid new → AreUsed entries facts links new
+used_with entries facts links old mid new are adds closes = record {
+  has_facts = λ place inside. closes.keeps place ((adds place).1 (inl ((are place).1 inside)));
+  has_links = λ place inside. closes.keeps place ((adds place).1 (inr inside));
+  only = λ place has. elim (closes.only place has) [
+    | inl first ↦ inl (either place first)
+    | inr named ↦ inr named
+  ];
+  closed = closes.closed;
+  within = λ set each. closes.within set (λ place entry at has. each place entry (either place has) at);
+}
+  where
+    either : (place : ℕ) → Has mid place → Contains facts place ⊎ Contains links place
+    either place has = elim ((adds place).0 has) [ inl before ↦ inl ((are place).0 before) | inr inside ↦ inr inside ]

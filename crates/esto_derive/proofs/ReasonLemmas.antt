@@ -1,12 +1,12 @@
 -- Lines of entries by their reasons: what stands for an entry, and one line more.
-use Rattle.std.proofs.Common.{◌≡◌, ◌⊎◌, inl, inr, ℕ, ◌+◌, ◌<◌, ◌≤◌, zero, suc, Bool, List, [], ◌∷◌, ◌++◌, length, take, get_or, slice_get, Some, None, AllPairs}
+use Rattle.std.proofs.Common.{◌≡◌, inl, inr, ℕ, ◌<◌, ◌≤◌, Bool, List, [], ◌∷◌, ◌++◌, length, take, get_or, slice_get, Some, AllPairs}
 use Rattle.std.proofs.Common.{Contains, subst, refl, sym, ap, ◌∙◌, arith}
 use Rattle.std.proofs.lemmas.Bool.{cases_order}
-use Rattle.std.proofs.lemmas.List.{length-append, length-take, take-append-le, take_all}
+use Rattle.std.proofs.lemmas.List.{length-take}
 use Rattle.std.proofs.lemmas.List.Elements.{Contains-get_or}
 use Rattle.std.proofs.lemmas.List.Quantifiers.{all_pairs_push}
 use Rattle.std.proofs.lemmas.Option.{get_or_from_slice_get, same_Some, slice_get_within}
-use Rattle.esto_term.proofs.ListLemmas.{Contains-nil, at_left, at_pushed}
+use Rattle.esto_term.proofs.ListLemmas.{Contains-nil}
 use Rattle.esto_term.proofs.ZipLemmas.{zip_append, zip_length, zip_weaker}
 use Rattle.esto_term.specs.declared.term.Term.{Term}
 use Rattle.esto_semantics.specs.Rules.{Rule}
@@ -19,13 +19,12 @@ use Rattle.esto_chase_laws.specs.declared.entry.Entry.{Entry}
 use Rattle.esto_chase_laws.specs.declared.entry.Reason.{Reason}
 use Rattle.esto_chase_laws.specs.declared.entry.Reason.TheVariants as reason
 use Rattle.esto_cert.specs.Certificates.{Case, MayClaim, numbered}
-use Rattle.esto_cert.specs.Showing.{AreClaimsOf}
 use Rattle.esto_cert.specs.declared.line.Line.{Line}
 use Rattle.esto_derive.specs.Marking.{named_by}
 use Rattle.esto_derive.specs.Reasons.{HasLine, IsBehind, itself, through, AreNamedBy, SaysReason, IsLineOf, AreOfEntries}
 use Rattle.esto_derive.proofs.MarkLemmas.{NamesEarlier}
 use Rattle.esto_cert.proofs.ClaimLemmas.{claims_more}
-use Rattle.esto_cert.proofs.NumberLemmas.{numbered_at, numbered_more}
+use Rattle.esto_cert.proofs.NumberLemmas.{numbered_more}
 
 -- ---- what stands for an entry
 

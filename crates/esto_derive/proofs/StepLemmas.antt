@@ -1,8 +1,7 @@
 -- What lines that stand for entries state, and what follows from them.
-use Rattle.std.proofs.Common.{◌≡◌, ◌≢◌, inl, inr, ◌==◌, ℕ, ◌+◌, ◌-◌, ◌<◌, ◌≤◌, Bool, false, cond, List, [], ◌∷◌, ◌++◌, length, map, slice_get, Option, Some}
-use Rattle.std.proofs.Common.{None, Contains, subst, refl, sym, ap, ◌∙◌, arith}
+use Rattle.std.proofs.Common.{◌≡◌, ◌≢◌, inl, inr, ℕ, ◌+◌, ◌<◌, ◌≤◌, List, [], ◌∷◌, ◌++◌, length, map, slice_get, Option, Some}
+use Rattle.std.proofs.Common.{Contains, subst, refl, sym, ap, ◌∙◌, arith}
 use Rattle.std.specs.List.{AllZip}
-use Rattle.std.proofs.lemmas.Bool.Decides.{nat_tests}
 use Rattle.std.proofs.lemmas.Option.{slice_get_within}
 use Rattle.esto_term.proofs.ListLemmas.{Contains-nil, Contains-cases, Contains-head, Contains-rest, Contains-flat, Contains-flat_from, Contains-map_from}
 use Rattle.esto_term.proofs.ZipLemmas.{zip_left, zip_weaker}
@@ -10,14 +9,13 @@ use Rattle.esto_term.specs.Nesting.{greatest_u64}
 use Rattle.esto_term.specs.declared.term.Term.{Term}
 use Rattle.esto_semantics.specs.Facts.{terms_of}
 use Rattle.esto_semantics.specs.declared.fact.Fact.{Fact}
-use Rattle.esto_chase_laws.proofs.LinkLemmas.{Linked-then, Linked-back, one_link}
 use Rattle.esto_chase_laws.specs.Derived.{Claims, IsNamed, IsEquality}
 use Rattle.esto_chase_laws.specs.WorldMatches.{IsLike, Fits, AreChosen}
-use Rattle.esto_chase_laws.specs.Worlds.{Linked, here, along, back}
+use Rattle.esto_chase_laws.specs.Worlds.{Linked}
 use Rattle.esto_chase_laws.specs.declared.entry.Claim.{Claim}
 use Rattle.esto_chase_laws.specs.declared.entry.Claim.TheVariants.{Fact as Stated, Same}
 use Rattle.esto_chase_laws.specs.declared.entry.Entry.{Entry}
-use Rattle.esto_cert.specs.Certificates.{numbered, fact_of, equality_of, facts_at, equalities_at, Matches}
+use Rattle.esto_cert.specs.Certificates.{fact_of, equality_of, facts_at, equalities_at, Matches}
 use Rattle.esto_cert.specs.Lines.{with_item}
 use Rattle.esto_cert.specs.Linking.{IsAmong}
 use Rattle.esto_cert.specs.declared.linking.Equality.{Equality}

@@ -1,18 +1,16 @@
 -- Lines in print are read back.
-use Rattle.std.proofs.Common.{◌≡◌, ◌≢◌, ◌==◌, ◌&&◌, ℕ, ◌+◌, ◌-◌, ◌*◌, ◌/◌, ◌%◌, ◌<◌, ◌≤◌, nat_le, nat_eq, Bool, true, false, if◌then◌else◌, List, [], ◌∷◌, ◌++◌}
-use Rattle.std.proofs.Common.{length, map, get_or, Option, Some, None, All, codes, decimal, refl, ap, ◌∙◌, arith, zero, suc}
+use Rattle.std.proofs.Common.{◌≡◌, ◌≢◌, ◌==◌, ℕ, ◌+◌, ◌*◌, ◌/◌, ◌%◌, ◌<◌, ◌≤◌, Bool, false, if◌then◌else◌, List, [], ◌∷◌, ◌++◌}
+use Rattle.std.proofs.Common.{length, map, get_or, Option, Some, All, codes, decimal, refl, ap, ◌∙◌, arith, zero, suc}
 use Rattle.std.specs.List.{slice_split}
-use Rattle.std.specs.Cmp.Lexicographic.{pointwise}
 use Rattle.std.proofs.lemmas.Bool.Decides.{nat_tests}
 use Rattle.std.proofs.lemmas.Fmt.{decimal_by_steps, decimal_nonempty, decimal_digit, first_decimal}
 use Rattle.std.proofs.lemmas.List.{append_assoc, append-nil}
-use Rattle.std.proofs.lemmas.List.Elements.{All-nil, All-cons, All-head, All-append, All-push, All-weaker, All-from_recursion}
+use Rattle.std.proofs.lemmas.List.Elements.{All-nil, All-cons, All-append, All-push, All-weaker, All-from_recursion}
 use Rattle.std.proofs.lemmas.List.Splits.{slice_split_at, slice_split_none}
-use Rattle.std.proofs.lemmas.Option.{same_Some}
 use Rattle.esto_term.proofs.ListLemmas.{Contains-head, Contains-rest}
 use Rattle.esto_term.specs.Nesting.{greatest_u64}
 use Rattle.esto_views.specs.Printing.{each_from, comma_before, numbers_text}
-use Rattle.esto_cert.specs.Lines.{number_after, number_of, numbers_of, list_of, links_of, is_word, with_item, line_of_words, expanded_of, step_of, match_of}
+use Rattle.esto_cert.specs.Lines.{number_after, number_of, numbers_of, list_of, links_of, with_item, line_of_words, expanded_of, step_of, match_of}
 use Rattle.esto_cert.specs.declared.line.Line.{Line}
 use Rattle.esto_cert.specs.declared.line.Line.TheVariants.{Expanded, Step, Match}
 use Rattle.esto_cert.proofs.WordLemmas.{one_more, digit_more, read_whole, IsDigit, IsOfList, no_byte, no_minus, words, last_word, two_words, above, spaced}

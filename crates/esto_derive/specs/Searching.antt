@@ -1,12 +1,12 @@
 -- Matches of a body in the world of a set, found atom by atom, and the equalities that they use.
-use Rattle.std.specs.Prelude.{◌≡◌, ℕ, Bool, List, ◌∷◌, ◌++◌, Option, Some, None, slice_get, Contains}
+use Rattle.std.specs.Prelude.{◌≡◌, ◌⊎◌, ℕ, Bool, List, ◌∷◌, ◌++◌, map, Option, Some, None, slice_get, Contains}
 use Rattle.std.specs.List.{AllZip}
 use Rattle.esto_term.specs.declared.term.Term.{Term}
 use Rattle.esto_semantics.specs.Facts.{terms_of}
 use Rattle.esto_term.specs.Sets.{Within}
 use Rattle.esto_semantics.specs.declared.fact.Fact.{Fact}
 use Rattle.esto_chase_laws.specs.Derived.{IsNamed}
-use Rattle.esto_chase_laws.specs.WorldMatches.{AreChosen, Fits}
+use Rattle.esto_chase_laws.specs.WorldMatches.{AreChosen, Fits, taken}
 use Rattle.esto_chase_laws.specs.Worlds.{InWorld, SaysOne, Linked}
 use Rattle.esto_chase_laws.specs.declared.entry.Claim.{Claim}
 use Rattle.esto_chase_laws.specs.declared.entry.Claim.TheVariants.{Fact as Stated, Same}
@@ -49,6 +49,13 @@ IsFoundBy entries set from to atom rest entry None =
     (fact : Fact Term) (chosen : List (Fact Term)) → Within entry.product set → entry.claim ≡ Stated fact
     → ¬ (GoesOn (InWorld entries set) from to (atom ∷ rest) (fact ∷ chosen))
 IsFoundBy entries set from to atom rest entry (Some places) = IsFound entries set from to (atom ∷ rest) (Some places)
+
+-- What the terms meet first is one with the others, place by place, and the entries at the places state facts that go on with the body in the world of the set;
+-- where there are no places, it is not, or no facts do.
+abbrev pub IsFoundIfOne : List Entry → List Bool → List Term → List Term → List Term → List Term → List (Fact Term) → Option (List ℕ) → Type 0
+IsFoundIfOne entries set from to terms others body places =
+    (AllZip (Linked (InWorld entries set)) others (map (taken from to) terms) × IsFound entries set from to body places)
+    ⊎ (¬ (AllZip (Linked (InWorld entries set)) others (map (taken from to) terms)) × (places ≡ None))
 
 -- The entries at the places say in the world of the set that two terms are one.
 abbrev pub AreLinks : List Entry → List Bool → List ℕ → Type 0

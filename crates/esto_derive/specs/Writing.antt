@@ -1,5 +1,5 @@
 -- Certificates that are written: a line for each entry that a match uses.
-use Rattle.std.specs.Prelude.{◌≡◌, ◌≢◌, ◌⊎◌, ◌↔◌, ◌<◌, ℕ, Bool, List, [], ◌∷◌, ◌++◌, Some, length, map, slice_get, Option, None, Contains, codes}
+use Rattle.std.specs.Prelude.{◌≡◌, ◌≢◌, ◌⊎◌, ◌↔◌, ◌<◌, ◌+◌, ℕ, Bool, List, [], ◌∷◌, ◌++◌, Some, length, map, slice_get, Option, None, Contains, codes}
 use Rattle.std.specs.List.{AllZip, flat_map}
 use Rattle.esto_constraint.specs.Constraints.{rules_of}
 use Rattle.esto_constraint.specs.declared.rule.Constraint.{Constraint}
@@ -14,6 +14,7 @@ use Rattle.esto_chase_laws.specs.declared.entry.Claim.{Claim}
 use Rattle.esto_chase_laws.specs.declared.entry.Claim.TheVariants.{Fact as Stated, Same}
 use Rattle.esto_chase_laws.specs.declared.entry.Entry.{Entry}
 use Rattle.esto_mapping.specs.declared.catalogue.Catalogue.{Catalogue}
+use Rattle.esto_query.specs.Making.{query_of}
 use Rattle.esto_query.specs.declared.query.Query.{Query}
 use Rattle.esto_views.specs.Expanded.{AreExpanded, Expands}
 use Rattle.esto_semantics.specs.declared.expanded.ExpandedFact.{ExpandedFact}
@@ -46,6 +47,12 @@ abbrev pub IsWrittenFor : Catalogue → Query → Plan → List Bool → List En
 IsWrittenFor catalogue query plan set entries bytes =
     (expanded : List ExpandedFact) × AreExpanded catalogue.fragments 0 (length plan.names) plan.atoms expanded
     × Expands plan catalogue.fragments expanded × IsWritten (case_for plan set catalogue.rules query expanded) entries bytes
+
+-- The bytes are such a certificate of a match of the query in the set's world, for all expanded facts from which the entries are derived by the rules.
+abbrev pub IsWrittenOf : List Bool → List Constraint → Query → List Term → List Entry → List ℕ → Type 0
+IsWrittenOf set rules query targets entries bytes =
+    (expanded : List ExpandedFact) → AreDerived expanded (rules_of rules) entries
+    → IsWritten (record { expanded = expanded; set = set; rules = rules_of rules; query = query_of query; targets = targets }) entries bytes
 
 -- ---- while it is written
 
@@ -135,6 +142,11 @@ WritesMatch rules entries used facts links bytes =
 -- The numbers are the old ones and then those of the others that were not among them.
 abbrev pub AddsNew : List ℕ → List ℕ → List ℕ → Type 0
 AddsNew old more new = (number : ℕ) → Contains new number ↔ (Contains old number ⊎ Contains more number)
+
+-- The text goes on by what is said of the numbers, counted from 1, of the lines that stand for the entries at the places, each once.
+abbrev pub GoesOnByLinks : List (List ℕ) → List ℕ → (List ℕ → List ℕ) → List ℕ → List ℕ → Type 0
+GoesOnByLinks lines places said old new =
+    (linked : List ℕ) × AddsNew [] (lines_at lines places) linked × (new ≡ old ++ said (map (λ line. line + 1) linked))
 
 -- The terms of the fact that is claimed, and none of an equality.
 abbrev pub claimed_terms : Claim → List Term

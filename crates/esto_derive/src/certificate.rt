@@ -1,5 +1,5 @@
 //! Writing a certificate.
-ghost use Rattle.std.specs.Prelude.{◌≡◌, ◌<◌, ◌++◌, ℕ, List, Contains, None, length, IfOk};
+ghost use Rattle.std.specs.Prelude.{◌≡◌, ◌<◌, ◌++◌, ℕ, Bool, List, Contains, Some, None, length, IfOk};
 ghost use Rattle.esto_constraint.specs.Constraints.{rules_of};
 ghost use Rattle.esto_query.specs.Making.{query_of};
 ghost use Rattle.esto_semantics.specs.declared.expanded.ExpandedFact.{ExpandedFact};
@@ -12,15 +12,15 @@ ghost use Rattle.esto_chase_laws.specs.Worlds.{AreOfCount, InWorld, Linked};
 ghost use Rattle.esto_derive.specs.Marking.{AreUsed};
 ghost use Rattle.esto_condchase.specs.Evidence.{AreEntriesOf};
 ghost use Rattle.esto_cert.specs.Judging.{DecidesFor};
-ghost use Rattle.esto_derive.specs.Searching.{AreLinks};
-ghost use Rattle.esto_derive.specs.Writing.{terms_at, IsWritten, IsWrittenFor};
+ghost use Rattle.esto_derive.specs.Searching.{AreLinks, IsFound};
+ghost use Rattle.esto_derive.specs.Writing.{terms_at, IsWrittenFor, IsWrittenOf, WritesMatch};
 ghost use Rattle.esto_semantics.specs.Containment.{IsSatisfiable};
 ghost use Rattle.esto_semantics.specs.Listed.{IsListed};
 ghost use Rattle.esto_semantics.specs.Plans.{IsUniversalPlan};
 ghost use Rattle.esto_views.specs.Fragments.{views_of, patterns_of};
 ghost use Rattle.esto_views.specs.Plans.{plan_query};
 
-use crate::marking::close;
+use crate::marking::close_with;
 use crate::searching::World;
 use crate::writing::{Writer, terms_at};
 use esto_bits::RowBits;
@@ -35,23 +35,26 @@ use esto_term::{Bytes, List, OutOfMemory, Terms};
 use esto_views::{Plan, plans_are_sound};
 use std::alloc::Global;
 
-/// The places of the entries that are used where those at these places are.
-fn used_by(
+/// The head's terms, and then those of the body.
+fn head_and_body(alloc: Global, head: &Terms, body: &[Atom]) -> Result<Terms, OutOfMemory>
+    ensures { IfOk result (λ it. it ≡ head.now ++ terms_of body.now) }
+{
+    let terms = terms_of(alloc, body)?;
+    followed(alloc, head, &terms)
+}
+
+/// The targets, and then the terms of the facts at the places.
+fn targets_and_facts(
     alloc: Global,
+    targets: &Terms,
     entries: &[Entry],
     facts: &[usize],
-    links: &[usize],
-) -> Result<RowBits, OutOfMemory>
-    requires reasoned { AreReasoned entries.now }
-    requires facts { (place : ℕ) → Contains facts.now place → place < length entries.now }
-    requires links { (place : ℕ) → Contains links.now place → place < length entries.now }
-    ensures count { IfOk result (λ used. length used ≡ length entries.now) }
-    ensures used { IfOk result (AreUsed entries.now facts.now links.now) }
+) -> Result<Terms, OutOfMemory>
+    requires { (place : ℕ) → Contains facts.now place → place < length entries.now }
+    ensures { IfOk result (λ it. it ≡ targets.now ++ terms_at entries.now facts.now) }
 {
-    let mut used = RowBits::of(alloc, entries.len(), facts)?;
-    used.union(&RowBits::of(alloc, entries.len(), links)?);
-    close(alloc, entries, &mut used)?;
-    Ok(used)
+    let terms = terms_at(alloc, entries, facts)?;
+    followed(alloc, targets, &terms)
 }
 
 /// Entries of equalities in the world by which the targets are one with the head, and the terms of the facts at the places
@@ -76,10 +79,62 @@ fn links_for(
         (head.now ++ terms_of body.now)
         (targets.now ++ terms_at world.now.entries.now facts.now)) }
 {
-    let from = followed(alloc, head, &terms_of(alloc, body)?)?;
-    let to = followed(alloc, targets, &terms_at(alloc, world.entries, facts)?)?;
-    let links = world.links_of(alloc, from.items(), to.items())?;
-    Ok(links)
+    let from = head_and_body(alloc, head, body)?;
+    let to = targets_and_facts(alloc, targets, world.entries, facts)?;
+    world.links_of(alloc, from.items(), to.items())
+}
+
+/// Writes a certificate of a match by the entries at these places.
+fn write_by(
+    alloc: Global,
+    entries: &[Entry],
+    rules: &[Constraint],
+    facts: &[usize],
+    links: &[usize],
+) -> Result<Bytes, OutOfMemory>
+    requires derived { (expanded : List ExpandedFact)
+        × AreDerived expanded (rules_of rules.now) entries.now }
+    requires reasoned { AreReasoned entries.now }
+    requires facts { (place : ℕ) → Contains facts.now place → place < length entries.now }
+    requires links { (place : ℕ) → Contains links.now place → place < length entries.now }
+    ensures { IfOk result (λ bytes. (used : List Bool)
+        × AreUsed entries.now facts.now links.now used
+        × WritesMatch rules.now entries.now used facts.now links.now bytes) }
+{
+    let mut used = RowBits::of(alloc, entries.len(), facts)?;
+    close_with(alloc, entries, links, &mut used)?;
+    let writer = Writer {
+        entries,
+        used: &used,
+        rules,
+    };
+    writer.write(alloc, facts, links)
+}
+
+/// Writes a certificate of the match of the query that is found by the entries at these places.
+fn write_found(
+    alloc: Global,
+    world: &World,
+    targets: &Terms,
+    query: &Query,
+    rules: &[Constraint],
+    facts: &[usize],
+) -> Result<Bytes, OutOfMemory>
+    requires counts { AreOfCount (length world.now.set.now) world.now.entries.now }
+    requires joined { AreJoined world.now.entries.now world.now.entries.now }
+    requires derived { (expanded : List ExpandedFact)
+        × AreDerived expanded (rules_of rules.now) world.now.entries.now }
+    requires lengths { length targets.now ≡ length query.now.head }
+    requires found { IsFound world.now.entries.now world.now.set.now query.now.head targets.now
+        query.now.body (Some facts.now) }
+    ensures { IfOk result (IsWrittenOf world.now.set.now rules.now query.now targets.now
+        world.now.entries.now) }
+{
+    queries_are_sound();
+    derived_entries_are_reasoned();
+    let body = query.body.items();
+    let links = links_for(alloc, world, &query.head, targets, body, facts)?;
+    write_by(alloc, world.entries, rules, facts, links.items())
 }
 
 /// Writes a certificate of a match of the query in the set's world.
@@ -97,31 +152,14 @@ fn write_match(
         × AreDerived expanded (rules_of rules.now) entries.now }
     requires found { HasMatch (InWorld entries.now set.now) query.now.head query.now.body
         targets.now }
-    ensures { IfOk result (λ bytes. (expanded : List ExpandedFact)
-        → AreDerived expanded (rules_of rules.now) entries.now
-        → IsWritten (record {
-          expanded = expanded;
-          set = set.now;
-          rules = rules_of rules.now;
-          query = query_of query.now;
-          targets = targets.now;
-        }) entries.now bytes) }
+    ensures { IfOk result (IsWrittenOf set.now rules.now query.now targets.now entries.now) }
 {
-    queries_are_sound();
-    derived_entries_are_reasoned();
     let world = World { entries, set };
     let body = query.body.items();
     let Some(facts) = world.find(alloc, &query.head, targets, body)? else {
         unreachable!()
     };
-    let links = links_for(alloc, &world, &query.head, targets, body, facts.items())?;
-    let used = used_by(alloc, entries, facts.items(), links.items())?;
-    let writer = Writer {
-        entries,
-        used: &used,
-        rules,
-    };
-    writer.write(alloc, facts.items(), links.items())
+    write_found(alloc, &world, targets, query, rules, facts.items())
 }
 
 /// Writes a certificate that the set's candidate is contained in the query, from the entries of the conditional chase of the
@@ -153,13 +191,6 @@ pub fn write_certificate(
     plans_are_sound();
     queries_are_sound();
     entries_decide_answers();
-    let bytes = write_match(
-        alloc,
-        set,
-        &plan.head,
-        query,
-        entries.items(),
-        catalogue.rules.items(),
-    )?;
-    Ok(bytes)
+    let rules = catalogue.rules.items();
+    write_match(alloc, set, &plan.head, query, entries.items(), rules)
 }

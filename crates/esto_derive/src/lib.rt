@@ -3,6 +3,7 @@
 #![tactic(auto)]
 
 mod certificate;
+mod lines;
 mod marking;
 mod placing;
 mod printing;

@@ -1,8 +1,8 @@
 //! The entries that a match uses, directly or through reasons.
-ghost use Rattle.std.specs.Prelude.{◌≡◌, ◌⊎◌, ◌↔◌, ◌<◌, ℕ, Contains, length, OnOk};
+ghost use Rattle.std.specs.Prelude.{◌≡◌, ◌⊎◌, ◌↔◌, ◌<◌, ℕ, List, Contains, length, OnOk};
 ghost use Rattle.esto_term.specs.Sets.{Has};
 ghost use Rattle.esto_chase_laws.specs.WorldLaws.{AreReasoned};
-ghost use Rattle.esto_derive.specs.Marking.{named_by, AddsNamed, Closes};
+ghost use Rattle.esto_derive.specs.Marking.{named_by, AddsNamed, AreUsed, Closes};
 
 use esto_bits::RowBits;
 use esto_prov::{Entry, Reason};
@@ -55,7 +55,7 @@ fn put_behind(
 }
 
 /// Adds to the places those of all entries that their entries follow from, directly or through others.
-pub fn close(alloc: Global, entries: &[Entry], used: &mut RowBits) -> Result<(), OutOfMemory>
+fn close(alloc: Global, entries: &[Entry], used: &mut RowBits) -> Result<(), OutOfMemory>
     requires count { length used.old ≡ length entries.now }
     requires reasoned { AreReasoned entries.now }
     ensures count { length used.new ≡ length used.old }
@@ -65,4 +65,24 @@ pub fn close(alloc: Global, entries: &[Entry], used: &mut RowBits) -> Result<(),
         put_behind(alloc, used, place, &entries[place])?;
     }
     Ok(())
+}
+
+/// Adds to the places those of links, and those of all entries that the entries at the places follow from, directly or through
+/// others.
+pub fn close_with(
+    alloc: Global,
+    entries: &[Entry],
+    links: &[usize],
+    used: &mut RowBits,
+) -> Result<(), OutOfMemory>
+    requires count { length used.old ≡ length entries.now }
+    requires links { (place : ℕ) → Contains links.now place → place < length entries.now }
+    requires reasoned { AreReasoned entries.now }
+    ensures count { length used.new ≡ length used.old }
+    ensures used { OnOk result ((facts : List ℕ)
+        → ((place : ℕ) → Has used.old place ↔ Contains facts place)
+        → AreUsed entries.now facts links.now used.new) }
+{
+    put_all(alloc, used, links)?;
+    close(alloc, entries, used)
 }

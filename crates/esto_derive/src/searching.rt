@@ -1,13 +1,13 @@
 //! A match of a body in the world of a set, with the entries that it uses.
-ghost use Rattle.std.specs.Prelude.{◌≡◌, ◌↔◌, ◌∷◌, List, Some, option_map, length, slice_get, IsTrue, IfOk, OnOk};
+ghost use Rattle.std.specs.Prelude.{◌≡◌, ◌↔◌, ◌∷◌, List, Some, map, option_map, length, slice_get, IsTrue, IfOk, OnOk};
 ghost use Rattle.std.specs.List.{AllZip};
 ghost use Rattle.esto_semantics.specs.declared.fact.Fact.{Fact};
 ghost use Rattle.esto_term.specs.declared.term.Term.{Term};
 ghost use Rattle.esto_chase_laws.specs.Derived.{IsNamed};
-ghost use Rattle.esto_chase_laws.specs.WorldMatches.{Fits};
+ghost use Rattle.esto_chase_laws.specs.WorldMatches.{Fits, taken};
 ghost use Rattle.esto_chase_laws.specs.WorldSteps.{AreJoined};
 ghost use Rattle.esto_chase_laws.specs.Worlds.{AreOfCount, InWorld, Linked};
-ghost use Rattle.esto_derive.specs.Searching.{IsLink, IsFound, IsFoundAfter, IsFoundBy, AreLinks, AddsLink};
+ghost use Rattle.esto_derive.specs.Searching.{IsLink, IsFound, IsFoundAfter, IsFoundBy, IsFoundIfOne, AreLinks, AddsLink};
 
 use esto_bits::RowBits;
 use esto_prov::{Claim, Entry, followed, taken_terms};
@@ -169,11 +169,35 @@ impl World<'_> {
         }
         let longer = followed(alloc, from, &atom.terms)?;
         let met = followed(alloc, to, &fact.terms)?;
-        let wanted = taken_terms(alloc, longer.items(), met.items(), atom.terms.items())?;
-        if !self.are_one(fact.terms.items(), wanted.items()) {
-            return Ok(None);
+        self.find_if_one(alloc, &longer, &met, &atom.terms, &fact.terms, rest)
+    }
+
+    /// Entries of facts in the world that match the body, if there are any, and if what the terms meet first is one in the
+    /// world, place by place, with the others.
+    #[cycle(find)]
+    fn find_if_one(
+        &self,
+        alloc: Global,
+        from: &Terms,
+        to: &Terms,
+        terms: &Terms,
+        others: &Terms,
+        body: &[Atom],
+    ) -> Result<Option<List<usize>>, OutOfMemory>
+        requires counts { AreOfCount (length self.now.set.now) self.now.entries.now }
+        requires joined { AreJoined self.now.entries.now self.now.entries.now }
+        requires lengths { length from.now ≡ length to.now }
+        requires fits { AllZip (Linked (InWorld self.now.entries.now self.now.set.now)) others.now
+            (map (taken from.now to.now) terms.now)
+            → Fits (Linked (InWorld self.now.entries.now self.now.set.now)) from.now to.now }
+        ensures { IfOk result (IsFoundIfOne self.now.entries.now self.now.set.now from.now to.now
+            terms.now others.now body.now) }
+    {
+        let met = taken_terms(alloc, from.items(), to.items(), terms.items())?;
+        if self.are_one(others.items(), met.items()) {
+            return self.find(alloc, from, to, body);
         }
-        self.find(alloc, &longer, &met, rest)
+        Ok(None)
     }
 
     /// Adds an entry that says that the terms are one, unless they are equal.

@@ -9,8 +9,9 @@ ghost use Rattle.esto_chase_laws.specs.WorldMatches.{taken};
 ghost use Rattle.esto_chase_laws.specs.WorldSteps.{IsAsked};
 ghost use Rattle.esto_chase_laws.specs.declared.entry.Reason.TheVariants.{Expanded, Step, Equal};
 ghost use Rattle.esto_cert.specs.Certificates.{made_at};
-ghost use Rattle.esto_derive.specs.Writing.{lines_at, claimed_terms, terms_at, AddsNew, Writes, WritesIfUsed, WritesAll, WritesMatch};
+ghost use Rattle.esto_derive.specs.Writing.{claimed_terms, terms_at, Writes, WritesIfUsed, WritesAll, WritesMatch};
 
+use crate::lines::links_at;
 use crate::placing::place_of;
 use crate::printing::{put_expanded, put_match, put_step};
 use esto_bits::RowBits;
@@ -43,60 +44,6 @@ fn counted(number: usize) -> Result<usize, OutOfMemory>
         return Err(OutOfMemory);
     }
     Ok(number + 1)
-}
-
-/// Puts the numbers at the end.
-fn push_all(numbers: &mut Places, more: &[usize]) -> Result<(), OutOfMemory>
-    ensures { OnOk result (numbers.new ≡ numbers.old ++ more.now) }
-{
-    'more: for number in more {
-        numbers.push(*number)?;
-    }
-    Ok(())
-}
-
-/// The lines that stand for the entries at the places, in order.
-fn lines_at(alloc: Global, lines: &[Places], places: &[usize]) -> Result<Places, OutOfMemory>
-    requires { (place : ℕ) → Contains places.now place → place < length lines.now }
-    ensures { IfOk result (λ it. it ≡ lines_at lines.now places.now) }
-{
-    let mut all = Values::new(alloc);
-    'places: for place in places {
-        push_all(&mut all, lines[*place].items())?;
-    }
-    Ok(all)
-}
-
-/// Puts the number at the end, unless it is there.
-fn push_new(numbers: &mut Places, number: usize) -> Result<(), OutOfMemory>
-    ensures { OnOk result (AddsNew numbers.old (number ∷ []) numbers.new) }
-{
-    if numbers.items().contains(&number) {
-        return Ok(());
-    }
-    numbers.push(number)
-}
-
-/// Puts those of the numbers at the end that are not there.
-fn push_all_new(numbers: &mut Places, more: &[usize]) -> Result<(), OutOfMemory>
-    ensures { OnOk result (AddsNew numbers.old more.now numbers.new) }
-{
-    'more: for number in more {
-        push_new(numbers, *number)?;
-    }
-    Ok(())
-}
-
-/// The lines that stand for the entries at the places, each once.
-fn links_at(alloc: Global, lines: &[Places], places: &[usize]) -> Result<Places, OutOfMemory>
-    requires { (place : ℕ) → Contains places.now place → place < length lines.now }
-    ensures { IfOk result (AddsNew [] (lines_at lines.now places.now)) }
-{
-    let mut all = Values::new(alloc);
-    'places: for place in places {
-        push_all_new(&mut all, lines[*place].items())?;
-    }
-    Ok(all)
 }
 
 /// The terms of the facts that the entries at the places state.
@@ -140,8 +87,7 @@ fn place_at(
 {
     let from = terms_of(alloc, body_of(rule))?;
     let to = terms_at(alloc, entries, facts)?;
-    let place = place_of(alloc, number, rule, from.items(), to.items(), claim)?;
-    Ok(place)
+    place_of(alloc, number, rule, from.items(), to.items(), claim)
 }
 
 impl Written {
@@ -208,16 +154,15 @@ impl Writer<'_> {
         let body = body_of(rule);
         let (facts, links) = places.split_at(body.len());
         let place = place_at(alloc, self.entries, number, rule, facts, &entry.claim)?;
-        let named = lines_at(alloc, lines, facts)?;
-        let linked = links_at(alloc, lines, links)?;
         let numbered = counted(number)?;
         put_step(
             alloc,
             &mut written.text,
             numbered,
             place,
-            named.items(),
-            linked.items(),
+            lines,
+            facts,
+            links,
         )?;
         written.end_line(alloc)
     }
@@ -315,9 +260,7 @@ impl Writer<'_> {
             count: 0,
         };
         let lines = self.write_used(alloc, &mut written)?;
-        let named = lines_at(alloc, lines.items(), facts)?;
-        let linked = links_at(alloc, lines.items(), links)?;
-        put_match(alloc, &mut written.text, named.items(), linked.items())?;
+        put_match(alloc, &mut written.text, lines.items(), facts, links)?;
         Ok(written.text)
     }
 }

@@ -1,4 +1,4 @@
-use Rattle.std.proofs.Common.{List, ℕ, ◌<◌, Contains, length, map, subst, sym, ap, ◌∙◌}
+use Rattle.std.proofs.Common.{List, ℕ, ◌<◌, Contains, length, subst, sym}
 use Rattle.esto_query.specs.Making.{query_of}
 use Rattle.esto_semantics.specs.declared.expanded.ExpandedFact.{ExpandedFact}
 use Rattle.esto_cert.proofs.ExpansionLemmas.{place_below}
@@ -19,7 +19,7 @@ returns c = (
   c.in_ok-expanded.ensures.exact,
   c.in_ok-expanded.ensures.expands,
   c.in_ok-expanded.ensures.flat,
-  decided _ _ _ _ _ _
-      (same_case c.args.set.now (query_of c.args.query.now) _ _ _ _ _ _ c.items.ensures c.items-2.ensures c.items-3.ensures)
-      (ap (map (λ part. part.now)) c.as_slice.ensures.value ∙ c.in_ok-parts.ensures) c.in-None.is c.in_ok-line.ensures,
+  decided _ _ c.args.bytes.now _ _
+      (same_case c.args.set.now (query_of c.args.query.now) _ _ _ _ _ _ c.items.ensures c.items-2.ensures c.items-3.ensures) c.in-None.is
+      c.in_ok-line.ensures,
 )

@@ -1,5 +1,6 @@
 use Rattle.std.proofs.Common.{List, length, subst, sym, ◌∙◌}
 use Rattle.std.proofs.lemmas.List.{length-map}
+use Rattle.std.proofs.lemmas.Result.{IfOk-weaker}
 use Rattle.esto_constraint.specs.Constraints.{rules_of}
 use Rattle.esto_constraint.specs.declared.rule.Constraint.{Constraint}
 use Rattle.esto_query.specs.Making.{query_of}
@@ -24,7 +25,7 @@ write_match-requires-clause-joined c = subst (λ (it : List Entry). AreJoined it
 pub write_match-requires-clause-derived : goal.write_match-requires-clause-derived
 write_match-requires-clause-derived c = (
   c.requires.entries.0,
-  subst (λ (it : List Constraint). AreDerived c.requires.entries.0 (rules_of it) c.items.result.now) (sym c.items-2.ensures)
+  subst (λ (it : List Constraint). AreDerived c.requires.entries.0 (rules_of it) c.items.result.now) (sym c.items-rules.ensures)
       (subst (AreDerived c.requires.entries.0 (rules_of c.args.catalogue.now.rules)) (sym c.items.ensures) c.requires.entries.3.derived),
 )
 
@@ -40,21 +41,26 @@ write_match-requires-clause-found c =
     }))
 
 pub returns-clause-written : goal.returns-clause-written
-returns-clause-written c = (
-  c.requires.entries.0,
-  c.requires.entries.1,
-  c.requires.entries.2,
-  as_read c.requires.entries.0 c.args.set.now (query_of c.args.query.now) c.args.plan.now.head c.in_ok-bytes.bytes c.args.entries.now c.items.result.now
-      c.args.catalogue.now.rules c.items-2.result.now c.items.ensures c.items-2.ensures (c.in_ok-bytes.ensures c.requires.entries.0)
-      c.requires.entries.3.derived,
-)
+returns-clause-written c =
+    IfOk-weaker c.write_match.result _ _
+    (λ bytes writes. (
+      c.requires.entries.0,
+      c.requires.entries.1,
+      c.requires.entries.2,
+      as_read c.requires.entries.0 c.args.set.now (query_of c.args.query.now) c.args.plan.now.head bytes c.args.entries.now c.items.result.now
+          c.args.catalogue.now.rules c.items-rules.result.now c.items.ensures c.items-rules.ensures (writes c.requires.entries.0)
+          c.requires.entries.3.derived,
+    ))
+    c.write_match.ensures
 
 pub returns-clause-accepted : goal.returns-clause-accepted
 returns-clause-accepted c =
-    let written = returns-clause-written c in (
-      written.0,
-      written.1,
-      written.2,
-      flat c.args.plan.now c.args.catalogue.now.fragments written.0 written.2 (c.plans_are_sound.ensures c.args.plan.now) c.queries_are_sound.ensures,
-      accepted _ c.args.entries.now c.in_ok-bytes.bytes written.3,
-    )
+    IfOk-weaker c.write_match.result _ _
+    (λ bytes (expanded, are, expands, writes). (
+      expanded,
+      are,
+      expands,
+      flat c.args.plan.now c.args.catalogue.now.fragments expanded expands (c.plans_are_sound.ensures c.args.plan.now) c.queries_are_sound.ensures,
+      accepted _ c.args.entries.now bytes writes,
+    ))
+    (returns-clause-written c)

@@ -1,15 +1,13 @@
-use Rattle.std.proofs.Common.{List, ◌≡◌, ◌++◌, length, map, None, subst, sym, ap, ◌∙◌, arith}
-use Rattle.std.specs.List.{AllZip}
+use Rattle.std.proofs.Common.{List, ◌≡◌, inl, inr, length, None, subst, refl, sym, ap, ◌∙◌, arith}
 use Rattle.std.proofs.lemmas.List.{length-append}
 use Rattle.std.proofs.lemmas.Result.{IfOk-weaker}
 use Rattle.esto_term.proofs.ListLemmas.{each_more, each_seen}
 use Rattle.esto_term.specs.declared.term.Term.{Term}
 use Rattle.esto_semantics.specs.declared.fact.Fact.{Fact}
-use Rattle.esto_chase_laws.specs.WorldMatches.{Fits, taken}
-use Rattle.esto_chase_laws.specs.Worlds.{InWorld, Linked}
+use Rattle.esto_chase_laws.specs.Worlds.{InWorld}
 use Rattle.esto_chase_laws.specs.declared.entry.Entry.{Entry}
 use Rattle.esto_derive.specs.Searching.{IsFound, IsFoundBy}
-use Rattle.esto_derive.proofs.FoundLemmas.{found_after, found_by, found_none, found_nothing, fits_row, row_of, unfit}
+use Rattle.esto_derive.proofs.FoundLemmas.{fits_then, found_by, found_if_one, found_none, found_nothing, row_of}
 use Rattle.esto_derive.proofs.searching.World.+find.Goals as goal
 
 pub find-entries-preserved : goal.find-entries-preserved
@@ -29,20 +27,8 @@ find-returns t c =
     (each_seen (λ (entry : Entry). IsFoundBy it.entries.now it.set.now c.args.from.now c.args.to.now c.in-Some.atom.now c.in-Some.rest.now entry None)
     it.entries.now c.entries.place (omega (arith, c.entries-test.false)) c.entries.invariant))
 
-pub find_after-returns-then-not-are_one : goal.find_after-returns-then-not-are_one
-find_after-returns-then-not-are_one t c =
-    let it = c.args.self.now in
-    unfit it.entries.now it.set.now c.args.from.now c.args.to.now c.requires.lengths c.args.atom.now c.args.rest.now c.args.fact.now
-    (λ row. let told = c.are_one.ensures.1 (subst (λ (its : List Term). AllZip (Linked (InWorld it.entries.now it.set.now)) its c.items-5.result.now)
-    (sym c.items-4.ensures)
-    ((row_of (InWorld it.entries.now it.set.now) c.items.result.now c.items-2.result.now c.args.from.now c.args.to.now c.args.atom.now.terms
-    c.args.fact.now.terms c.items-5.result.now
-    (c.items.ensures ∙ c.in_ok-longer.ensures) (c.items-2.ensures ∙ c.in_ok-met.ensures)
-    (c.items-5.ensures ∙ c.in_ok-wanted.ensures ∙ ap (map (taken c.items.result.now c.items-2.result.now)) c.items-3.ensures)).1 row)) in let not_told =
-    c.if-not-are_one.true in cc)
-
-pub find_after-find-requires : goal.find_after-find-requires
-find_after-find-requires t c =
+pub find_after-find_if_one-requires : goal.find_after-find_if_one-requires
+find_after-find_if_one-requires t c =
     let it = c.args.self.now in
     let lengths : length c.in_ok-longer.longer ≡ length c.in_ok-met.met =
     omega (
@@ -53,15 +39,7 @@ find_after-find-requires t c =
       length-append c.args.to.now c.args.fact.now.terms,
       c.requires.lengths,
       (sym c.len.ensures ∙ c.if-len.false ∙ c.len-else-fact-atom.ensures),
-    ) in
-    let row = (row_of (InWorld it.entries.now it.set.now) c.items.result.now c.items-2.result.now c.args.from.now c.args.to.now c.args.atom.now.terms
-    c.args.fact.now.terms c.items-5.result.now
-    (c.items.ensures ∙ c.in_ok-longer.ensures) (c.items-2.ensures ∙ c.in_ok-met.ensures)
-    (c.items-5.ensures ∙ c.in_ok-wanted.ensures ∙ ap (map (taken c.items.result.now c.items-2.result.now)) c.items-3.ensures)).0
-    (subst (λ (its : List Term). AllZip (Linked (InWorld it.entries.now it.set.now)) its c.items-5.result.now) c.items-4.ensures (c.are_one.ensures.0
-    c.if-not-are_one.false)) in
-    let fits = fits_row (InWorld it.entries.now it.set.now) c.args.from.now c.args.to.now c.requires.lengths c.args.atom.now c.args.fact.now
-    c.requires.fits row in (
+    ) in (
       omega (arith, c.decreases),
       (
         c.requires.counts,
@@ -69,9 +47,8 @@ find_after-find-requires t c =
           c.requires.joined,
           (
             lengths,
-            subst (λ (longer : List Term). Fits (Linked (InWorld it.entries.now it.set.now)) longer c.in_ok-met.met) (sym c.in_ok-longer.ensures)
-                (subst (λ (met : List Term). Fits (Linked (InWorld it.entries.now it.set.now)) (c.args.from.now ++ c.args.atom.now.terms) met) (sym
-                c.in_ok-met.ensures) fits),
+            fits_then (InWorld it.entries.now it.set.now) c.args.from.now c.args.to.now c.requires.lengths c.args.atom.now c.args.fact.now c.requires.fits
+                c.in_ok-longer.longer c.in_ok-met.met c.in_ok-longer.ensures c.in_ok-met.ensures,
           ),
         ),
       ),
@@ -80,13 +57,39 @@ find_after-find-requires t c =
 pub find_after-returns : goal.find_after-returns
 find_after-returns t c =
     let it = c.args.self.now in
-    IfOk-weaker c.find.result _ _
-    (λ places found. found_after it.entries.now it.set.now c.args.from.now c.args.to.now c.requires.lengths c.args.atom.now c.args.rest.now c.args.fact.now
+    IfOk-weaker c.find_if_one.result _ _
+    (λ places found. found_if_one it.entries.now it.set.now c.args.from.now c.args.to.now c.requires.lengths c.args.atom.now c.args.rest.now c.args.fact.now
     c.if-fact-atom.false (sym c.len.ensures ∙ c.if-len.false ∙ c.len-else-fact-atom.ensures) places
-    (subst (λ (longer : List Term). IsFound it.entries.now it.set.now longer (c.args.to.now ++ c.args.fact.now.terms) c.args.rest.now places)
-    c.in_ok-longer.ensures
-    (subst (λ (met : List Term). IsFound it.entries.now it.set.now c.in_ok-longer.longer met c.args.rest.now places) c.in_ok-met.ensures found)))
-    c.find.ensures
+    c.in_ok-longer.longer c.in_ok-met.met c.in_ok-longer.ensures c.in_ok-met.ensures found)
+    c.find_if_one.ensures
+
+pub find_if_one-find-requires : goal.find_if_one-find-requires
+find_if_one-find-requires t c =
+    let it = c.args.self.now in
+    let row = (row_of (InWorld it.entries.now it.set.now) c.args.from.now c.args.to.now c.args.terms.now c.args.others.now c.items.result.now c.items-2.result.now
+    c.items-3.result.now c.items-4.result.now c.in_ok-met.met c.items-5.result.now c.items.ensures c.items-2.ensures c.items-3.ensures c.items-4.ensures
+    c.in_ok-met.ensures c.items-5.ensures).0 (c.are_one.ensures.0 c.if-are_one.true) in (
+      omega (arith, c.decreases),
+      (c.requires.counts, (c.requires.joined, (c.requires.lengths, c.requires.fits row))),
+    )
+
+pub find_if_one-returns-then-are_one : goal.find_if_one-returns-then-are_one
+find_if_one-returns-then-are_one t c =
+    let it = c.args.self.now in
+    let row = (row_of (InWorld it.entries.now it.set.now) c.args.from.now c.args.to.now c.args.terms.now c.args.others.now c.items.result.now c.items-2.result.now
+    c.items-3.result.now c.items-4.result.now c.in_ok-met.met c.items-5.result.now c.items.ensures c.items-2.ensures c.items-3.ensures c.items-4.ensures
+    c.in_ok-met.ensures c.items-5.ensures).0 (c.are_one.ensures.0 c.if-are_one.true) in
+    IfOk-weaker c.find.result _ _ (λ places found. inl (row, found)) c.find.ensures
+
+pub find_if_one-returns : goal.find_if_one-returns
+find_if_one-returns t c =
+    let it = c.args.self.now in
+    inr (
+      (λ row. let told = c.are_one.ensures.1 ((row_of (InWorld it.entries.now it.set.now) c.args.from.now c.args.to.now c.args.terms.now c.args.others.now c.items.result.now c.items-2.result.now
+          c.items-3.result.now c.items-4.result.now c.in_ok-met.met c.items-5.result.now c.items.ensures c.items-2.ensures c.items-3.ensures c.items-4.ensures
+          c.in_ok-met.ensures c.items-5.ensures).1 row) in let not_told = c.if-are_one.false in cc),
+      refl,
+    )
 
 pub find_by-returns-in_ok-found-in-Fact : goal.find_by-returns-in_ok-found-in-Fact
 find_by-returns-in_ok-found-in-Fact t c =

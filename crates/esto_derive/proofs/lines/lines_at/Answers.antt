@@ -2,7 +2,7 @@ use Rattle.std.proofs.Common.{length, slice_get, refl, sym, ap, ◌∙◌, arith
 use Rattle.std.proofs.lemmas.Option.{slice_get_read}
 use Rattle.esto_derive.specs.Writing.{own_lines, lines_at}
 use Rattle.esto_derive.proofs.LoopLemmas.{flat_step, here_inside}
-use Rattle.esto_derive.proofs.writing.lines_at.Goals as goal
+use Rattle.esto_derive.proofs.lines.lines_at.Goals as goal
 
 pub offset_bounds-lines-place : goal.offset_bounds-lines-place
 offset_bounds-lines-place c =

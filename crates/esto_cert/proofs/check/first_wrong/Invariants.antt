@@ -1,6 +1,6 @@
 use Rattle.std.proofs.Common.{◌≡◌, ◌⊎◌, ◌<◌, ◌+◌, ℕ, Option, [], drop, map, length}
 use Rattle.esto_cert.specs.Judging.{case_of, Verdict}
-use Rattle.esto_cert.proofs.check.verdict.Given as goal
+use Rattle.esto_cert.proofs.check.first_wrong.Given as goal
 
 abbrev pub invariant-lines : goal.invariant-lines
 invariant-lines l =

@@ -2,7 +2,7 @@ use Rattle.std.proofs.Common.{List, ℕ, [], ◌∷◌, take, get_or, subst, sym
 use Rattle.std.proofs.lemmas.List.{take_more, take_all}
 use Rattle.esto_derive.specs.Writing.{AddsNew}
 use Rattle.esto_derive.proofs.LoopLemmas.{adds_then}
-use Rattle.esto_derive.proofs.writing.push_all_new.Goals as goal
+use Rattle.esto_derive.proofs.lines.push_all_new.Goals as goal
 
 pub more-preserved : goal.more-preserved
 more-preserved c =

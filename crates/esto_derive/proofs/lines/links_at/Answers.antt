@@ -3,7 +3,7 @@ use Rattle.std.proofs.lemmas.List.{take_all}
 use Rattle.std.proofs.lemmas.Option.{slice_get_read}
 use Rattle.esto_derive.specs.Writing.{own_lines, lines_at, AddsNew}
 use Rattle.esto_derive.proofs.LoopLemmas.{flat_taken, here_inside, adds_then}
-use Rattle.esto_derive.proofs.writing.links_at.Goals as goal
+use Rattle.esto_derive.proofs.lines.links_at.Goals as goal
 
 pub offset_bounds-lines-place : goal.offset_bounds-lines-place
 offset_bounds-lines-place c =
