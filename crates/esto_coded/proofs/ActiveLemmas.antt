@@ -145,7 +145,3 @@ mirrored_active coded first left shared lead rows seed codes are tell known answ
     (subst (λ (terms : List Term). AreCodedAnswers coded (record { head = terms; body = first }) rows) are answers) seed codes
     (subst (λ (terms : List Term). HaveApart (length terms) rows seed) are have) (subst (λ terms. Spreads coded terms first seed codes) are spreads)
     facts stand m keeps sends active term inside code stands
-
-pub turned_active : (coded : Coded) (body : List (Fact Term)) (left right : Term) (codes : List ℕ) → HaveActive coded (equality body left right) codes
-    → HaveActive coded (equality body right left) codes
-turned_active coded body left right codes have facts stand m keeps sends active = have facts stand m keeps sends (λ same. active (sym same))

@@ -9,3 +9,4 @@ pub mod MirrorLemmas
 pub mod ActiveLemmas
 pub mod PartLemmas
 pub mod SpreadLemmas
+pub mod VerdictLemmas

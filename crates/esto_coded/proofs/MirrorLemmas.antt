@@ -22,10 +22,10 @@ use Rattle.esto_chase_laws.proofs.JoinedLemmas.{joined_from}
 use Rattle.esto_chase_laws.proofs.MakingLemmas.{frontier_body, frontier_has}
 use Rattle.esto_coded.specs.Answered.{AreCodedAnswers}
 use Rattle.esto_coded.specs.Coded.{Coded, IsCodeOf, AreCodesOf, AreTelling}
-use Rattle.esto_coded.specs.Met.{StaysFor, AnswersWhether}
+use Rattle.esto_coded.specs.Met.{AnswersWhether}
 use Rattle.esto_rows.specs.Told.{IsContrary, AreTold}
 use Rattle.esto_coded.specs.Mirrored.{renamed, GoesOver, IsMirrored}
-use Rattle.esto_coded.proofs.MeetLemmas.{HaveTexts, answer_row, joint, joint_body, joint_other, one_terms, whether_before}
+use Rattle.esto_coded.proofs.MeetLemmas.{HaveTexts, answer_row, joint, joint_body, joint_other, one_terms}
 use Rattle.esto_coded.proofs.StandLemmas.{one_term, one_code, one_codes}
 
 -- ---- what stands for a term
@@ -236,16 +236,6 @@ head_fixed first second left right shared is term inside = elim (Contains-cases 
   | inr later ↦ inr (is.own term later)
 ]
 
--- what a call tells of the rules
-pub mirrored_told : (old coded : Coded) → StaysFor old coded → (first : List (Fact Term)) (left : Term) (shared head : List Term) → head ≡ left ∷ shared
-    → (rows : List (List ℕ)) → AreTelling coded.texts → HaveTexts coded.texts head → AreCodedAnswers coded (record { head = head; body = first }) rows
-    → (answer : Bool) → IsTrue answer ↔ AreTold rows → (second : List (Fact Term)) (right : Term) → IsMirrored first second left right shared
-    → AnswersWhether old (equality (first ++ second) left right) answer
-mirrored_told old coded stays first left shared head same rows tell known answers answer told second right is =
-    whether_before (equality (first ++ second) left right) old coded answer stays
-    (mirrored_answered coded first second left right shared is rows answer tell (subst (HaveTexts coded.texts) same known)
-    (head_fixed first second left right shared is) (subst (λ terms. AreCodedAnswers coded (record { head = terms; body = first }) rows) same answers) told)
-
 pub front_flat : (first second body : List (Fact Term)) → first ++ second ≡ body → AreFlat body → AreFlat first
 front_flat first second body is flat term (atom, inside, among) =
     flat term (atom, subst (λ atoms. Contains atoms atom) is (Contains-append_left first second atom inside), among)
@@ -262,10 +252,3 @@ turned_rule body left right is = record {
   left_fixed = is.right_fixed;
   right_fixed = is.left_fixed;
 }
-
-pub turned_answer : (coded : Coded) (body : List (Fact Term)) (left right : Term) (answer : Bool) → AnswersWhether coded (equality body left right) answer
-    → AnswersWhether coded (equality body right left) answer
-turned_answer coded body left right answer whether facts stand = (
-  λ yes m keeps sends. sym ((whether facts stand).0 yes m keeps sends),
-  λ met. (whether facts stand).1 (λ m keeps sends. sym (met m keeps sends)),
-)

@@ -11,7 +11,7 @@ use Rattle.std.proofs.lemmas.List.Elements.{filter-append}
 use Rattle.std.proofs.lemmas.Option.{same_Some, slice_get_cases}
 use Rattle.esto_term.specs.declared.term.Term.{Term}
 use Rattle.esto_term.specs.declared.term.Term.TheVariants.{Const}
-use Rattle.esto_term.proofs.ListLemmas.{Contains-nil, Contains-head, Contains-rest, Contains-cases, Contains-at, Contains-map, Contains-map_from, Contains-filter, Contains-filter_from}
+use Rattle.esto_term.proofs.ListLemmas.{Contains-nil, Contains-head, Contains-rest, Contains-cases, Contains-at, Contains-map, Contains-map_from, Contains-filter, Contains-filter_from, thing_at}
 use Rattle.esto_term.proofs.PlaceLemmas.{earlier_or_last, take-there}
 use Rattle.esto_term.proofs.ZipLemmas.{zip_left, zip_right}
 use Rattle.esto_columns.specs.CodedRows.{CodedRows}
@@ -67,6 +67,18 @@ pub kept_none : (texts : List (List ℕ)) (codes : List ℕ) (number : ℕ) (row
     → facts ≡ facts ++ kept_facts texts codes number (row ∷ [])
 kept_none texts codes number row facts told =
     sym (append-nil facts) ∙ ap (λ them. facts ++ map (fact_of texts number) them) (sym (ap (λ it. cond it (row ∷ []) []) told))
+
+-- the same of the row at a place
+pub kept_past : (texts : List (List ℕ)) (codes : List ℕ) (number : ℕ) (rows : List (List ℕ)) (at : ℕ) (facts : List (Fact Term)) (answer : Bool)
+    → at < length rows → ((row : List ℕ) → slice_get rows at ≡ Some row → IsTrue (are_among codes row) → IsTrue answer) → answer ≡ false
+    → (own : List ℕ) × (slice_get rows at ≡ Some own) × (facts ≡ facts ++ kept_facts texts codes number (own ∷ []))
+kept_past texts codes number rows at facts answer within told is =
+    let own = thing_at rows at within in
+    (own.0, own.1, kept_none texts codes number own.0 facts (by (are_among codes own.0) (told own.0 own.1)))
+  where
+    by : (test : Bool) → (IsTrue test → IsTrue answer) → test ≡ false
+    by true told = absurd (false≢true (sym is ∙ told refl))
+    by false told = refl
 
 pub kept_one : (texts : List (List ℕ)) (codes : List ℕ) (number : ℕ) (row : List ℕ) (facts : List (Fact Term)) (terms : List Term)
     → are_among codes row ≡ true

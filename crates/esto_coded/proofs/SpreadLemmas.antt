@@ -1,5 +1,5 @@
 -- Codes that spread from some terms of a match to all terms of its atoms.
-use Rattle.std.proofs.Common.{◌≡◌, inl, inr, ℕ, ◌+◌, ◌≤◌, Bool, false, List, [], ◌∷◌, ◌++◌, map, length, take, Some, slice_get, Contains, sym, ◌∙◌}
+use Rattle.std.proofs.Common.{◌≡◌, inl, inr, ℕ, ◌+◌, ◌<◌, ◌≤◌, Bool, false, List, [], ◌∷◌, ◌++◌, map, length, take, Some, slice_get, Contains, sym, ◌∙◌}
 use Rattle.std.proofs.Common.{subst, IsTrue, Option, None, Result, Ok, Err}
 use Rattle.std.specs.Prelude.{nat_eq, IfSome}
 use Rattle.std.specs.Result.{IfOk}
@@ -9,7 +9,7 @@ use Rattle.std.proofs.lemmas.List.{length-map, take_all}
 use Rattle.std.proofs.lemmas.List.Elements.{Contains-append_left, Contains-append_right, Contains-push_cases}
 use Rattle.esto_term.specs.declared.list.OutOfMemory.{OutOfMemory}
 use Rattle.esto_term.specs.declared.term.Term.{Term}
-use Rattle.esto_term.proofs.ListLemmas.{Contains-nil, Contains-head, Contains-one, Contains-map, map_at}
+use Rattle.esto_term.proofs.ListLemmas.{Contains-nil, Contains-head, Contains-one, Contains-map, map_at, thing_at}
 use Rattle.esto_term.proofs.PlaceLemmas.{take-there}
 use Rattle.esto_term.proofs.ZipLemmas.{zip_both, zip_left, zip_length}
 use Rattle.esto_columns.specs.declared.stored.StoredRows.{StoredRows}
@@ -51,6 +51,13 @@ passing_not columns row codes answer told is = record {
       absurd (false≢true (sym is ∙ told (subst (λ it. Passes columns it codes) (sym (Contains-one row own inside)) passes)));
   stay = λ other among. among;
 }
+
+-- the same of the row at a place
+pub passing_past : (columns : List ℕ) (rows : List (List ℕ)) (at : ℕ) (codes : List ℕ) (answer : Bool) → at < length rows
+    → ((row : List ℕ) → slice_get rows at ≡ Some row → Passes columns row codes → IsTrue answer) → answer ≡ false
+    → (own : List ℕ) × (slice_get rows at ≡ Some own) × TakesPassing columns (own ∷ []) codes codes
+passing_past columns rows at codes answer within told is =
+    let own = thing_at rows at within in (own.0, own.1, passing_not columns own.0 codes answer (told own.0 own.1) is)
 
 pub passing_one : (columns row old new : List ℕ) → TakesIn row old new → TakesPassing columns (row ∷ []) old new
 passing_one columns row old new takes = record {

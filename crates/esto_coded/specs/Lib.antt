@@ -2,6 +2,7 @@ pub mod Coded
 pub mod Answered
 pub mod Relations
 pub mod Shown
+pub mod Verdict
 pub mod Met
 pub mod Whole
 pub mod Mirrored

@@ -9,6 +9,7 @@ use Rattle.esto_semantics.specs.Rules.{Rule}
 use Rattle.esto_semantics.specs.declared.fact.Fact.{Fact}
 use Rattle.esto_rows.specs.Wanted.{are_among}
 use Rattle.esto_coded.specs.Coded.{Coded, StandInOrder, facts_over, rows_in}
+use Rattle.esto_coded.specs.Spread.{Spreads}
 use Rattle.esto_coded.specs.declared.coded.TheConstants.{FIRST_NODE}
 
 -- The constant of the text that a code has, or else a plain term by how far the code is past the first code of a node.
@@ -45,6 +46,10 @@ pub record ArePartBelow (texts : List (List ℕ)) (relations : List CodedRows) (
 -- The facts over each relation are those that are asked of its rows.
 abbrev pub ArePart : Coded → List (Fact Term) → List ℕ → List (Fact Term) → Type 0
 ArePart coded atoms codes facts = (number : ℕ) → facts_over number facts ≡ asked_facts coded.texts atoms codes number (rows_in coded.relations number)
+
+-- The facts are the part for the atoms of the body by codes that spread from these over the other atoms, beginning with the leading terms.
+abbrev pub IsSpreadPart : Coded → List Term → List (Fact Term) → List (Fact Term) → List ℕ → List (Fact Term) → Type 0
+IsSpreadPart coded lead over body seed facts = (codes : List ℕ) × Spreads coded lead over seed codes × ArePart coded body codes facts
 
 -- What is answered, if anything, is a part for the rule of all facts for which the rows stand in order.
 abbrev pub GivesPart : Coded → Rule → Option (List (Fact Term)) → Type 0

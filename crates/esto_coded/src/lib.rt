@@ -6,6 +6,7 @@ mod answers;
 mod coded;
 mod facts;
 mod indexes;
+mod judging;
 mod meets;
 mod mirrored;
 mod parted;
@@ -14,7 +15,9 @@ mod relations;
 mod shown;
 mod spread;
 mod steps;
+mod verdict;
 
 pub use coded::{CodedFacts, FIRST_NODE, rows_in_order_stand_for_facts};
 pub use relations::put_rows;
 pub use shown::least_node;
+pub use verdict::Verdict;

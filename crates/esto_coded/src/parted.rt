@@ -1,5 +1,6 @@
 //! A part of the facts: those rows all of whose codes are among some codes, as facts over terms.
-ghost use Rattle.std.specs.Prelude.{◌≡◌, ◌<◌, ◌∷◌, [], ◌++◌, ℕ, List, length, map, slice_get, Some, IfOk, OnOk};
+ghost use Rattle.std.specs.Prelude.{◌≡◌, ◌<◌, ◌∷◌, [], ◌++◌, ℕ, List, length, map, slice_get, Some, IsTrue, IfOk, OnOk};
+ghost use Rattle.esto_rows.specs.Wanted.{are_among};
 ghost use Rattle.esto_coded.specs.Coded.{rows_in};
 ghost use Rattle.esto_coded.specs.Parted.{ArePart, ArePartBelow, asked_facts, fact_of, is_asked, kept_facts, term_of};
 ghost use Rattle.esto_coded.specs.Relations.{coded_of};
@@ -65,7 +66,19 @@ fn put_row(
     })
 }
 
-/// The same of the row at the place, which is read into the list.
+/// Whether the row at the place may have all its codes in the set, by its first one alone.
+fn may_have(rows: &Rows, at: usize, set: &CodeSet) -> bool
+    requires { at < length rows.now.rows }
+    ensures { (row : List ℕ) → slice_get rows.now.rows at ≡ Some row
+        → IsTrue (are_among set.now row) → IsTrue result }
+{
+    match rows.code(at, 0) {
+        Some(code) => set.has(code),
+        None => true,
+    }
+}
+
+/// The same of the row at the place, which is read into the list where it may have them.
 fn put_at(
     alloc: Global,
     number: usize,
@@ -80,6 +93,9 @@ fn put_at(
     ensures { OnOk result ((own : List ℕ) × (slice_get rows.now.rows at ≡ Some own)
         × (facts.new ≡ facts.old ++ kept_facts codes.now set.now number (own ∷ []))) }
 {
+    if !may_have(rows, at, set) {
+        return Ok(());
+    }
     rows.read_row(at, row)?;
     put_row(alloc, number, row.items(), codes, set, facts)
 }

@@ -1,9 +1,9 @@
 //! Relations of rows of codes.
-ghost use Rattle.std.specs.Prelude.{◌≡◌, ◌<◌, ◌++◌, ◌∷◌, [], length, map, slice_index_or, IfOk, OnOk};
+ghost use Rattle.std.specs.Prelude.{◌≡◌, ◌++◌, map, IfOk, OnOk};
 ghost use Rattle.esto_coded.specs.Relations.{no_rows};
 
 use esto_columns::{Rows, StoredRows};
-use esto_term::{List, OutOfMemory, Places, Values};
+use esto_term::{List, OutOfMemory, Places};
 use std::alloc::Global;
 
 /// A relation of the arity, with no rows, that is asked as a whole.
@@ -30,38 +30,6 @@ pub(crate) fn no_relations(alloc: Global, arities: &[usize]) -> Result<Vec<Store
     Ok(relations)
 }
 
-/// Puts the row at the place after the others. It is read into the list.
-fn add_row(
-    rows: &Rows,
-    at: usize,
-    row: &mut Values<u64>,
-    into: &mut Rows,
-) -> Result<(), OutOfMemory>
-    requires there { at < length rows.now.rows }
-    requires arity { into.old.arity ≡ rows.now.arity }
-    ensures { OnOk result (into.new ≡ record {
-      arity = into.old.arity;
-      rows = into.old.rows ++ slice_index_or rows.now.rows at [] ∷ [];
-    }) }
-{
-    let _arity = rows.arity();
-    rows.read_row(at, row)?;
-    into.add(row.items())
-}
-
-/// Puts the rows after the others, one by one.
-fn add_each(alloc: Global, rows: &Rows, into: &mut Rows) -> Result<(), OutOfMemory>
-    requires { into.old.arity ≡ rows.now.arity }
-    ensures { OnOk result (into.new
-        ≡ record { arity = into.old.arity; rows = into.old.rows ++ rows.now.rows }) }
-{
-    let mut row = Values::new(alloc);
-    'rows: for at in 0..rows.len() {
-        add_row(rows, at, &mut row, into)?;
-    }
-    Ok(())
-}
-
 /// Puts the rows after the others; where there are no others they are moved and not copied.
 pub fn put_rows(alloc: Global, rows: Rows, into: &mut Rows) -> Result<(), OutOfMemory>
     requires { into.old.arity ≡ rows.arity }
@@ -72,5 +40,5 @@ pub fn put_rows(alloc: Global, rows: Rows, into: &mut Rows) -> Result<(), OutOfM
         *into = rows;
         return Ok(());
     }
-    add_each(alloc, &rows, into)
+    into.add_all(alloc, &rows)
 }

@@ -2,13 +2,13 @@
 //! relation are passed over once, and none are joined.
 ghost use Rattle.std.specs.Prelude.{◌≡◌, ◌<◌, ◌∷◌, [], ℕ, List, Some, length, map, slice_get, nat_eq, IsTrue, IfOk, IfSome, OnOk};
 ghost use Rattle.std.specs.Set.{is_member};
-ghost use Rattle.esto_semantics.specs.Facts.{Mentions};
 ghost use Rattle.esto_coded.specs.Coded.{rows_in};
 ghost use Rattle.esto_coded.specs.Relations.{coded_of};
 ghost use Rattle.esto_coded.specs.Spread.{AreReached, IsReached, Passes, Reaches, Spreads, TakesPassing};
 
 use crate::answers::is_over;
 use esto_columns::{Rows, StoredRows};
+use esto_query::mentions;
 use esto_rows::CodeSet;
 use esto_semantics::Atom;
 use esto_term::{OutOfMemory, Places, Term, Values, has_term};
@@ -16,18 +16,6 @@ use std::alloc::Global;
 
 /// Codes are few where there are no more.
 const MANY_CODES: usize = 65_536;
-
-/// Whether the term stands in one of the atoms.
-fn is_mentioned(atoms: &[Atom], term: &Term) -> bool
-    ensures { IsTrue result → Mentions atoms.now term.now }
-{
-    'atoms: for atom in atoms {
-        if has_term(atom.terms.items(), term) {
-            return true;
-        }
-    }
-    false
-}
 
 /// Whether the term is no constant, and is one of the leading ones or stands in one of the atoms.
 fn is_reached(lead: &[Term], before: &[Atom], term: &Term) -> bool
@@ -39,7 +27,7 @@ fn is_reached(lead: &[Term], before: &[Atom], term: &Term) -> bool
     if has_term(lead, term) {
         return true;
     }
-    is_mentioned(before, term)
+    mentions(before, term)
 }
 
 /// Puts the column at the end, if its term is reached.
@@ -109,7 +97,22 @@ fn take_row(columns: &[usize], row: &[u64], set: &mut CodeSet) -> Result<(), Out
     set.add_all(row)
 }
 
-/// The same of the row at the place, which is read into the list.
+/// Whether the row at the place may pass, by its code in the first of the columns alone.
+fn may_pass(columns: &[usize], rows: &Rows, at: usize, set: &CodeSet) -> bool
+    requires { at < length rows.now.rows }
+    ensures { (row : List ℕ) → slice_get rows.now.rows at ≡ Some row
+        → Passes columns.now row set.now → IsTrue result }
+{
+    let Some(column) = columns.first() else {
+        return true;
+    };
+    match rows.code(at, *column) {
+        Some(code) => set.has(code),
+        None => true,
+    }
+}
+
+/// Adds the codes of the row at the place, which is read into the list where it may pass, if it passes.
 fn take_at(
     columns: &[usize],
     rows: &Rows,
@@ -121,6 +124,9 @@ fn take_at(
     ensures { OnOk result ((own : List ℕ) × (slice_get rows.now.rows at ≡ Some own)
         × TakesPassing columns.now (own ∷ []) set.old set.new) }
 {
+    if !may_pass(columns, rows, at, set) {
+        return Ok(());
+    }
     rows.read_row(at, row)?;
     take_row(columns, row.items(), set)
 }

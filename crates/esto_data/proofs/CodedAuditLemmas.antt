@@ -1,17 +1,25 @@
 -- Rules and rows of fragments over rows of codes.
-use Rattle.std.proofs.Common.{◌≡◌, ◌↔◌, ◌<◌, ◌≤◌, ◌+◌, inl, inr, ℕ, Bool, true, false, List, [], length, get_or, take, Option, Some, slice_get, Contains, refl, sym, ◌∙◌, IsTrue, None, arith}
+use Rattle.std.proofs.Common.{◌≡◌, ◌↔◌, ◌<◌, ◌≤◌, ◌+◌, inl, inr, ℕ, Bool, true, false, List, [], length, get_or, take, Option, Some, slice_get, Contains, refl, sym, ◌∙◌, subst, IsTrue, None, Result, Ok, Err, arith}
 use Rattle.std.proofs.lemmas.Bool.{false≢true}
+use Rattle.std.specs.Prelude.{IfSome}
+use Rattle.std.specs.Result.{IfOk}
+use Rattle.esto_coded.specs.Coded.{StandFor, StandInOrder}
+use Rattle.esto_coded.specs.Verdict.{Tells, given_part}
+use Rattle.esto_coded.specs.declared.verdict.Verdict.{Verdict}
+use Rattle.esto_coded.specs.declared.verdict.Verdict.TheVariants.{Met, Broken}
 use Rattle.esto_columns.specs.CodedRows.{CodedRows}
 use Rattle.esto_columns.specs.Interned.{AreCodedRows}
 use Rattle.esto_constraint.specs.Constraints.{rule_of, rules_of}
 use Rattle.esto_constraint.specs.declared.rule.Constraint.{Constraint}
 use Rattle.esto_query.specs.Making.{query_of}
+use Rattle.esto_relmodel.specs.Parts.{IsPartFor}
 use Rattle.esto_semantics.specs.Queries.{ConjunctiveQuery, IsAnswer}
 use Rattle.esto_semantics.specs.Rules.{AreRules, IsMet, Rule}
 use Rattle.esto_semantics.specs.Standing.{RulesStand}
 use Rattle.esto_semantics.specs.declared.fact.Fact.{Fact}
 use Rattle.esto_steps.specs.Rows.{IsRowOf, held_by}
 use Rattle.esto_stores.specs.Rows.{Row}
+use Rattle.esto_term.specs.declared.list.OutOfMemory.{OutOfMemory}
 use Rattle.esto_term.proofs.ListLemmas.{holds_more, map_at, thing_at}
 use Rattle.esto_term.proofs.PlaceLemmas.{item_at}
 use Rattle.esto_term.specs.declared.term.Term.{Term}
@@ -19,10 +27,10 @@ use Rattle.esto_views.specs.Fragments.{views_of}
 use Rattle.esto_views.specs.declared.fragments.FragmentDef.{FragmentDef}
 use Rattle.esto_data.specs.CodedParts.{Stays}
 use Rattle.esto_data.specs.Coding.{AreCodedLists, IsCodedOf}
-use Rattle.esto_data.specs.Disagreeing.{FindsDisagreement, FindsUnlike, IsFirstUnpassed}
+use Rattle.esto_data.specs.Disagreeing.{FindsDisagreement, FindsUnlike, FindsUnpassed, IsFirstUnpassed, JudgesTried}
 use Rattle.esto_fill.specs.Databases.{database_of}
 use Rattle.esto_fill.specs.Differences.{Agree, HoldViewRows}
-use Rattle.esto_fill.specs.Judging.{ArePassed, IsPassed}
+use Rattle.esto_fill.specs.Judging.{ArePassed}
 use Rattle.esto_fill.specs.Texts.{AreExactly}
 use Rattle.esto_fill.specs.Trials.{IsEnough}
 use Rattle.esto_data.specs.declared.coded_audit.Disagreement.{Disagreement}
@@ -31,6 +39,7 @@ use Rattle.esto_data.specs.declared.coded_data.CodedData.{CodedData}
 use Rattle.esto_fill.specs.declared.loaded.Loaded.{Loaded}
 use Rattle.esto_data.proofs.CodedRowLemmas.{stays_itself, stays_on}
 use Rattle.esto_data.proofs.CodedViewLemmas.{HoldBelow, exact_from, hold_all, list_at, lists_long}
+use Rattle.esto_data.proofs.PartLemmas.{part_moves}
 use Rattle.esto_fill.proofs.TrialLemmas.{fragments_all, rules_met}
 use Rattle.esto_fill.proofs.TriedLemmas.{passed_all, passed_more}
 
@@ -45,18 +54,37 @@ told_false never = ((λ wrong. absurd (false≢true wrong)), (λ its. absurd (ne
 
 module _ (laws : List Rule) (facts : List (Fact Term)) (rule : Rule) where
   -- a law is passed
-  pub law_passed : Contains laws rule → IsTrue true ↔ IsPassed laws facts rule
-  law_passed law = told_true (inl law)
+  pub law_judged : Contains laws rule → JudgesTried laws facts rule Met
+  law_judged law = record { passed = inl law; part = tt }
 
   -- another rule where it is met
-  pub met_passed : ¬ (Contains laws rule) → (met : Bool) → IsTrue met ↔ IsMet facts rule → IsTrue met ↔ IsPassed laws facts rule
-  met_passed tried met both = (
-    (λ so. inr (tried, both.0 so)),
-    (λ passed. elim passed [
-      | inl law ↦ absurd (tried law)
-      | inr its ↦ both.1 its.1
-    ]),
-  )
+  pub rule_judged : ¬ (Contains laws rule) → (verdict : Verdict) → Tells verdict (IsMet facts rule) → IfSome (given_part verdict) (IsPartFor rule facts)
+      → JudgesTried laws facts rule verdict
+  rule_judged tried Met met part = record { passed = inr (tried, met); part = tt }
+  rule_judged tried (Broken given) unmet part = record {
+    passed = λ passed. elim passed [
+      | inl law ↦ tried law
+      | inr its ↦ unmet its.1
+    ];
+    part = part;
+  }
+
+-- a part for the rule of all facts that were put is one of those that are loaded
+pub part_loaded : (coded : CodedData) (rule : Rule) (given : Option (List (Fact Term)))
+    → IfSome given (λ part. (all : List (Fact Term)) → StandInOrder coded.facts all → IsPartFor rule all part) → (loaded : Loaded) → IsCodedOf loaded coded
+    → IfSome given (IsPartFor rule loaded.facts)
+part_loaded coded rule None told loaded its = tt
+part_loaded coded rule (Some part) told loaded its =
+    let (all, ordered, keep) = its.ordered in part_moves rule all loaded.facts part keep (told all ordered)
+
+-- so the verdict on a rule that is tried is that on what is loaded
+pub tried_judged : (laws : List Rule) (rule : Rule) (coded : CodedData) → ¬ (Contains laws rule) → (result : Result Verdict OutOfMemory)
+    → IfOk result (λ it. (facts : List (Fact Term)) → StandFor coded.facts facts → Tells it (IsMet facts rule))
+    → IfOk result (λ it. IfSome (given_part it) (λ part. (all : List (Fact Term)) → StandInOrder coded.facts all → IsPartFor rule all part))
+    → IfOk result (λ it. (loaded : Loaded) → IsCodedOf loaded coded → JudgesTried laws loaded.facts rule it)
+tried_judged laws rule coded tried (Ok verdict) met part = λ loaded its.
+    rule_judged laws loaded.facts rule tried verdict (met loaded.facts its.stand) (part_loaded coded rule (given_part verdict) part loaded its)
+tried_judged laws rule coded tried (Err error) met part = tt
 
 -- where the loop over the rules stands: those so far are passed
 pub record RulesSoFar (old new : CodedData) (laws : List Rule) (rules : List Constraint) (count : ℕ) : Type 0 where
@@ -73,27 +101,30 @@ rules_start coded laws rules = record {
     none rule (place, below, at) = omega (arith, below)
 
 module _ (old middle new : CodedData) (laws : List Rule) (rules : List Constraint) (count : ℕ) (rule : Constraint) (within : count < length rules)
-    (read : rule ≡ get_or rules count rule) (before : RulesSoFar old middle laws rules count) (step : Stays middle new) (answer : Bool)
-    (told : (loaded : Loaded) → IsCodedOf loaded middle → IsTrue answer ↔ IsPassed laws loaded.facts (rule_of rule)) where
-  pub rules_goes : answer ≡ true → RulesSoFar old new laws rules (count + 1)
-  rules_goes so = record {
+    (read : rule ≡ get_or rules count rule) (before : RulesSoFar old middle laws rules count) (step : Stays middle new) (verdict : Verdict)
+    (told : (loaded : Loaded) → IsCodedOf loaded middle → JudgesTried laws loaded.facts (rule_of rule) verdict) where
+  pub rules_goes : verdict ≡ Met → RulesSoFar old new laws rules (count + 1)
+  rules_goes is = record {
     stays = stays_on old middle new before.stays step;
     passed = λ loaded its.
-        passed_more laws loaded.facts rules count rule (item_at rules count rule within read) ((told loaded (before.stays.kept loaded its)).0 so)
+        passed_more laws loaded.facts rules count rule (item_at rules count rule within read)
+        (subst (JudgesTried laws loaded.facts (rule_of rule)) is (told loaded (before.stays.kept loaded its))).passed
         (before.passed loaded its);
   }
 
-  pub rules_stop : answer ≡ false → (loaded : Loaded) → IsCodedOf loaded old → IsFirstUnpassed laws (rules_of rules) loaded.facts count
-  rules_stop apart loaded its =
-      let failed : ¬ (IsPassed laws loaded.facts (rule_of rule)) =
-      λ passed. false≢true (sym apart ∙ (told loaded (before.stays.kept loaded its)).1 passed) in
-      let tried : ¬ (Contains laws (rule_of rule)) = λ law. failed (inl law) in
+  pub rules_stop : (given : Option (List (Fact Term))) → verdict ≡ Broken given → (loaded : Loaded) → IsCodedOf loaded old
+      → IsFirstUnpassed laws (rules_of rules) loaded.facts count given
+  rules_stop given is loaded its =
+      let judged : JudgesTried laws loaded.facts (rule_of rule) (Broken given) =
+      subst (JudgesTried laws loaded.facts (rule_of rule)) is (told loaded (before.stays.kept loaded its)) in
+      let tried : ¬ (Contains laws (rule_of rule)) = λ law. judged.passed (inl law) in
       record {
         rule = rule_of rule;
         there = map_at rule_of rules count rule (item_at rules count rule within read);
         tried = tried;
-        unmet = λ met. failed (inr (tried, met));
+        unmet = λ met. judged.passed (inr (tried, met));
         before = before.passed loaded its;
+        part = judged.part;
       }
 
 pub rules_end : (old new : CodedData) (laws : List Rule) (rules : List Constraint) (count : ℕ) → length rules ≤ count → RulesSoFar old new laws rules count
@@ -153,11 +184,16 @@ fragments_end old new rows fragments count many past before loaded its lists are
 -- ---- both
 
 module _ (laws rules : List Rule) (views : List ConjunctiveQuery) (facts : List (Fact Term)) (lists : List (List Row)) where
+  -- what is found of the rules is found of all
+  pub rule_found : (found : Disagreement) → FindsUnpassed laws rules facts (Some found) → FindsDisagreement laws rules views facts lists (Some found)
+  rule_found (disagreement.Rule number given) first = first
+  rule_found disagreement.Rows never = absurd never
+
   -- where each rule is passed, what is found of the fragments is found of all
   pub all_found : (outcome : Option Disagreement) → ArePassed laws facts rules → FindsUnlike views facts lists outcome
       → FindsDisagreement laws rules views facts lists outcome
   all_found None passed hold = (passed, hold)
-  all_found (Some (disagreement.Rule number)) passed never = absurd never
+  all_found (Some (disagreement.Rule number given)) passed never = absurd never
   all_found (Some disagreement.Rows) passed unlike = (passed, unlike)
 
 -- so facts of which these are enough agree with the rows

@@ -11,23 +11,23 @@ ghost use Rattle.esto_term.specs.declared.term.Term.{Term};
 ghost use Rattle.esto_views.specs.Fragments.{views_of};
 ghost use Rattle.esto_data.specs.CodedParts.{Stays};
 ghost use Rattle.esto_data.specs.Coding.{AreCodedLists, IsCoded, IsCodedOf};
-ghost use Rattle.esto_data.specs.Disagreeing.{FindsDisagreement, FindsUnlike, FindsUnpassed};
+ghost use Rattle.esto_data.specs.Disagreeing.{FindsDisagreement, FindsUnlike, FindsUnpassed, JudgesTried};
 ghost use Rattle.esto_fill.specs.Databases.{database_of};
 ghost use Rattle.esto_fill.specs.Differences.{Agree, HoldViewRows};
-ghost use Rattle.esto_fill.specs.Judging.{IsPassed};
 ghost use Rattle.esto_fill.specs.Texts.{AreExactly};
 ghost use Rattle.esto_fill.specs.Trials.{IsEnoughFor};
 ghost use Rattle.esto_fill.specs.declared.loaded.Loaded.{Loaded};
 
 use crate::coded_answering::rows_of;
 use crate::coded_data::CodedData;
+use esto_coded::Verdict;
 use esto_columns::Rows;
 use esto_constraint::{Constraint, Rules, rules_are_sound};
 use esto_fill::{facts_stand_as_databases, is_law, loaded_facts_are_flat};
 use esto_mapping::Catalogue;
 use esto_query::{Query, queries_are_sound};
 use esto_rows::hold_same;
-use esto_semantics::databases_stand_for_facts;
+use esto_semantics::{Facts, databases_stand_for_facts};
 use esto_term::{List, OutOfMemory};
 use esto_views::FragmentDef;
 use std::alloc::Global;
@@ -36,45 +36,47 @@ use std::alloc::Global;
 pub type CodedRowsList = List<Rows>;
 
 /// Where facts and the rows of fragments do not agree.
-#[derive(Clone, Copy)]
+#[derive(Drop)]
 pub enum Disagreement {
-    /// The rule of this number, counted from 0, is the first that is neither one of the laws nor met.
-    Rule(usize),
+    /// The rule of this number, counted from 0, is the first that is neither one of the laws nor met. With it may come a
+    /// part of the facts that has those of its active matches.
+    Rule(usize, Option<Facts>),
     /// Each rule is one of the laws or met, and a fragment has other rows than its view.
     Rows,
 }
 
-// Whether the rule is one of the laws, or is met.
-fn is_passed(
+// The verdict on the rule, which counts as met where it is one of the laws.
+fn judge_tried(
     alloc: Global,
     rule: &Constraint,
     laws: &[Constraint],
     coded: &mut CodedData,
-) -> Result<bool, OutOfMemory>
-    ensures passed { IfOk result (λ it. (loaded : Loaded) → IsCodedOf loaded coded.old
-        → IsTrue it ↔ IsPassed (rules_of laws.now) loaded.facts (rule_of rule.now)) }
+) -> Result<Verdict, OutOfMemory>
+    ensures judged { IfOk result (λ it. (loaded : Loaded) → IsCodedOf loaded coded.old
+        → JudgesTried (rules_of laws.now) loaded.facts (rule_of rule.now) it) }
     ensures stays { Stays coded.old coded.new }
 {
     if is_law(rule, laws) {
-        return Ok(true);
+        return Ok(Verdict::Met);
     }
-    coded.facts.meets(alloc, rule)
+    coded.facts.judge(alloc, rule)
 }
 
-// The number of the first of the rules that is neither one of the laws nor met.
+// The first of the rules that is neither one of the laws nor met.
 fn first_unpassed(
     alloc: Global,
     rules: &[Constraint],
     laws: &[Constraint],
     coded: &mut CodedData,
-) -> Result<Option<usize>, OutOfMemory>
+) -> Result<Option<Disagreement>, OutOfMemory>
     ensures found { IfOk result (λ it. (loaded : Loaded) → IsCodedOf loaded coded.old
         → FindsUnpassed (rules_of laws.now) (rules_of rules.now) loaded.facts it) }
     ensures stays { Stays coded.old coded.new }
 {
     'rules: for (number, rule) in rules.iter().enumerate() {
-        if !is_passed(alloc, rule, laws, coded)? {
-            return Ok(Some(number));
+        match judge_tried(alloc, rule, laws, coded)? {
+            Verdict::Met => {}
+            Verdict::Broken(part) => return Ok(Some(Disagreement::Rule(number, part))),
         }
     }
     Ok(None)
@@ -144,9 +146,10 @@ fn unlike_rows(
 }
 
 /// Where the facts that the rows of codes stand for and the rows of the fragments do not agree: the first rule of the
-/// catalogue that is none of the laws and that the facts do not meet; or else that a fragment has other rows than its
-/// view over them. None comes exactly where all agree. The laws are not tried. So where facts meet the laws, and the
-/// rows of codes stand for enough of them, they agree with the rows of the fragments.
+/// catalogue that is none of the laws and that the facts do not meet, with the part of them that comes with the verdict
+/// on it; or else that a fragment has other rows than its view over them. None comes exactly where all agree. The laws
+/// are not tried. So where facts meet the laws, and the rows of codes stand for enough of them, they agree with the rows
+/// of the fragments.
 pub fn first_disagreement(
     alloc: Global,
     catalogue: &Catalogue,
@@ -172,7 +175,7 @@ pub fn first_disagreement(
     databases_stand_for_facts();
     rules_are_sound();
     match first_unpassed(alloc, catalogue.rules.items(), laws.items(), coded)? {
-        Some(number) => Ok(Some(Disagreement::Rule(number))),
+        Some(found) => Ok(Some(found)),
         None => unlike_rows(alloc, catalogue.fragments.items(), rows, coded),
     }
 }

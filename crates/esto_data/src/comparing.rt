@@ -1,5 +1,5 @@
 //! Whether the facts and the rows of all fragments agree, and the first difference.
-ghost use Rattle.std.specs.Prelude.{◌≡◌, ◌<◌, ◌++◌, ◌∷◌, [], ◌↔◌, ℕ, List, length, Contains, IfOk, OnOk};
+ghost use Rattle.std.specs.Prelude.{◌≡◌, ◌<◌, ℕ, List, length, IfOk, OnOk};
 ghost use Rattle.esto_constraint.specs.Constraints.{rules_of};
 ghost use Rattle.esto_columns.specs.Interned.{AreCodedRows};
 ghost use Rattle.esto_data.specs.Coding.{AreCodedLists};
@@ -23,6 +23,7 @@ use esto_fill::{
     LoadList, Loaded, TextRowsList, Trial, audit_tried, audits_are_over_files, outcomes_are_one,
 };
 use esto_mapping::Catalogue;
+use esto_semantics::Facts;
 use esto_status::Status;
 use esto_term::{List, OutOfMemory};
 use std::alloc::Global;
@@ -137,13 +138,14 @@ fn compare_anew(
 }
 
 // The status of the first difference, where the rule of the number is the first that is neither a law nor met. It is looked
-// for in a part of the facts, where there is one of few codes and memory for it.
+// for in the part of the facts that came with it, if one came and there is memory for it.
 fn compare_by_rule(
     alloc: Global,
     catalogue: &Catalogue,
     trial: &Trial,
     files: &LoadList,
     number: usize,
+    part: Option<Facts>,
     coded: CodedData,
     rows: CodedRowsList,
 ) -> Result<(), Status>
@@ -156,18 +158,11 @@ fn compare_by_rule(
     ensures { (facts : List (Fact Term))
         → (holds : HoldsAudit catalogue.now trial.now.wanted files.now facts coded)
         → IsFirstUnpassed (rules_of trial.now.laws) (rules_of catalogue.now.rules)
-        holds.held.left.loaded.facts number
+        holds.held.left.loaded.facts number part
         → (contents : ℕ → List ℕ) → HoldContents catalogue.now contents coded.facts.texts rows
         → Answers (compares catalogue.now facts contents) ⊥ result }
 {
-    let mut coded = coded;
-    if let Ok(Some(difference)) = rule_difference(
-        alloc,
-        catalogue,
-        &trial.laws,
-        number,
-        &mut coded,
-    ) {
+    if let Some(difference) = rule_difference(alloc, catalogue, number, part) {
         return Err(Status::Differs(difference));
     }
     compare_anew(alloc, catalogue, trial, files, coded, rows)
@@ -196,8 +191,8 @@ pub fn compare(
     let mut coded = coded;
     match first_disagreement(alloc, catalogue, &trial.laws, &mut coded, &rows)? {
         None => Ok(()),
-        Some(Disagreement::Rule(number)) => {
-            compare_by_rule(alloc, catalogue, trial, files, number, coded, rows)
+        Some(Disagreement::Rule(number, part)) => {
+            compare_by_rule(alloc, catalogue, trial, files, number, part, coded, rows)
         }
         Some(Disagreement::Rows) => compare_anew(alloc, catalogue, trial, files, coded, rows),
     }

@@ -81,7 +81,7 @@ returns-in-Some-Rule c facts holds contents held =
     let stays : Stays c.args.coded c.first_disagreement.new.coded =
     record { kept = c.in_ok-first_disagreement.ensures.kept; grown = c.in_ok-first_disagreement.ensures.grown } in
     c.compare_by_rule.ensures facts (audit_stays c.args.coded c.first_disagreement.new.coded stays catalogue wanted c.args.files.now facts holds)
-    (subst (λ (it : Loaded). IsFirstUnpassed (rules_of c.args.trial.now.laws) (rules_of catalogue.rules) it.facts c.in-Some-Rule.number)
+    (subst (λ (it : Loaded). IsFirstUnpassed (rules_of c.args.trial.now.laws) (rules_of catalogue.rules) it.facts c.in-Some-Rule.number c.in-Some-Rule.part)
     (audit_left c.args.coded c.first_disagreement.new.coded stays catalogue wanted c.args.files.now facts holds) first)
     contents
     (contents_grow c.args.catalogue.now contents c.args.coded.facts.texts c.args.rows held c.first_disagreement.new.coded.facts.texts
