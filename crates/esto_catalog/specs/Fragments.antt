@@ -66,6 +66,13 @@ rows_after_file place model view entry =
     and_then (access_and_weight_rows place model view entry) (λ last.
     gives (shape, last.0, last.1)))
 
+-- The rows after the store, in order: file, columns, layout, pattern, access, weight.
+abbrev pub rows_after_store : Place → DataModel → Query → List Field → Course CatalogueError (Store × List (List Bool) × ℕ)
+rows_after_store place model view entry =
+    and_then (file_row place entry) (λ file.
+    and_then (rows_after_file place model view entry) (λ rest.
+    gives (record { shape = rest.0; file = file }, rest.1, rest.2)))
+
 -- The rows after the view, in order: store, file, columns, layout, pattern, access, weight.
 abbrev pub rows_after_view : Place → Query → List Field → Course CatalogueError (Store × List (List Bool) × ℕ)
 rows_after_view place view entry =

@@ -51,6 +51,12 @@ abbrev pub fits_section : List ℕ → Option (List (List Field)) → Course Cat
 fits_section key None = refuses (fault_at WrongType top key)
 fits_section key (Some tables) = demands (length tables ≤ MAX_ENTRIES) (fault_at TooMany top key)
 
+-- The rows of the sections, in order: of datasets, of fragments and of constraints.
+abbrev pub fits_sections : Document → Course CatalogueError (Unit {0})
+fits_sections document =
+    and_then (and_then (fits_section (codes "dataset") document.datasets) (λ _. fits_section (codes "fragment") document.fragments)) (λ _.
+    fits_section (codes "constraint") document.constraints)
+
 -- The rows of the top, in order: unknown keys, the version, whether the core is asked for, the sections of datasets, of fragments and of constraints. They give
 -- the version and whether the core is asked for.
 abbrev pub reads_top : Document → Course CatalogueError (Version × Bool)

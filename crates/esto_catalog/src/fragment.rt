@@ -3,7 +3,7 @@ ghost use Rattle.std.specs.Prelude.{◌≡◌, ◌<◌, ◌+◌, ◌||◌, IfOk,
 ghost use Rattle.esto_course.specs.Course.{Stops};
 ghost use Rattle.esto_query.specs.Schemas.{arities_of};
 ghost use Rattle.esto_catalog.specs.Datasets.{has_dataset};
-ghost use Rattle.esto_catalog.specs.Fragments.{has_fragment, reads_view, view_row, access_and_weight_rows, rows_after_file, rows_after_view, stored_fragment};
+ghost use Rattle.esto_catalog.specs.Fragments.{has_fragment, reads_view, view_row, file_row, access_and_weight_rows, rows_after_file, rows_after_store, rows_after_view, stored_fragment};
 ghost use Rattle.esto_catalog.specs.Fragments.{reads_fragment, adds_fragment, reads_fragments};
 ghost use Rattle.esto_catalog.specs.Rows.{IsAny, IsWant, Walks};
 ghost use Rattle.esto_catalog.specs.Scope.{IsScope};
@@ -116,6 +116,14 @@ fn access_and_weight(
     Ok((access, weight))
 }
 
+// The file.
+fn file(alloc: Global, place: Place, entry: &[Field]) -> Result<Text, CatalogueError>
+    ensures { Walks (file_row place entry.now) result }
+{
+    let file = needs_text(alloc, place, "file", entry)?;
+    Ok(file.copy(alloc)?)
+}
+
 // The rows after the file, in order: columns, layout, pattern, access, weight.
 fn rows_after_file(
     alloc: Global,
@@ -132,6 +140,22 @@ fn rows_after_file(
     Ok((shape, access, weight))
 }
 
+// The rows after the store, in order: file, columns, layout, pattern, access, weight.
+fn rows_after_store(
+    alloc: Global,
+    place: Place,
+    model: DataModel,
+    view: &Query,
+    entry: &[Field],
+) -> Result<(Store, AccessList, u64), CatalogueError>
+    requires { AreDistinctNames view.now }
+    ensures { Walks (rows_after_store place model view.now entry.now) result }
+{
+    let file = file(alloc, place, entry)?;
+    let (shape, access, weight) = rows_after_file(alloc, place, model, view, entry)?;
+    Ok((Store { shape, file }, access, weight))
+}
+
 // The rows after the view, in order: store, file, columns, layout, pattern, access, weight.
 fn rows_after_view(
     alloc: Global,
@@ -143,9 +167,7 @@ fn rows_after_view(
     ensures { Walks (rows_after_view place view.now entry.now) result }
 {
     let model = needs_model(alloc, CatalogueKind::BadStore, place, "store", entry)?;
-    let file = needs_text(alloc, place, "file", entry)?.copy(alloc)?;
-    let (shape, access, weight) = rows_after_file(alloc, place, model, view, entry)?;
-    Ok((Store { shape, file }, access, weight))
+    rows_after_store(alloc, place, model, view, entry)
 }
 
 // The fragment of a view, its store, its binding patterns and its weight.

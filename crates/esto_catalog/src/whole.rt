@@ -3,7 +3,7 @@ ghost use Rattle.std.specs.Prelude.{◌≡◌, ◌≢◌, ◌≤◌, Some, codes
 ghost use Rattle.esto_catalog.specs.Rows.{Walks};
 ghost use Rattle.esto_settings.specs.Settings.{setting_at};
 ghost use Rattle.esto_settings.specs.declared.setting.Setting.TheVariants.{Integer};
-ghost use Rattle.esto_catalog.specs.Whole.{is_two, top_keys, number_of, reads_toml, reads_version, reads_core, fits_section, reads_top, reads_whole, tables_of};
+ghost use Rattle.esto_catalog.specs.Whole.{is_two, top_keys, number_of, reads_toml, reads_version, reads_core, fits_section, fits_sections, reads_top, reads_whole, tables_of};
 ghost use Rattle.esto_catalog.specs.Whole.{sections_of};
 
 use crate::fault::{CatalogueError, TOP, fault};
@@ -129,6 +129,15 @@ fn fits_section(
     Ok(())
 }
 
+// The rows of the sections, in order: of datasets, of fragments and of constraints.
+fn fits_sections(alloc: Global, document: &Document) -> Result<(), CatalogueError>
+    ensures { Walks (fits_sections document.now) result }
+{
+    fits_section(alloc, "dataset", &document.datasets)?;
+    fits_section(alloc, "fragment", &document.fragments)?;
+    fits_section(alloc, "constraint", &document.constraints)
+}
+
 // The rows of the top, in order: unknown keys, the version, whether the core is asked for, the
 // sections of datasets, of fragments and of constraints.
 fn read_top(alloc: Global, document: &Document) -> Result<(Version, bool), CatalogueError>
@@ -139,9 +148,7 @@ fn read_top(alloc: Global, document: &Document) -> Result<(Version, bool), Catal
     knows_keys(alloc, TOP, keys, entry)?;
     let version = read_version(alloc, entry)?;
     let core = read_core(alloc, document.core)?;
-    fits_section(alloc, "dataset", &document.datasets)?;
-    fits_section(alloc, "fragment", &document.fragments)?;
-    fits_section(alloc, "constraint", &document.constraints)?;
+    fits_sections(alloc, document)?;
     Ok((version, core))
 }
 

@@ -1,5 +1,5 @@
 //! The chase.
-ghost use Rattle.std.specs.Prelude.{◌≡◌, [], length, IfOk, ⊤};
+ghost use Rattle.std.specs.Prelude.{◌≡◌, [], length, IfOk, MatchOption, ⊤};
 ghost use Rattle.either.specs.Either.{MatchEither};
 ghost use Rattle.esto_semantics.specs.Containment.{IsSatisfiable};
 ghost use Rattle.esto_semantics.specs.Instances.{IsUniversalFor};
@@ -29,7 +29,38 @@ pub struct Chased {
     pub instance: Instance,
 }
 
-/// Goes on from the start, one step at a time, to the end of the run.
+/// Makes one step of the instance after another, to the end of the run; None comes where it ends with no clash.
+fn go_on(
+    alloc: Global,
+    instance: &mut Instance,
+    rules: &Rules,
+    ranks: &Ranks,
+) -> Result<Option<Clash>, OutOfMemory>
+    requires start { IsStart (state_of instance.old) }
+    requires trace { trace_of instance.old ≡ [] }
+    requires within { IsWithin (length ranks.now) (IsEdge (rules_of rules.now)) }
+    requires ranks { AreRanks (IsEdge (rules_of rules.now)) (length ranks.now) ranks.now }
+    ensures { IfOk result (λ clashed. MatchOption clashed
+        (IsFinishedRun (rules_of rules.now) (state_of instance.old) instance.new)
+        (RunClashes (rules_of rules.now) (state_of instance.old))) }
+{
+    rules_are_sound();
+    ranks_rise();
+    runs_end();
+    let _count = ranks.len();
+    'steps: loop {
+        let outcome = next(alloc, rules, instance.facts())?;
+        let Some(broken) = outcome else {
+            return Ok(None);
+        };
+        let clashed = take_step(alloc, instance, rules, broken)?;
+        if let Some(clash) = clashed {
+            return Ok(Some(clash));
+        }
+    }
+}
+
+/// Goes on from the start to the end of the run.
 fn run(
     alloc: Global,
     start: Instance,
@@ -44,20 +75,10 @@ fn run(
         (λ chased. IsFinishedRun (rules_of rules.now) (state_of start) chased.instance)
         (RunClashes (rules_of rules.now) (state_of start))) }
 {
-    rules_are_sound();
-    ranks_rise();
-    runs_end();
-    let _count = ranks.len();
     let mut instance = start;
-    'steps: loop {
-        let outcome = next(alloc, rules, instance.facts())?;
-        let Some(broken) = outcome else {
-            return Ok(Left(Chased { instance }));
-        };
-        let clashed = take_step(alloc, &mut instance, rules, broken)?;
-        if let Some(clash) = clashed {
-            return Ok(Right(clash));
-        }
+    match go_on(alloc, &mut instance, rules, ranks)? {
+        None => Ok(Left(Chased { instance })),
+        Some(clash) => Ok(Right(clash)),
     }
 }
 

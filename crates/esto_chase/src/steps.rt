@@ -43,6 +43,15 @@ fn add_made(
     instance.add(alloc, number, found, &facts)
 }
 
+/// Copies of the two terms.
+fn copied_pair(alloc: Global, one: &Term, other: &Term) -> Result<(Term, Term), OutOfMemory>
+    ensures { IfOk result (λ it. (it.0 ≡ one.now) × (it.1 ≡ other.now)) }
+{
+    let one = one.copy(alloc)?;
+    let other = other.copy(alloc)?;
+    Ok((one, other))
+}
+
 /// The values of the two sides, the lesser first.
 fn ordered_sides(
     alloc: Global,
@@ -57,9 +66,9 @@ fn ordered_sides(
     let left = value_of(valuation, &rule.left);
     let right = value_of(valuation, &rule.right);
     match left.compare(right) {
-        Ordering::Less => Ok((left.copy(alloc)?, right.copy(alloc)?)),
+        Ordering::Less => copied_pair(alloc, left, right),
         Ordering::Equal => unreachable!(),
-        Ordering::Greater => Ok((right.copy(alloc)?, left.copy(alloc)?)),
+        Ordering::Greater => copied_pair(alloc, right, left),
     }
 }
 

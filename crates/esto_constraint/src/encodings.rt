@@ -1,6 +1,6 @@
 //! The rules of the encodings: those that the facts of documents and of keys are to meet. Variables are numbered by first
 //! occurrence, the body first, and named as the rules are written.
-ghost use Rattle.std.specs.Prelude.{◌≡◌, ◌<◌, ◌≤◌, ◌+◌, [], ◌∷◌, ◌++◌, length, map, take, slice_index_or, IfOk, OnOk};
+ghost use Rattle.std.specs.Prelude.{◌≡◌, ◌<◌, ◌≤◌, ◌+◌, [], ◌∷◌, ◌++◌, length, map, take, slice_index_or, encode_utf8, IfOk, OnOk};
 ghost use Rattle.std.specs.List.{AllByRecursion};
 ghost use Rattle.esto_term.specs.declared.term.Term.TheVariants.{Plain};
 ghost use Rattle.esto_query.specs.declared.query.Name.TheVariants.{Given};
@@ -18,23 +18,24 @@ use std::alloc::Global;
 /// The greatest number of a base, beyond which one of the five relations of documents has no number.
 const LAST_BASE: usize = usize::MAX - 4;
 
-/// Adds these names, in order.
-fn add_names(alloc: Global, texts: &[&str], names: &mut Names) -> Result<(), OutOfMemory>
-    ensures { OnOk result (names.new ≡ names.old ++ map (λ text. Given text.now) texts.now) }
+/// The name of one letter.
+fn name_of(alloc: Global, letter: char) -> Result<Name, OutOfMemory>
+    ensures { IfOk result (λ it. it ≡ Given (encode_utf8 letter)) }
 {
-    'texts: for text in texts {
-        let text = Text::from_str(alloc, text)?;
-        names.push(Name::Given(text))?;
-    }
-    Ok(())
+    let mut bytes = [0; 4];
+    let text = Text::from_str(alloc, letter.encode_utf8(&mut bytes))?;
+    Ok(Name::Given(text))
 }
 
-/// These names, in order.
-fn names_of(alloc: Global, texts: &[&str]) -> Result<Names, OutOfMemory>
-    ensures { IfOk result (λ it. it ≡ map (λ text. Given text.now) texts.now) }
+/// The names of one letter each, in order.
+fn names_of(alloc: Global, letters: &[char]) -> Result<Names, OutOfMemory>
+    ensures { IfOk result (λ it. it ≡ map (λ letter. Given (encode_utf8 letter)) letters.now) }
 {
     let mut names = List::new(alloc);
-    add_names(alloc, texts, &mut names)?;
+    'letters: for letter in letters {
+        let name = name_of(alloc, *letter)?;
+        names.push(name)?;
+    }
     Ok(names)
 }
 
@@ -86,7 +87,7 @@ fn add_equality_rule(
     first: &[u64],
     second: &[u64],
     place: usize,
-    names: &[&str],
+    names: &[char],
     rules: &mut Rules,
 ) -> Result<(), OutOfMemory>
     requires in_first { place < length first.now }
@@ -98,7 +99,7 @@ fn add_equality_rule(
         (Plain (slice_index_or first.now place 0)) (Plain (slice_index_or second.now place 0))
         ∷ []) }
     ensures names { OnOk result (map written rules.new
-        ≡ map written rules.old ++ map (λ text. Given text.now) names.now ∷ []) }
+        ≡ map written rules.old ++ map (λ letter. Given (encode_utf8 letter)) names.now ∷ []) }
 {
     let body = two_atoms(alloc, relation, first, relation, second)?;
     let names = names_of(alloc, names)?;
@@ -117,7 +118,7 @@ fn add_tuple_rule(
     from: &[u64],
     other: usize,
     to: &[u64],
-    names: &[&str],
+    names: &[char],
     rules: &mut Rules,
 ) -> Result<(), OutOfMemory>
     requires from_named { AllByRecursion (λ v. v < length names.now) from.now }
@@ -125,7 +126,7 @@ fn add_tuple_rule(
     ensures rules { OnOk result (rules_of rules.new ≡ rules_of rules.old
         ++ tuple (atom relation from.now ∷ []) (atom other to.now ∷ []) ∷ []) }
     ensures names { OnOk result (map written rules.new
-        ≡ map written rules.old ++ map (λ text. Given text.now) names.now ∷ []) }
+        ≡ map written rules.old ++ map (λ letter. Given (encode_utf8 letter)) names.now ∷ []) }
 {
     let body = one_atom(alloc, relation, from)?;
     let head = one_atom(alloc, other, to)?;
@@ -140,7 +141,7 @@ fn add_denial(
     first: &[u64],
     other: usize,
     second: &[u64],
-    names: &[&str],
+    names: &[char],
     rules: &mut Rules,
 ) -> Result<(), OutOfMemory>
     requires first_named { AllByRecursion (λ v. v < length names.now) first.now }
@@ -148,7 +149,7 @@ fn add_denial(
     ensures rules { OnOk result (rules_of rules.new ≡ rules_of rules.old
         ++ denial (atom relation first.now ∷ atom other second.now ∷ []) ∷ []) }
     ensures names { OnOk result (map written rules.new
-        ≡ map written rules.old ++ map (λ text. Given text.now) names.now ∷ []) }
+        ≡ map written rules.old ++ map (λ letter. Given (encode_utf8 letter)) names.now ∷ []) }
 {
     let body = two_atoms(alloc, relation, first, other, second)?;
     let names = names_of(alloc, names)?;
@@ -164,9 +165,9 @@ fn add_rules_of_fields(alloc: Global, base: usize, rules: &mut Rules) -> Result<
     ensures names { OnOk result (map written rules.new
         ≡ map written rules.old ++ take 3 document_names) }
 {
-    let names = ["n", "k", "m", "p"];
+    let names = ['n', 'k', 'm', 'p'];
     add_equality_rule(alloc, base + 1, &[0, 1, 2], &[0, 1, 3], 2, &names, rules)?;
-    let names = ["n", "k", "m", "p", "l"];
+    let names = ['n', 'k', 'm', 'p', 'l'];
     add_equality_rule(alloc, base + 1, &[0, 1, 2], &[3, 4, 2], 0, &names, rules)?;
     add_equality_rule(alloc, base + 1, &[0, 1, 2], &[3, 4, 2], 1, &names, rules)
 }
@@ -181,9 +182,9 @@ fn add_rules_of_values(alloc: Global, base: usize, rules: &mut Rules) -> Result<
         ≡ map written rules.old ++ take 5 document_names) }
 {
     add_rules_of_fields(alloc, base, rules)?;
-    let names = ["n", "m", "p"];
+    let names = ['n', 'm', 'p'];
     add_equality_rule(alloc, base + 2, &[0, 1], &[2, 1], 0, &names, rules)?;
-    let names = ["n", "v", "w"];
+    let names = ['n', 'v', 'w'];
     add_equality_rule(alloc, base + 3, &[0, 1], &[0, 2], 1, &names, rules)
 }
 
@@ -196,7 +197,7 @@ fn add_rules_of_documents(alloc: Global, base: usize, rules: &mut Rules) -> Resu
         ≡ map written rules.old ++ document_names) }
 {
     add_rules_of_values(alloc, base, rules)?;
-    let names = ["n", "k", "m"];
+    let names = ['n', 'k', 'm'];
     add_tuple_rule(
         alloc,
         base + 1,
@@ -206,7 +207,7 @@ fn add_rules_of_documents(alloc: Global, base: usize, rules: &mut Rules) -> Resu
         &names,
         rules,
     )?;
-    let names = ["n", "m"];
+    let names = ['n', 'm'];
     add_tuple_rule(alloc, base + 2, &[0, 1], base + 4, &[0, 1], &names, rules)
 }
 
@@ -224,7 +225,7 @@ fn add_rules_of_documents_2(
         ≡ map written rules.old ++ document_names_2) }
 {
     add_rules_of_documents(alloc, base, rules)?;
-    add_denial(alloc, base, &[0], base + 4, &[1, 0], &["n", "m"], rules)
+    add_denial(alloc, base, &[0], base + 4, &[1, 0], &['n', 'm'], rules)
 }
 
 /// The rules that the facts of documents meet, in a catalogue of version 1, over the relations root, field, item, value
@@ -262,7 +263,7 @@ pub fn key_rules(alloc: Global, relation: usize) -> Result<Rules, OutOfMemory>
     ensures rules { IfOk result (λ it. rules_of it ≡ key_rules relation) }
     ensures names { IfOk result (λ it. map written it ≡ key_names) }
 {
-    let names = ["k", "f", "v", "w"];
+    let names = ['k', 'f', 'v', 'w'];
     let first = [0, 1, 2];
     let second = [0, 1, 3];
     let mut rules = List::new(alloc);

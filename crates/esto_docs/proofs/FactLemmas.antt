@@ -28,24 +28,25 @@ use Rattle.esto_docs.specs.Encoding.{PutsNode, PutsRow}
 use Rattle.esto_docs.specs.Filling.{value_node}
 use Rattle.esto_docs.specs.Trees.{tree_of, trees_of, fields_of, word}
 use Rattle.esto_docs.proofs.FieldLemmas.{node_array, node_object, node_string}
+use Rattle.esto_docs.proofs.GroupLemmas.{text_data}
 use Rattle.esto_docs.proofs.HoldingLemmas.{node_nothing, number_inside}
 
--- ---- the nodes of values, kind by kind
+-- ---- the trees and the nodes of values, kind by kind
+
+pub tree_as : (v w : Value) (d : Data) → v ≡ w → view w ≡ d → tree_of (view v) ≡ tree_of d
+tree_as v w d is seen = ap (λ (x : Value). tree_of (view x)) is ∙ ap tree_of seen
 
 node_as : (v w : Value) (d : Data) (t : Node) → v ≡ w → view w ≡ d → value_node d ≡ t → value_node (view v) ≡ t
 node_as v w d t is seen shaped = ap (λ (x : Value). value_node (view x)) is ∙ ap value_node seen ∙ shaped
 
-view_null : view json.Null ≡ null
+pub view_null : view json.Null ≡ null
 view_null = search (rules, the_lemmas)
 
-view_bool : (b : Bool) → view (json.Bool b) ≡ boolean b
+pub view_bool : (b : Bool) → view (json.Bool b) ≡ boolean b
 view_bool b = search (rules, the_lemmas)
 
-view_number : (n : Number) → view (json.Number n) ≡ number (number_view n)
+pub view_number : (n : Number) → view (json.Number n) ≡ number (number_view n)
 view_number n = search (rules, the_lemmas)
-
-view_string : (s : String Global) → view (json.String s) ≡ string (string_bytes s)
-view_string s = search (rules, the_lemmas)
 
 pub null_node : (v : Value) → v ≡ json.Null → value_node (view v) ≡ node None none
 null_node v is = node_as v json.Null null _ is view_null node_nothing
@@ -54,7 +55,7 @@ pub bool_node : (v : Value) (b : Bool) → v ≡ json.Bool b → value_node (vie
 bool_node v b is = node_as v (json.Bool b) (boolean b) _ is (view_bool b) (node_string (word b))
 
 pub string_node : (v : Value) (s : String Global) → v ≡ json.String s → value_node (view v) ≡ node (Some (string_bytes s)) none
-string_node v s is = node_as v (json.String s) (string (string_bytes s)) _ is (view_string s) (node_string (string_bytes s))
+string_node v s is = node_as v (json.String s) (string (string_bytes s)) _ is (text_data s) (node_string (string_bytes s))
 
 pub number_node : (v : Value) (n : Number) → v ≡ json.Number n → value_node (view v) ≡ value_node (number (number_view n))
 number_node v n is = node_as v (json.Number n) (number (number_view n)) _ is (view_number n) refl
@@ -83,10 +84,7 @@ float_node (unsigned k) other more = absurd (none-some k (sym other))
 float_node (negative z) other more = absurd (none-some z (sym more))
 float_node (float x) other more = node_nothing
 
--- nothing stands inside a value that is neither array nor object
-pub bare : (own : Node) (content : Option (List ℕ)) → own ≡ node content none → own.inside ≡ none
-bare own content is = ap (λ (t : Node). t.inside) is
-
+-- nothing stands inside a number
 pub number_bare : (v : Value) (n : Number) → v ≡ json.Number n → (value_node (view v)).inside ≡ none
 number_bare v n is = ap (λ (t : Node). t.inside) (number_node v n is) ∙ number_inside (number_view n)
 

@@ -142,7 +142,8 @@ items_unnamed k (t ∷ ts) found (inl h) = apart h.0 where
   apart e = cc e
 items_unnamed k (t ∷ ts) found (inr h) = items_unnamed k ts found h
 
-nothing_inside : (n : Node) (content : Option (List ℕ)) → n ≡ node content none → n.inside ≡ none
+-- Nothing stands inside a node that is known to have no kids.
+pub nothing_inside : (n : Node) (content : Option (List ℕ)) → n ≡ node content none → n.inside ≡ none
 nothing_inside n content e = ap (λ (x : Node). x.inside) e
 
 pub number_inside : (n : Num) → (value_node (number n)).inside ≡ none

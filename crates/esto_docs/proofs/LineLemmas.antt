@@ -4,8 +4,8 @@ use Rattle.std.proofs.Common.{append_assoc, append-nil, arith, add-zero}
 use Rattle.std.specs.Prelude.{option_map}
 use Rattle.esto_ports.specs.declared.file_fault.FileFault.{FileFault}
 use Rattle.esto_ports.specs.declared.file_fault.FileKind.TheVariants.{BadJson}
-use Rattle.esto_lines.specs.Faults.{fault_at, or_else, later, GoesByLines, FaultsJoin}
-use Rattle.esto_lines.specs.Lines.{lines_of, with_feed, LinesJoin}
+use Rattle.esto_ports.specs.FileFaults.{fault_at, or_else, later, GoesByLines, FaultsJoin}
+use Rattle.esto_ports.specs.Lines.{lines_of, with_feed, LinesJoin}
 use Rattle.esto_docmodel.specs.declared.tree.Tree.{Tree}
 use Rattle.esto_docs.specs.Files.{is_bad, trees_of_line, trees_of_lines, lines_fault}
 use Rattle.esto_docs.specs.Laws.{TreesJoin, TreesFaultsJoin}

@@ -17,7 +17,7 @@ use Rattle.esto_docs.specs.Documents.{document}
 use Rattle.esto_docs.specs.Files.{file_trees, is_bad, is_blank, json_of, trees_of_line}
 use Rattle.esto_docs.specs.Laws.{TreesJoin, RowsJoin}
 use Rattle.esto_docmodel.specs.declared.file.Layout.TheVariants.{Lines}
-use Rattle.esto_lines.specs.Lines.{with_feed}
+use Rattle.esto_ports.specs.Lines.{with_feed}
 use Rattle.esto_docs.proofs.MatchLemmas.{Agrees, document_into, document_from}
 
 pub text_constant : (row : Row) (text : List ℕ) → text_in row (Const text) ≡ text

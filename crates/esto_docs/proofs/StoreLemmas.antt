@@ -16,7 +16,7 @@ use Rattle.esto_docmodel.specs.declared.pattern.Pattern.{Pattern}
 use Rattle.esto_docs.specs.Files.{file_trees, trees_fault}
 use Rattle.esto_docs.specs.Rows.{IsRowOf, GivesRows}
 use Rattle.esto_docmodel.specs.declared.file.Layout.{Layout}
-use Rattle.esto_lines.specs.Faults.{Gives, fault_at}
+use Rattle.esto_ports.specs.FileFaults.{Gives, fault_at}
 use Rattle.esto_ports.specs.declared.file_fault.FileError.{FileError}
 use Rattle.esto_ports.specs.declared.file_fault.FileError.TheVariants.{Fault, OutOfMemory}
 use Rattle.esto_ports.specs.declared.file_fault.FileFault.{FileFault}

@@ -9,7 +9,7 @@ use Rattle.serde_json.specs.Read.{read}
 use Rattle.serde_json.specs.View.{view, items_of}
 use Rattle.serde_json.specs.Written.{compact_text}
 use Rattle.serde_json.specs.declared.value.Value.{Value}
-use Rattle.esto_lines.specs.Lines.{line_feed, lines_of, with_feed, LinesBeginAnew}
+use Rattle.esto_ports.specs.Lines.{line_feed, lines_of, with_feed, LinesBeginAnew}
 use Rattle.esto_docmodel.specs.Layouts.{IsLayout}
 use Rattle.esto_docmodel.specs.Patterns.{Entries}
 use Rattle.esto_docmodel.specs.declared.tree.Tree.{Tree}

@@ -9,8 +9,8 @@ use Rattle.serde_json.specs.Read.{read}
 use Rattle.esto_docmodel.specs.declared.tree.Tree.{Tree}
 use Rattle.esto_ports.specs.declared.file_fault.FileFault.{FileFault}
 use Rattle.esto_ports.specs.declared.file_fault.FileKind.TheVariants.{BadJson, NotArray}
-use Rattle.esto_lines.specs.Faults.{fault_at}
-use Rattle.esto_lines.specs.Lines.{lines_of}
+use Rattle.esto_ports.specs.FileFaults.{fault_at}
+use Rattle.esto_ports.specs.Lines.{lines_of}
 use Rattle.esto_docs.specs.Trees.{tree_of, trees_of}
 use Rattle.esto_docmodel.specs.declared.file.Layout.{Layout}
 use Rattle.esto_docmodel.specs.declared.file.Layout.TheVariants.{Array, Lines}

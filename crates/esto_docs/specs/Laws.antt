@@ -1,7 +1,7 @@
 -- Laws of files of lines.
 use Rattle.std.specs.Prelude.{◌≡◌, ◌↔◌, ◌⊎◌, ◌++◌, ℕ, List}
-use Rattle.esto_lines.specs.Lines.{with_feed}
-use Rattle.esto_lines.specs.Faults.{FaultJoins}
+use Rattle.esto_ports.specs.Lines.{with_feed}
+use Rattle.esto_ports.specs.FileFaults.{FaultJoins}
 use Rattle.esto_docmodel.specs.Patterns.{Entries}
 use Rattle.esto_docs.specs.Files.{file_trees, trees_fault}
 use Rattle.esto_docs.specs.Rows.{Row, IsRowOf}

@@ -3,8 +3,7 @@ ghost use Rattle.std.specs.Prelude.{◌≡◌};
 ghost use Rattle.esto_docs.specs.Parsing.{Parses, ParsesArray};
 ghost use Rattle.esto_docs.specs.Files.{is_blank};
 
-use esto_lines::fault;
-use esto_ports::{FileError, FileKind};
+use esto_ports::{FileError, FileKind, fault};
 use serde_json::Value;
 use std::alloc::Global;
 

@@ -1,7 +1,7 @@
 //! The rows of JSON files.
 ghost use Rattle.std.specs.Prelude.{Contains, ◌↔◌, IfOk};
 ghost use Rattle.serde_json.specs.View.{items_view};
-ghost use Rattle.esto_lines.specs.Lines.{lines_of};
+ghost use Rattle.esto_ports.specs.Lines.{lines_of};
 ghost use Rattle.esto_docmodel.specs.Layouts.{IsLayout};
 ghost use Rattle.esto_docmodel.specs.Shapes.{entries_of};
 ghost use Rattle.esto_docs.specs.Files.{json_of, lines_fault, trees_of_lines, array_fault, trees_of_array, trees_fault, file_trees};
@@ -11,8 +11,7 @@ ghost use Rattle.esto_docs.specs.Trees.{trees_of};
 use crate::filling::put_rows;
 use crate::parse::{ParseError, is_blank, parse, parse_array};
 use esto_docmodel::{Layout, Pattern};
-use esto_lines::{cut_line, fault};
-use esto_ports::{FileError, FileKind};
+use esto_ports::{FileError, FileKind, cut_line, fault};
 use esto_term::{List, OutOfMemory, TextRows};
 use serde_json::Value;
 use std::alloc::Global;

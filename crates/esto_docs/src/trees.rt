@@ -1,14 +1,13 @@
 //! The documents of JSON files, as trees.
-ghost use Rattle.esto_lines.specs.Faults.{Gives};
-ghost use Rattle.esto_lines.specs.Lines.{lines_of};
+ghost use Rattle.esto_ports.specs.FileFaults.{Gives};
+ghost use Rattle.esto_ports.specs.Lines.{lines_of};
 ghost use Rattle.esto_docs.specs.Files.{json_of, lines_fault, trees_of_lines, array_fault, trees_of_array, trees_fault, file_trees};
 ghost use Rattle.esto_docs.specs.Parsing.{ParsesTree, PutsLine};
 
 use crate::from_json::{tree_of, trees_of};
 use crate::parse::{ParseError, is_blank, parse, parse_array};
 use esto_docmodel::{Layout, Tree, Trees};
-use esto_lines::{cut_line, fault};
-use esto_ports::{FileError, FileKind};
+use esto_ports::{FileError, FileKind, cut_line, fault};
 use esto_term::List;
 use std::alloc::Global;
 

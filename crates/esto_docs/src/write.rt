@@ -13,7 +13,7 @@ ghost use Rattle.esto_docmodel.specs.declared.file.Layout.TheVariants as layouts
 
 use crate::document::document_of;
 use esto_docmodel::{Layout, Pattern};
-use esto_lines::laws::lines_begin_anew;
+use esto_ports::lines_begin_anew;
 use esto_term::{Bytes, OutOfMemory, Text, TextRows, push};
 use serde_json::Value;
 use std::alloc::Global;

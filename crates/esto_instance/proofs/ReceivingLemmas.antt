@@ -1,10 +1,10 @@
 -- A valuation that sends one row to another, found as a match of the one row in the other, and a query's match that goes on from it.
-use Rattle.std.proofs.Common.{Option, None, Some, IsTrue, IfSome, IfNone, ◌≡◌, ◌↔◌, inl, inr, ℕ, zero, suc, Bool, List, [], ◌∷◌, map, Contains, refl, sym, ap}
-use Rattle.std.proofs.Common.{subst, ◌∙◌}
+use Rattle.std.proofs.Common.{Option, None, Some, Result, Ok, Err, IsTrue, IfOk, IfSome, IfNone, MatchOption, ◌≡◌, ◌↔◌, inl, inr, ℕ, zero, suc, Bool, List}
+use Rattle.std.proofs.Common.{[], ◌∷◌, map, Contains, refl, sym, ap, subst, ◌∙◌}
 use Rattle.std.proofs.lemmas.Bool.{false≢true}
 use Rattle.std.specs.Bool.{⊤}
 use Rattle.std.specs.Option.{is_some}
-use Rattle.std.specs.FinMap.{get, empty, get-empty}
+use Rattle.std.specs.FinMap.{empty, get-empty}
 use Rattle.std.specs.Ordering.{nat_cmp}
 use Rattle.std.proofs.lemmas.Option.{none-some, same_Some}
 use Rattle.esto_term.specs.declared.term.Term.{Term}
@@ -18,12 +18,11 @@ use Rattle.esto_semantics.specs.declared.fact.Fact.{Fact}
 use Rattle.esto_query.specs.Matches.{IsLeastMatch, HasNoMatch}
 use Rattle.esto_semantics.specs.Valuations.{Assignment, Extends, map_of}
 use Rattle.esto_query.specs.declared.matches.Found.{Found}
-use Rattle.esto_instance.specs.Receiving.{row_fact, NoneSends, IsSending}
+use Rattle.esto_instance.specs.Receiving.{row_fact, NoneMatches, IsOfMatch, NoneSends, IsSending}
 
 -- every map extends the empty valuation
-extends-empty : (m : Term → Term) (valuation : Assignment) → valuation ≡ empty → Extends m valuation
-extends-empty m valuation is variable term told =
-    absurd (none-some term (sym (get-empty nat_cmp variable) ∙ ap (λ (known : Assignment). get known variable) (sym is) ∙ told))
+extends-empty : (m : Term → Term) → Extends m empty
+extends-empty m variable term told = absurd (none-some term (sym (get-empty nat_cmp variable) ∙ told))
 
 -- the atom of a row is over constants and variables where the row is
 pub row-flat : (terms : List Term) (body : List (Fact Term)) → body ≡ row_fact terms ∷ [] → ((term : Term) → Contains terms term → IsFlat term) → AreFlat body
@@ -46,8 +45,7 @@ module _ (terms targets : List Term) where
   match-row m (suc place ∷ []) matches = absurd (none-some (row_fact (map m terms)) matches.0)
   match-row m (place ∷ other ∷ places) matches = absurd matches.1
 
-  module _ (body facts : List (Fact Term)) (body_is : body ≡ row_fact terms ∷ []) (facts_are : facts ≡ row_fact targets ∷ []) (start : Assignment)
-      (start_is : start ≡ empty) where
+  module _ (body facts : List (Fact Term)) (body_is : body ≡ row_fact terms ∷ []) (facts_are : facts ≡ row_fact targets ∷ []) where
     moved : (m : Term → Term) (places : List ℕ) → IsMatch m body facts places ↔ IsMatch m (row_fact terms ∷ []) (row_fact targets ∷ []) places
     moved m places = (
       λ matches. subst (λ atoms. IsMatch m atoms (row_fact targets ∷ []) places) body_is (subst (λ others. IsMatch m body others places) facts_are matches),
@@ -55,21 +53,30 @@ module _ (terms targets : List Term) where
           (subst (λ atoms. IsMatch m atoms (row_fact targets ∷ []) places) (sym body_is) matches),
     )
 
-    pub match-starts : (keeps : (valuation : Assignment) → Keeps Const (map_of valuation))
+    match-starts : (keeps : (valuation : Assignment) → Keeps Const (map_of valuation))
         → (extends : (valuation : Assignment) → Extends (map_of valuation) valuation)
-        → (valuation : Assignment) (places : List ℕ) → IsLeastMatch body facts start (λ _. ⊤) valuation places → IsSending terms targets valuation
-    match-starts keeps extends valuation places least m keeps_m =
+        → (valuation : Assignment) → IsOfMatch body facts valuation → IsSending terms targets valuation
+    match-starts keeps extends valuation (places, least) m keeps_m =
         let own = (least.is_found.exact (map_of valuation) (keeps valuation)).0 (extends valuation) in
         let place = (match-row (map_of valuation) places ((moved (map_of valuation) places).0 own.1)).0 in (
           λ extends_m. (match-row m places ((moved m places).0 ((least.is_found.exact m keeps_m).0 extends_m).1)).1,
           λ sent. (least.is_found.exact m keeps_m).1 (
-            extends-empty m start start_is,
+            extends-empty m,
             subst (IsMatch m body facts) (sym place) ((moved m (0 ∷ [])).1 (row-match m sent)),
           ),
         )
 
-    pub none-starts : HasNoMatch body facts start (λ _. ⊤) → NoneSends terms targets
-    none-starts none m keeps sent = none m (0 ∷ []) keeps (extends-empty m start start_is) ((moved m (0 ∷ [])).1 (row-match m sent)) tt
+    none-starts : NoneMatches body facts → NoneSends terms targets
+    none-starts none m keeps sent = none m (0 ∷ []) keeps (extends-empty m) ((moved m (0 ∷ [])).1 (row-match m sent)) tt
+
+    pub match-sends : {E : Type 0} (keeps : (valuation : Assignment) → Keeps Const (map_of valuation))
+        → (extends : (valuation : Assignment) → Extends (map_of valuation) valuation)
+        → (outcome : Result (Option Assignment) E)
+        → IfOk outcome (λ start. MatchOption start (NoneMatches body facts) (IsOfMatch body facts))
+        → IfOk outcome (λ start. MatchOption start (NoneSends terms targets) (IsSending terms targets))
+    match-sends keeps extends (Ok (Some valuation)) found = match-starts keeps extends valuation found
+    match-sends keeps extends (Ok None) none = none-starts none
+    match-sends keeps extends (Err error) refused = tt
 
 -- ---- a match that says that a query maps to facts, head to head
 

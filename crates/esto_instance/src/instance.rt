@@ -27,6 +27,22 @@ pub enum ChaseStep {
 /// The steps of a run, in order.
 pub type Trace = List<ChaseStep>;
 
+/// A copy of a step that merged two terms.
+fn copied_merge(
+    alloc: Global,
+    rule: usize,
+    found: &Found,
+    from: &Term,
+    to: &Term,
+) -> Result<ChaseStep, OutOfMemory>
+    ensures { IfOk result (λ it. it ≡ ChaseStep.Merged rule found.now from.now to.now) }
+{
+    let found = found.copy(alloc)?;
+    let from = from.copy(alloc)?;
+    let to = to.copy(alloc)?;
+    Ok(ChaseStep::Merged(rule, found, from, to))
+}
+
 impl Replicate for ChaseStep {
     fn copy(&self, alloc: Global) -> Result<ChaseStep, OutOfMemory> {
         match self {
@@ -35,10 +51,7 @@ impl Replicate for ChaseStep {
                 Ok(ChaseStep::Added(*rule, found))
             }
             ChaseStep::Merged(rule, found, from, to) => {
-                let found = found.copy(alloc)?;
-                let from = from.copy(alloc)?;
-                let to = to.copy(alloc)?;
-                Ok(ChaseStep::Merged(*rule, found, from, to))
+                copied_merge(alloc, *rule, found, from, to)
             }
         }
     }
@@ -171,7 +184,17 @@ impl Instance {
         ensures err { OnErr result (self.new ≡ self.old) }
     {
         let (facts, head) = replaced(alloc, &self.facts, &self.head, &from, &to)?;
-        self.trace.push(ChaseStep::Merged(rule, found, from, to))?;
+        self.step_to(facts, head, ChaseStep::Merged(rule, found, from, to))
+    }
+
+    /// Appends the step to the trace, and has these facts and this head from then on. A refused call leaves the instance.
+    fn step_to(&mut self, facts: Facts, head: Terms, step: ChaseStep) -> Result<(), OutOfMemory>
+        ensures facts { OnOk result ((state_of self.new).body ≡ facts) }
+        ensures head { OnOk result ((state_of self.new).head ≡ head) }
+        ensures trace { OnOk result (trace_of self.new ≡ trace_of self.old ++ step ∷ []) }
+        ensures err { OnErr result (self.new ≡ self.old) }
+    {
+        self.trace.push(step)?;
         self.facts = facts;
         self.head = head;
         Ok(())

@@ -2,9 +2,9 @@
 ghost use Rattle.std.specs.Prelude.{◌≡◌, ◌↔◌, [], ◌∷◌, Contains, IsTrue, IfOk, MatchOption};
 ghost use Rattle.esto_term.specs.declared.term.Term.{Term};
 ghost use Rattle.esto_semantics.specs.Instances.{MapsTo};
-ghost use Rattle.esto_semantics.specs.Maps.{IsFlat};
+ghost use Rattle.esto_semantics.specs.Maps.{AreFlat, IsFlat};
 ghost use Rattle.esto_query.specs.Making.{query_of};
-ghost use Rattle.esto_instance.specs.Receiving.{row_fact, NoneSends, IsSending};
+ghost use Rattle.esto_instance.specs.Receiving.{row_fact, NoneMatches, IsOfMatch, NoneSends, IsSending};
 
 use esto_query::{Query, first_match, matches_send, queries_are_sound};
 use esto_semantics::{Atom, Facts, Valuation, valuations_are_maps};
@@ -21,6 +21,19 @@ fn row_facts(alloc: Global, terms: &Terms) -> Result<Facts, OutOfMemory>
     Ok(facts)
 }
 
+/// The valuation of a match of the body in the facts, where there is one.
+fn matching(alloc: Global, body: &Facts, facts: &Facts) -> Result<Option<Valuation>, OutOfMemory>
+    requires { AreFlat body.now }
+    ensures { IfOk result (λ start.
+        MatchOption start (NoneMatches body.now facts.now) (IsOfMatch body.now facts.now)) }
+{
+    let start = Valuation::new(alloc);
+    match first_match(alloc, body, facts, &start)? {
+        Some(found) => Ok(Some(found.valuation)),
+        None => Ok(None),
+    }
+}
+
 /// The valuation whose maps are exactly those that send the one row to the other. None comes exactly where no map that
 /// keeps constants does.
 fn sending(alloc: Global, terms: &Terms, targets: &Terms) -> Result<Option<Valuation>, OutOfMemory>
@@ -31,11 +44,7 @@ fn sending(alloc: Global, terms: &Terms, targets: &Terms) -> Result<Option<Valua
     valuations_are_maps();
     let body = row_facts(alloc, terms)?;
     let facts = row_facts(alloc, targets)?;
-    let start = Valuation::new(alloc);
-    match first_match(alloc, &body, &facts, &start)? {
-        Some(found) => Ok(Some(found.valuation)),
-        None => Ok(None),
-    }
+    matching(alloc, &body, &facts)
 }
 
 /// Whether the query maps to the facts, and its head to the other head.

@@ -1,6 +1,7 @@
 //! Constraints, from their texts.
-ghost use Rattle.std.specs.Prelude.{◌≡◌, ◌↔◌, ◌⊎◌, ℕ, List, [], ◌∷◌, All, IsTrue, IsUtf8, IfOk, IfErr};
+ghost use Rattle.std.specs.Prelude.{◌≡◌, ◌↔◌, ◌⊎◌, ℕ, List, [], ◌∷◌, All, IsTrue, IsUtf8, Ok, IfOk, IfErr};
 ghost use Rattle.esto_constraint.specs.Constraints.{rule_of};
+ghost use Rattle.esto_constraint.specs.Making.{MakesEquality};
 ghost use Rattle.esto_query.specs.Schemas.{arities_of};
 ghost use Rattle.esto_query.specs.declared.query.Name.{Name};
 ghost use Rattle.esto_semantics.specs.Maps.{IsFixedBy};
@@ -9,6 +10,7 @@ ghost use Rattle.esto_term.specs.declared.term.Term.{Term};
 ghost use Rattle.esto_text.specs.Faults.{IsTermIn, IsConstraintText, ConstraintStandsAt};
 ghost use Rattle.esto_text.specs.View.{constraint_of};
 ghost use Rattle.esto_text.specs.declared.version.Version.{Version};
+ghost use Rattle.esto_read.specs.Parts.{AreEqualityParts};
 ghost use Rattle.esto_read.specs.Terms.{AreTerms};
 ghost use Rattle.esto_docmodel.specs.Words.{HasRelations, IsVocabulary};
 ghost use Rattle.esto_read.specs.Constraints.{IsUnsafeSide, IsRuleOf, IsRuleError, IsConstraintReading, IsConstraintError, HaveOneRule, HaveNoRuleFault};
@@ -20,7 +22,7 @@ use crate::term::term;
 use esto_constraint::Constraint;
 use esto_docmodel::{Vocabulary, Word};
 use esto_query::{Names, Schema, mentions};
-use esto_semantics::Atom;
+use esto_semantics::{Atom, Atoms};
 use esto_term::{List, Term};
 use esto_text::{
     ConstraintSyntax, HeadSyntax, ReadError, TextKind, Token, Version, read_constraint_tree,
@@ -86,6 +88,38 @@ fn safe_sides(
     demand_fixed(left, right, &left_term, &right_term, body).and(Ok((left_term, right_term)))
 }
 
+/// The equality rule of the atoms and of the terms at the two sides; or the fault of the first side that is no constant
+/// and not in the atoms.
+fn said_equality(
+    alloc: Global,
+    bytes: &[u8],
+    sides: (Token, Token),
+    schema: &Schema,
+    atoms: Atoms,
+    names: Names,
+) -> Result<Constraint, ReadError>
+    requires utf8 { IsUtf8 bytes.now }
+    requires left { IsTermIn bytes.now sides.0 }
+    requires right { IsTermIn bytes.now sides.1 }
+    requires parts { (one other : Term) (after : List Name)
+        → AreTerms bytes.now names (sides.0 ∷ sides.1 ∷ []) (one ∷ other ∷ []) after
+        → IsFixedBy atoms one × IsFixedBy atoms other
+        → AreEqualityParts (arities_of schema.now) atoms one other after }
+    ensures said { IfOk result (λ rule. (one other : Term) × (after : List Name)
+        × AreTerms bytes.now names (sides.0 ∷ sides.1 ∷ []) (one ∷ other ∷ []) after
+        × MakesEquality (arities_of schema.now) atoms one other after (Ok rule)) }
+    ensures over { IfOk result (λ rule. IsRuleOver (arities_of schema.now) (rule_of rule)) }
+    ensures error { IfErr result (λ error. (error ≡ ReadError.OutOfMemory)
+        ⊎ ((after : List Name) × (one other : Term) × (offset : ℕ)
+        × AreTerms bytes.now names (sides.0 ∷ sides.1 ∷ []) (one ∷ other ∷ []) after
+        × IsUnsafeSide atoms sides.0 sides.1 one other offset
+        × (error ≡ ReadError.Fault (record { offset = offset; kind = TextKind.Unsafe })))) }
+{
+    let mut names = names;
+    let (left, right) = safe_sides(alloc, bytes, sides.0, sides.1, atoms.items(), &mut names)?;
+    Ok(equal_rule(alloc, schema, atoms, left, right, names))
+}
+
 /// The constraint that a tree of the text says.
 fn said_rule(
     alloc: Global,
@@ -113,8 +147,7 @@ fn said_rule(
             Ok(tuple_rule(alloc, schema, atoms, head, names))
         }
         HeadSyntax::Equality { left, right } => {
-            let (left, right) = safe_sides(alloc, bytes, *left, *right, atoms.items(), &mut names)?;
-            Ok(equal_rule(alloc, schema, atoms, left, right, names))
+            said_equality(alloc, bytes, (*left, *right), schema, atoms, names)
         }
         HeadSyntax::Never => Ok(denial(alloc, schema, atoms, names)),
     }

@@ -13,7 +13,7 @@ use Rattle.esto_docmodel.specs.declared.file.Store.{Store}
 use Rattle.esto_course.specs.Course.{Stops, judges, gives}
 use Rattle.esto_course.specs.Course.Stops.{refused}
 use Rattle.esto_course.proofs.Steps.{first_stops, then_goes, gives_goes}
-use Rattle.esto_lines.specs.Faults.{Gives}
+use Rattle.esto_ports.specs.FileFaults.{Gives}
 use Rattle.esto_ports.specs.Files.{Files}
 use Rattle.esto_ports.specs.declared.file_fault.FileError.{FileError}
 use Rattle.esto_ports.specs.declared.file_fault.FileError.TheVariants.{Fault}

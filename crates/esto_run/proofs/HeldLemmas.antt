@@ -9,7 +9,7 @@ use Rattle.esto_columns.specs.CodedRows.{CodedRows}
 use Rattle.esto_columns.specs.Interned.{Grows, AreCodesOf, AreCodedRows}
 use Rattle.esto_columns.specs.declared.stored.StoredRows.{StoredRows}
 use Rattle.esto_docs.specs.Coded.{CodesFile}
-use Rattle.esto_lines.specs.Faults.{Gives}
+use Rattle.esto_ports.specs.FileFaults.{Gives}
 use Rattle.esto_ports.specs.declared.file_fault.FileError.{FileError}
 use Rattle.esto_ports.specs.declared.file_fault.FileError.TheVariants.{Fault, OutOfMemory}
 use Rattle.esto_ports.specs.declared.file_fault.FileFault.{FileFault}

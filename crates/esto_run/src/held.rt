@@ -1,7 +1,7 @@
 //! Rows of fragments, kept as codes of their texts.
 ghost use Rattle.std.specs.Prelude.{◌≡◌, ◌<◌, [], length, map, OnOk, OnErr};
 ghost use Rattle.esto_docmodel.specs.Stores.{IsShapeFor};
-ghost use Rattle.esto_lines.specs.Faults.{Gives};
+ghost use Rattle.esto_ports.specs.FileFaults.{Gives};
 ghost use Rattle.esto_run.specs.Opened.{ArePut, HaveTexts, held_of};
 ghost use Rattle.esto_run.specs.Stored.{AreEmpty};
 ghost use Rattle.esto_docs.specs.Stores.{IsRowIn, first_fault_in};

@@ -1,7 +1,7 @@
 //! The rows of all fragments, opened one by one.
 ghost use Rattle.std.specs.Prelude.{◌≡◌, ◌≢◌, ℕ, List, [], ◌∷◌, ◌++◌, ◌<◌, length, map, slice_get, IfOk, IfSome, OnOk, OnErr};
 ghost use Rattle.esto_docmodel.specs.declared.file.Store.{Store};
-ghost use Rattle.esto_lines.specs.Faults.{Gives};
+ghost use Rattle.esto_ports.specs.FileFaults.{Gives};
 ghost use Rattle.esto_steps.specs.Rows.{held_by};
 ghost use Rattle.esto_run.specs.Opened.{AreRowsFor, AreOpened, rows_held, unopened};
 ghost use Rattle.esto_docs.specs.Stores.{first_fault_in};

@@ -1,5 +1,5 @@
 //! What is written in a catalogue, in plain data: after this file nothing knows TOML.
-ghost use Rattle.std.specs.Prelude.{◌≡◌, ◌++◌, ◌∷◌, [], None, Some, IfOk, IfErr, MatchOption, OnOk};
+ghost use Rattle.std.specs.Prelude.{◌≡◌, ◌++◌, ◌∷◌, [], None, Some, codes, IfOk, IfErr, MatchOption, OnOk};
 ghost use Rattle.toml.specs.Data.{get_member};
 ghost use Rattle.toml.specs.View.{view, items_view, table_view};
 ghost use Rattle.esto_settings.specs.Settings.{is_same, has_key, setting_at, texts_of, array_setting, setting_of, entry_of, switch_of, entries_of, section_of};
@@ -179,14 +179,22 @@ fn switch_of(table: &Table, key: &str) -> Option<bool>
     }
 }
 
-fn document_of(alloc: Global, table: &Table) -> Result<Document, OutOfMemory>
+// The document of a table whose datasets and fragments these are.
+fn document_with(
+    alloc: Global,
+    table: &Table,
+    datasets: Option<SectionTables>,
+    fragments: Option<SectionTables>,
+) -> Result<Document, OutOfMemory>
+    requires datasets { datasets
+        ≡ section_of (get_member (codes "dataset") (table_view table.now)) }
+    requires fragments { fragments
+        ≡ section_of (get_member (codes "fragment") (table_view table.now)) }
     ensures { IfOk result (λ it. it ≡ document_of (table_view table.now)) }
 {
     let fields = entry_of(alloc, table)?;
-    let core = switch_of(table, "core");
-    let datasets = section_of(alloc, table, "dataset")?;
-    let fragments = section_of(alloc, table, "fragment")?;
     let constraints = section_of(alloc, table, "constraint")?;
+    let core = switch_of(table, "core");
     Ok(Document {
         fields,
         core,
@@ -194,6 +202,14 @@ fn document_of(alloc: Global, table: &Table) -> Result<Document, OutOfMemory>
         fragments,
         constraints,
     })
+}
+
+fn document_of(alloc: Global, table: &Table) -> Result<Document, OutOfMemory>
+    ensures { IfOk result (λ it. it ≡ document_of (table_view table.now)) }
+{
+    let datasets = section_of(alloc, table, "dataset")?;
+    let fragments = section_of(alloc, table, "fragment")?;
+    document_with(alloc, table, datasets, fragments)
 }
 
 /// The document that the bytes are, as UTF-8 and TOML; or why they are none.

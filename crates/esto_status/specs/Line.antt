@@ -147,3 +147,22 @@ line_of (KeyText cell) = codes "KeyText " ++ cell_of cell ++ codes "\n"
 line_of (NoSuchFragment name) = codes "NoSuchFragment " ++ cell_of name ++ codes "\n"
 line_of (Rejected number) = codes "Rejected " ++ (decimal number ++ codes "\n")
 line_of (HeadLengths one other) = codes "HeadLengths " ++ (decimal one ++ (codes " " ++ (decimal other ++ codes "\n")))
+
+-- The status has numbers alone.
+abbrev pub IsCounted : Status → Type 0
+IsCounted (NoSuchNumber number listed) = Unit {0}
+IsCounted (NodeInRow column) = Unit {0}
+IsCounted (Rejected number) = Unit {0}
+IsCounted (HeadLengths one other) = Unit {0}
+IsCounted _ = ⊥
+
+-- The status names a file, a dataset, a fragment or a cell of its row.
+abbrev pub IsOfFile : Status → Type 0
+IsOfFile (ReadFault name) = Unit {0}
+IsOfFile (TooLong name limit) = Unit {0}
+IsOfFile (BadFragment name fault) = Unit {0}
+IsOfFile (NoData name) = Unit {0}
+IsOfFile (BadDataset name fault) = Unit {0}
+IsOfFile (KeyText cell) = Unit {0}
+IsOfFile (NoSuchFragment name) = Unit {0}
+IsOfFile _ = ⊥

@@ -4,7 +4,7 @@ ghost use Rattle.std.specs.Fmt.{decimal};
 ghost use Rattle.std.specs.List.{flat_map};
 ghost use Rattle.csv.specs.Writing.{default_writer, row_text};
 ghost use Rattle.esto_status.specs.Line.{catalogue_word, cell_of, clash_text, difference_text, file_word, kind_word, line_of, section_word, way_text};
-ghost use Rattle.esto_status.specs.Line.{within_text};
+ghost use Rattle.esto_status.specs.Line.{IsCounted, IsOfFile, within_text};
 ghost use Rattle.esto_views.specs.Printing.{constant_text};
 ghost use Rattle.esto_status.specs.declared.status.Status.TheVariants as status;
 
@@ -164,15 +164,23 @@ fn put_within(alloc: Global, line: &mut Bytes, fault: &Option<TextFault>) -> Res
     }
 }
 
+// Puts the words of a catalogue's fault and of its section at the end.
+fn put_words(line: &mut Bytes, fault: &CatalogueFault) -> Result<(), OutOfMemory>
+    ensures { OnOk result (line.new ≡ line.old ++ (catalogue_word fault.now.kind
+        ++ (codes " " ++ section_word fault.now.section))) }
+{
+    line.append(catalogue_word(fault.kind).as_bytes())?;
+    line.append(b" ")?;
+    line.append(section_word(fault.section).as_bytes())
+}
+
 // Puts the words of a catalogue's fault and of its section, and the number of what has it, at the end.
 fn put_section(alloc: Global, line: &mut Bytes, fault: &CatalogueFault) -> Result<(), OutOfMemory>
     ensures { OnOk result (line.new ≡ line.old ++ (catalogue_word fault.now.kind
         ++ (codes " " ++ (section_word fault.now.section
         ++ (codes " " ++ (decimal fault.now.number ++ codes " ")))))) }
 {
-    line.append(catalogue_word(fault.kind).as_bytes())?;
-    line.append(b" ")?;
-    line.append(section_word(fault.section).as_bytes())?;
+    put_words(line, fault)?;
     line.append(b" ")?;
     put_number(alloc, line, fault.number as u128)?;
     line.append(b" ")
@@ -367,36 +375,66 @@ fn put_differs(alloc: Global, line: &mut Bytes, difference: &Difference) -> Resu
     put_difference(alloc, line, difference)
 }
 
+// Puts the line of a status that has numbers alone.
+fn put_counted(alloc: Global, line: &mut Bytes, status: &Status) -> Result<(), OutOfMemory>
+    requires { IsCounted status.now }
+    ensures { OnOk result (line.new ≡ line.old ++ line_of status.now) }
+{
+    match status {
+        Status::NoSuchNumber(number, listed) => {
+            put_counts(alloc, line, "NoSuchNumber ", *number, *listed)
+        }
+        Status::NodeInRow(column) => put_numbered(alloc, line, "NodeInRow ", *column),
+        Status::Rejected(number) => put_numbered(alloc, line, "Rejected ", *number),
+        Status::HeadLengths(one, other) => put_counts(alloc, line, "HeadLengths ", *one, *other),
+        _ => unreachable!(),
+    }
+}
+
+// Puts the line of a status that names a file, or what is in one.
+fn put_of_file(alloc: Global, line: &mut Bytes, status: &Status) -> Result<(), OutOfMemory>
+    requires { IsOfFile status.now }
+    ensures { OnOk result (line.new ≡ line.old ++ line_of status.now) }
+{
+    match status {
+        Status::ReadFault(name) => put_named(alloc, line, "ReadFault ", name),
+        Status::TooLong(name, limit) => put_too_long(alloc, line, name, *limit),
+        Status::BadFragment(name, fault) => {
+            put_bad_file(alloc, line, "BadFragment ", name, *fault)
+        }
+        Status::NoData(name) => put_named(alloc, line, "NoData ", name),
+        Status::BadDataset(name, fault) => put_bad_file(alloc, line, "BadDataset ", name, *fault),
+        Status::KeyText(cell) => put_named(alloc, line, "KeyText ", cell),
+        Status::NoSuchFragment(name) => put_named(alloc, line, "NoSuchFragment ", name),
+        _ => unreachable!(),
+    }
+}
+
 // Puts the line of a status.
 fn put_status(alloc: Global, line: &mut Bytes, status: &Status) -> Result<(), OutOfMemory>
     ensures { OnOk result (line.new ≡ line.old ++ line_of status.now) }
 {
     match status {
-        Status::Done => Ok(()),
-        Status::OutOfMemory => Ok(()),
+        Status::Done | Status::OutOfMemory => Ok(()),
         Status::Usage => line.append(b"Usage\n"),
-        Status::ReadFault(name) => put_named(alloc, line, "ReadFault ", name),
         Status::WriteFault => line.append(b"WriteFault\n"),
-        Status::TooLong(name, limit) => put_too_long(alloc, line, name, *limit),
         Status::BadCatalogue(fault) => put_bad_catalogue(alloc, line, fault),
         Status::BadQuery(fault) => put_bad_query(alloc, line, *fault),
         Status::NotAcyclic(cycle) => put_not_acyclic(line, cycle),
-        Status::BadFragment(name, fault) => {
-            put_bad_file(alloc, line, "BadFragment ", name, *fault)
-        }
         Status::Unsatisfiable(clash) => put_unsatisfiable(alloc, line, clash),
         Status::NoRewriting => line.append(b"NoRewriting\n"),
-        Status::NoSuchNumber(number, listed) => {
-            put_counts(alloc, line, "NoSuchNumber ", *number, *listed)
-        }
-        Status::NoData(name) => put_named(alloc, line, "NoData ", name),
-        Status::BadDataset(name, fault) => put_bad_file(alloc, line, "BadDataset ", name, *fault),
-        Status::NodeInRow(column) => put_numbered(alloc, line, "NodeInRow ", *column),
         Status::Differs(difference) => put_differs(alloc, line, difference),
-        Status::KeyText(cell) => put_named(alloc, line, "KeyText ", cell),
-        Status::NoSuchFragment(name) => put_named(alloc, line, "NoSuchFragment ", name),
-        Status::Rejected(number) => put_numbered(alloc, line, "Rejected ", *number),
-        Status::HeadLengths(one, other) => put_counts(alloc, line, "HeadLengths ", *one, *other),
+        Status::NoSuchNumber(_, _)
+        | Status::NodeInRow(_)
+        | Status::Rejected(_)
+        | Status::HeadLengths(_, _) => put_counted(alloc, line, status),
+        Status::ReadFault(_)
+        | Status::TooLong(_, _)
+        | Status::BadFragment(_, _)
+        | Status::NoData(_)
+        | Status::BadDataset(_, _)
+        | Status::KeyText(_)
+        | Status::NoSuchFragment(_) => put_of_file(alloc, line, status),
     }
 }
 

@@ -5,10 +5,10 @@ use Rattle.std.specs.Prelude.{option_map}
 use Rattle.esto_ports.specs.declared.file_fault.FileFault.{FileFault}
 use Rattle.esto_ports.specs.declared.file_fault.FileKind.{FileKind}
 use Rattle.esto_ports.specs.declared.file_fault.FileKind.TheVariants.{NotUtf8}
-use Rattle.esto_lines.specs.Faults.{fault_at}
+use Rattle.esto_ports.specs.FileFaults.{fault_at}
 use Rattle.esto_stores.specs.Rows.{Row, are_texts, first_fault}
-use Rattle.esto_lines.specs.Faults.{or_else}
-use Rattle.esto_lines.specs.Faults.{later}
+use Rattle.esto_ports.specs.FileFaults.{or_else}
+use Rattle.esto_ports.specs.FileFaults.{later}
 
 -- Two answers that go on alike.
 both_append : (b c : Bool) (long short after : Option FileFault) (f g : FileFault) → long ≡ or_else short after

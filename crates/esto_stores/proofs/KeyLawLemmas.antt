@@ -7,8 +7,8 @@ use Rattle.std.proofs.lemmas.List.{map-append, length-map}
 use Rattle.esto_term.proofs.ListLemmas.{Contains-head, Contains-rest}
 use Rattle.esto_ports.specs.declared.file_fault.FileFault.{FileFault}
 use Rattle.esto_ports.specs.declared.file_fault.FileKind.TheVariants.{Cells}
-use Rattle.esto_lines.specs.Lines.{line_feed, lines_of, with_feed, LinesJoin}
-use Rattle.esto_lines.specs.Faults.{GoesByLines, FaultsJoin}
+use Rattle.esto_ports.specs.Lines.{line_feed, lines_of, with_feed, LinesJoin}
+use Rattle.esto_ports.specs.FileFaults.{GoesByLines, FaultsJoin}
 use Rattle.esto_stores.specs.Rows.{Row, first_fault}
 use Rattle.esto_stores.specs.Keys.{tab, carriage_return, without_return, cells_of_line, key_rows, key_fault}
 use Rattle.esto_stores.specs.KeyLaws.{with_returns, HasNoReturn, KeyRowsJoin, KeyFaultsJoin, KeyRowsTakeReturns, KeyFaultsTakeReturns}

@@ -7,8 +7,8 @@ use Rattle.std.proofs.lemmas.Bool.{ne_eqb}
 use Rattle.std.proofs.lemmas.List.{take_rest}
 use Rattle.std.proofs.lemmas.List.Quantifiers.{position-Some}
 use Rattle.esto_stores.specs.Rows.{Row}
-use Rattle.esto_lines.specs.Lines.{lines_of}
-use Rattle.esto_lines.proofs.LineLemmas.{none_passes}
+use Rattle.esto_ports.specs.Lines.{lines_of}
+use Rattle.esto_ports.proofs.LineLemmas.{none_passes}
 use Rattle.esto_stores.specs.Keys.{tab, carriage_return, without_return, cells_of_line, key_rows}
 
 pub or_left : (a b : Bool) → (a || b) ≡ false → a ≡ false

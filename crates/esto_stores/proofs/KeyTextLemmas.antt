@@ -9,10 +9,10 @@ use Rattle.std.proofs.lemmas.List.Elements.{All-head, All-tail}
 use Rattle.std.proofs.lemmas.List.Folds.{list_any-append}
 use Rattle.esto_ports.specs.declared.file_fault.FileKind.{FileKind}
 use Rattle.esto_stores.specs.Rows.{Row, are_texts, first_fault}
-use Rattle.esto_lines.specs.Lines.{line_feed, lines_of, LinesBeginAnew}
+use Rattle.esto_ports.specs.Lines.{line_feed, lines_of, LinesBeginAnew}
 use Rattle.esto_stores.specs.Keys.{tab, carriage_return, without_return, cells_of_line, key_rows, key_fault}
 use Rattle.esto_stores.specs.KeyText.{is_part, row_fault, keys_text}
-use Rattle.esto_lines.proofs.LineLemmas.{none_passes}
+use Rattle.esto_ports.proofs.LineLemmas.{none_passes}
 use Rattle.esto_stores.proofs.KeyLemmas.{one_cell, or_left, or_right}
 use Rattle.esto_stores.proofs.RowLemmas.{fault_goes, texts_go}
 

@@ -1,6 +1,6 @@
 -- A turn of a loop over cells or rows.
 use Rattle.std.proofs.Common.{Bor, eq-eqb, append_assoc, None, ◌≡◌, ◌≢◌, ◌<◌, ◌≤◌, ◌+◌, ◌∙◌, ◌++◌, ℕ, List, [], ◌∷◌, Bool, true, false, Option, Some, get_or}
-use Rattle.std.proofs.Common.{take, drop, length, map, refl, ap, sym}
+use Rattle.std.proofs.Common.{take, drop, length, map, refl, ap, sym, subst}
 use Rattle.std.specs.Prelude.{IsUtf8, Result, Ok, Err, MatchResult}
 use Rattle.std.specs.Prelude.{OnOk, is_err}
 use Rattle.std.specs.Result.{is_ok}
@@ -13,11 +13,11 @@ use Rattle.esto_term.specs.declared.text.TextError.{TextError}
 use Rattle.esto_term.specs.declared.text.TextError.TheVariants as text
 use Rattle.esto_ports.specs.declared.file_fault.FileFault.{FileFault}
 use Rattle.esto_ports.specs.declared.file_fault.FileError.{FileError}
-use Rattle.esto_ports.specs.declared.file_fault.FileError.TheVariants.{Fault}
+use Rattle.esto_ports.specs.declared.file_fault.FileError.TheVariants.{Fault, OutOfMemory}
 use Rattle.esto_ports.specs.declared.file_fault.FileKind.{FileKind}
 use Rattle.esto_ports.specs.declared.file_fault.FileKind.TheVariants.{NotUtf8}
-use Rattle.esto_lines.specs.Faults.{fault_at, Gives}
-use Rattle.esto_stores.specs.Rows.{Row, are_texts, first_fault, PutsCell, ReadsRow}
+use Rattle.esto_ports.specs.FileFaults.{fault_at, Gives}
+use Rattle.esto_stores.specs.Rows.{Row, are_texts, first_fault, AddsTexts, PutsCell, ReadsRow}
 use Rattle.esto_stores.specs.Left.{Takes}
 use Rattle.esto_stores.specs.Table.{cells_at}
 
@@ -119,16 +119,34 @@ pub rows_end : (kind : FileKind) (width : ℕ) (taken : Row → Row) (all left r
 unfolding first_fault
 rows_end kind width taken all left rows read e = (read.fault ∙ ap (first_fault kind width taken (length rows + 1)) e, sym (read.same ∙ rw e (append-nil rows)))
 
-pub row_length : (kind : FileKind) (width : ℕ) (taken : Row → Row) (all left more rows : List Row) (cells : Row) → HasRead kind width taken all left rows
-    → left ≡ cells ∷ more → length cells ≢ width → first_fault kind width taken 1 all ≡ Some (fault_at kind (length rows + 1))
-row_length kind width taken all left more rows cells read e size = read.fault ∙ ap (first_fault kind width taken (length rows + 1)) e
-    ∙ (fault_length kind width taken (length rows + 1) cells more size)
+-- What is added of a row: the row, or its fault.
+pub adds_row : (kind : FileKind) (width : ℕ) (taken : Row → Row) (cells row : Row) (before after : List Row) (result : Result (Unit {0}) FileError)
+    → length cells ≡ width → ReadsRow (taken cells) (Ok row) → MatchResult result (λ _. after ≡ before ++ row ∷ []) (λ error. error ≡ OutOfMemory)
+    → AddsTexts kind width taken cells before after result
+adds_row kind width taken cells row before after (Ok done) size read put = (size, read.1, put ∙ ap (λ (r : Row). before ++ r ∷ []) read.0)
+adds_row kind width taken cells row before after (Err error) size read put = rw put tt
 
-pub row_text : (kind : FileKind) (width : ℕ) (taken : Row → Row) (all left more rows : List Row) (cells : Row) → HasRead kind width taken all left rows
-    → left ≡ cells ∷ more → length cells ≡ width → are_texts (taken cells) ≡ false → first_fault kind width taken 1 all
-    ≡ Some (fault_at NotUtf8 (length rows + 1))
-row_text kind width taken all left more rows cells read e size texts = read.fault ∙ ap (first_fault kind width taken (length rows + 1)) e
-    ∙ (fault_text kind width taken (length rows + 1) cells more size texts)
+pub adds_length : (kind : FileKind) (width : ℕ) (taken : Row → Row) (cells : Row) (before after : List Row) (error : FileError) → length cells ≢ width
+    → error ≡ Fault (fault_at kind (length before + 1)) → AddsTexts kind width taken cells before after (Err error)
+adds_length kind width taken cells before after error size is = rw is (λ rest. fault_length kind width taken (length before + 1) cells rest size)
+
+pub adds_text : (kind : FileKind) (width : ℕ) (taken : Row → Row) (cells : Row) (before after : List Row) (error : FileError) → length cells ≡ width
+    → are_texts (taken cells) ≡ false → error ≡ Fault (fault_at NotUtf8 (length before + 1)) → AddsTexts kind width taken cells before after (Err error)
+adds_text kind width taken cells before after error size texts is =
+    rw is (λ rest. fault_text kind width taken (length before + 1) cells rest size texts)
+
+-- A turn that adds a row, and one that stops at its fault.
+pub added_goes : (kind : FileKind) (width : ℕ) (taken : Row → Row) (all left more rows new : List Row) (cells : Row) → HasRead kind width taken all left rows
+    → left ≡ cells ∷ more → AddsTexts kind width taken cells rows new (Ok tt) → HasRead kind width taken all more new
+added_goes kind width taken all left more rows new cells read e adds =
+    subst (HasRead kind width taken all more) (sym adds.2) (row_goes kind width taken all left more rows cells (taken cells) read e adds.0 refl adds.1)
+
+pub added_stops : {A : Type 0} (value : A) (kind : FileKind) (width : ℕ) (taken : Row → Row) (all left more rows new : List Row) (cells : Row)
+    (error : FileError) → HasRead kind width taken all left rows → left ≡ cells ∷ more → AddsTexts kind width taken cells rows new (Err error)
+    → Gives value (first_fault kind width taken 1 all) (Err error)
+added_stops value kind width taken all left more rows new cells (Fault found) read e adds =
+    read.fault ∙ ap (first_fault kind width taken (length rows + 1)) e ∙ adds more
+added_stops value kind width taken all left more rows new cells OutOfMemory read e adds = tt
 
 -- A read that found a record.
 pub taken_some : (before after : List Row) (found : Bool) (cells : Row) → Takes before found cells after → found ≡ true → before ≡ cells ∷ after

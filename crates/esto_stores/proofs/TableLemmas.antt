@@ -6,7 +6,7 @@ use Rattle.std.proofs.lemmas.List.{at_drop_more, at_drop_all, map_more, take_res
 use Rattle.std.proofs.lemmas.Bool.{cases_Bool}
 use Rattle.csv.specs.Reading.{is_bom, strip_bom}
 use Rattle.esto_ports.specs.declared.file_fault.FileKind.TheVariants.{Header}
-use Rattle.esto_lines.specs.Faults.{fault_at}
+use Rattle.esto_ports.specs.FileFaults.{fault_at}
 use Rattle.esto_stores.specs.Rows.{Row}
 use Rattle.esto_stores.specs.Table.{without_marks, header_fault, times_in, place_in}
 

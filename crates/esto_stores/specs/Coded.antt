@@ -10,7 +10,7 @@ use Rattle.esto_ports.specs.declared.file_fault.FileKind.{FileKind}
 use Rattle.esto_ports.specs.declared.file_fault.FileKind.TheVariants.{NotUtf8}
 use Rattle.esto_ports.specs.declared.file_fault.FileError.{FileError}
 use Rattle.esto_ports.specs.declared.file_fault.FileError.TheVariants as content
-use Rattle.esto_lines.specs.Faults.{fault_at}
+use Rattle.esto_ports.specs.FileFaults.{fault_at}
 use Rattle.esto_stores.specs.Rows.{Row, are_texts, first_fault}
 
 -- There is no fault, and the rows of codes are those of the rows of texts, in order; or it is the fault; or memory is

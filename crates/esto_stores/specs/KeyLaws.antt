@@ -1,7 +1,7 @@
 -- Laws of key files.
 use Rattle.std.specs.Prelude.{◌≡◌, ◌==◌, ℕ, if◌then◌else◌, List, [], ◌∷◌, ◌++◌, Contains}
-use Rattle.esto_lines.specs.Lines.{line_feed, with_feed}
-use Rattle.esto_lines.specs.Faults.{FaultJoins}
+use Rattle.esto_ports.specs.Lines.{line_feed, with_feed}
+use Rattle.esto_ports.specs.FileFaults.{FaultJoins}
 use Rattle.esto_stores.specs.Keys.{carriage_return, key_rows, key_fault}
 
 -- Of a text that ends with a line feed and of another one after it, the rows are those of the one and then those of the other.

@@ -1,7 +1,7 @@
 -- The text of a key file.
 use Rattle.std.specs.Prelude.{◌==◌, ◌||◌, ℕ, Bool, List, [], ◌∷◌, ◌++◌, flat_map, position, Option}
 use Rattle.std.specs.List.{list_any, join_with_byte}
-use Rattle.esto_lines.specs.Lines.{line_feed}
+use Rattle.esto_ports.specs.Lines.{line_feed}
 use Rattle.esto_stores.specs.Rows.{Row}
 use Rattle.esto_stores.specs.Keys.{tab, carriage_return}
 

@@ -3,7 +3,7 @@ use Rattle.std.specs.Prelude.{◌==◌, ℕ, if◌then◌else◌, List, [], ◌�
 use Rattle.std.specs.List.{slice_split}
 use Rattle.esto_ports.specs.declared.file_fault.FileFault.{FileFault}
 use Rattle.esto_ports.specs.declared.file_fault.FileKind.TheVariants.{Cells}
-use Rattle.esto_lines.specs.Lines.{lines_of}
+use Rattle.esto_ports.specs.Lines.{lines_of}
 use Rattle.esto_stores.specs.Rows.{Row, first_fault}
 
 -- The byte that parts the cells of a line.

@@ -5,9 +5,11 @@ use Rattle.std.specs.Str.{is_utf8}
 use Rattle.esto_term.specs.declared.text.TextError.{TextError}
 use Rattle.esto_term.specs.declared.text.TextError.TheVariants as text
 use Rattle.esto_ports.specs.declared.file_fault.FileFault.{FileFault}
+use Rattle.esto_ports.specs.declared.file_fault.FileError.{FileError}
+use Rattle.esto_ports.specs.declared.file_fault.FileError.TheVariants as content
 use Rattle.esto_ports.specs.declared.file_fault.FileKind.{FileKind}
 use Rattle.esto_ports.specs.declared.file_fault.FileKind.TheVariants.{NotUtf8}
-use Rattle.esto_lines.specs.Faults.{fault_at}
+use Rattle.esto_ports.specs.FileFaults.{fault_at}
 
 -- A row is a list of cells, each a list of bytes.
 abbrev pub Row : Type 0
@@ -38,3 +40,12 @@ abbrev pub ReadsRow : Row → Result Row TextError → Type 0
 ReadsRow cells (Ok row) = (row ≡ cells) × (are_texts cells ≡ true)
 ReadsRow cells (Err text.NotUtf8) = are_texts cells ≡ false
 ReadsRow cells (Err text.OutOfMemory) = Unit {0}
+
+-- The row has so many cells and no fault, and the cells that are taken of it are put as a row after these; or this is the fault of the row; or memory is
+-- wanting.
+abbrev pub AddsTexts : FileKind → ℕ → (Row → Row) → Row → List Row → List Row → Result (Unit {0}) FileError → Type 0
+AddsTexts kind width taken cells before after (Ok _) =
+    (length cells ≡ width) × (are_texts (taken cells) ≡ true) × (after ≡ before ++ taken cells ∷ [])
+AddsTexts kind width taken cells before after (Err (content.Fault found)) =
+    (rest : List Row) → first_fault kind width taken (length before + 1) (cells ∷ rest) ≡ Some found
+AddsTexts kind width taken cells before after (Err content.OutOfMemory) = Unit {0}

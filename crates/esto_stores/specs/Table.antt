@@ -4,7 +4,7 @@ use Rattle.std.specs.List.{position_or_len}
 use Rattle.csv.specs.Reading.{default_config, is_bom, records}
 use Rattle.esto_ports.specs.declared.file_fault.FileFault.{FileFault}
 use Rattle.esto_ports.specs.declared.file_fault.FileKind.TheVariants.{NoHeader, Header, Length, NotUtf8}
-use Rattle.esto_lines.specs.Faults.{fault_at, or_else}
+use Rattle.esto_ports.specs.FileFaults.{fault_at, or_else}
 use Rattle.esto_stores.specs.Rows.{Row, are_texts, first_fault}
 
 -- The bytes after each byte-order mark that stands at their start.

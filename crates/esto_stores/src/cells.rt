@@ -1,12 +1,13 @@
 //! The cells of a record as texts.
-ghost use Rattle.std.specs.Prelude.{◌≡◌, [], slice_index_or, IfOk};
+ghost use Rattle.std.specs.Prelude.{◌≡◌, ◌++◌, ◌∷◌, [], slice_index_or, IfOk, MatchResult};
 ghost use Rattle.std.specs.Str.{is_utf8};
 ghost use Rattle.csv.specs.Records.{fields_of};
 ghost use Rattle.esto_stores.specs.Rows.{are_texts, PutsCell, ReadsRow};
 ghost use Rattle.esto_stores.specs.Table.{cells_at};
 
 use csv::ByteRecord;
-use esto_term::{List, OutOfMemory, Text, TextError, TextRow};
+use esto_ports::FileError;
+use esto_term::{List, OutOfMemory, Text, TextError, TextRow, TextRows};
 use std::alloc::Global;
 use std::str;
 
@@ -49,6 +50,17 @@ pub fn push_cell(alloc: Global, row: &mut TextRow, cell: &[u8]) -> Result<(), Te
             Err(_) => Err(TextError::OutOfMemory),
         },
         Err(error) => Err(error),
+    }
+}
+
+/// Puts a row after these.
+pub fn put_row(row: TextRow, rows: &mut TextRows) -> Result<(), FileError>
+    ensures { MatchResult result (λ _. rows.new ≡ rows.old ++ row ∷ [])
+        (λ error. error ≡ FileError.OutOfMemory) }
+{
+    match rows.push(row) {
+        Ok(()) => Ok(()),
+        Err(_) => Err(FileError::OutOfMemory),
     }
 }
 

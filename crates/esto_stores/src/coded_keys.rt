@@ -10,8 +10,7 @@ ghost use Rattle.esto_stores.specs.Keys.{tab, key_rows, key_fault};
 use crate::coded_rows::{next_fault, push_code, put_codes};
 use crate::keys::drop_return;
 use esto_columns::{Codes, Rows};
-use esto_lines::cut_line;
-use esto_ports::{FileError, FileKind};
+use esto_ports::{FileError, FileKind, cut_line};
 use esto_term::{TextError, Values};
 use std::alloc::Global;
 

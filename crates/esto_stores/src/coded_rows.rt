@@ -4,8 +4,7 @@ ghost use Rattle.esto_columns.specs.Interned.{Grows};
 ghost use Rattle.esto_stores.specs.Coded.{FaultsNext, PutsCode, PutsCodes};
 
 use esto_columns::{Codes, Rows};
-use esto_lines::fault;
-use esto_ports::{FileError, FileKind};
+use esto_ports::{FileError, FileKind, fault};
 use esto_term::{TextError, Values};
 
 /// Puts the code of a cell at the end of the codes, if it is a text. A new text gets a code.

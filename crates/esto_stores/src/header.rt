@@ -1,7 +1,7 @@
 //! The header of a CSV file.
 ghost use Rattle.std.specs.Prelude.{◌≡◌, ◌∷◌, List, map, IfOk};
 ghost use Rattle.csv.specs.Records.{fields_of};
-ghost use Rattle.esto_lines.specs.Faults.{Gives};
+ghost use Rattle.esto_ports.specs.FileFaults.{Gives};
 ghost use Rattle.esto_stores.specs.Header.{ReadsHeader};
 ghost use Rattle.esto_stores.specs.Left.{Reads, left_of};
 ghost use Rattle.esto_stores.specs.Rows.{Row};
@@ -10,8 +10,7 @@ ghost use Rattle.esto_stores.specs.Table.{times_in, place_in, header_fault};
 use crate::cells::{all_are_texts, cell_at};
 use crate::reader::read_next;
 use csv::{ByteRecord, Reader};
-use esto_lines::fault;
-use esto_ports::{FileError, FileKind};
+use esto_ports::{FileError, FileKind, fault};
 use esto_term::{Places, Text, Values};
 use std::alloc::Global;
 

@@ -1,13 +1,13 @@
 //! The rows of key files.
-ghost use Rattle.std.specs.Prelude.{◌≡◌, ◌==◌, map, IfOk};
+ghost use Rattle.std.specs.Prelude.{◌≡◌, ◌==◌, ◌+◌, length, map, IfOk};
 ghost use Rattle.std.specs.List.{slice_split};
-ghost use Rattle.esto_lines.specs.Faults.{Gives};
-ghost use Rattle.esto_stores.specs.Rows.{ReadsRow};
+ghost use Rattle.esto_ports.specs.FileFaults.{Gives};
+ghost use Rattle.esto_ports.specs.declared.file_fault.FileKind.TheVariants as kinds;
+ghost use Rattle.esto_stores.specs.Rows.{AddsTexts, ReadsRow};
 ghost use Rattle.esto_stores.specs.Keys.{tab, without_return, key_rows, key_fault};
 
-use crate::cells::push_cell;
-use esto_lines::{cut_line, fault};
-use esto_ports::{FileError, FileKind};
+use crate::cells::{push_cell, put_row};
+use esto_ports::{FileError, FileKind, cut_line, fault};
 use esto_term::{List, OutOfMemory, TextError, TextRow, TextRows};
 use std::alloc::{AllocError, Global};
 
@@ -55,6 +55,30 @@ fn text_cells(alloc: Global, cells: &[&[u8]]) -> Result<TextRow, TextError>
     Ok(row)
 }
 
+// Puts the cells of the line of this number, which are to be so many, as a row after these, or finds its fault.
+fn add_line(
+    alloc: Global,
+    line: &[u8],
+    cells: usize,
+    number: u64,
+    rows: &mut TextRows,
+) -> Result<(), FileError>
+    requires { number ≡ length rows.old + 1 }
+    ensures { AddsTexts kinds.Cells cells (λ cells. cells)
+        (slice_split (λ b. b == tab) line.now) rows.old rows.new result }
+{
+    let parts = split_cells(alloc, line)?;
+    let found = parts.as_slice();
+    if found.len() != cells {
+        return Err(fault(FileKind::Cells, number));
+    }
+    match text_cells(alloc, found) {
+        Ok(row) => put_row(row, rows),
+        Err(TextError::NotUtf8) => Err(fault(FileKind::NotUtf8, number)),
+        Err(TextError::OutOfMemory) => Err(FileError::OutOfMemory),
+    }
+}
+
 /// The rows of a key file with that many columns, or its first fault. Each line, less one CR at its end, is a row of the
 /// cells that tabs part. Line by line, counted from 1: Cells where the number of cells is not that of the columns, and
 /// NotUtf8 where a cell is not UTF-8.
@@ -65,17 +89,8 @@ pub fn open_keys(alloc: Global, bytes: &[u8], cells: usize) -> Result<TextRows, 
     let mut rest = bytes;
     'lines: while !rest.is_empty() {
         let (line, after) = cut_line(rest);
-        let number = rows.len() as u64 + 1;
-        let parts = split_cells(alloc, drop_return(line))?;
-        let found = parts.as_slice();
-        if found.len() != cells {
-            return Err(fault(FileKind::Cells, number));
-        }
-        match text_cells(alloc, found) {
-            Ok(row) => rows.push(row)?,
-            Err(TextError::NotUtf8) => return Err(fault(FileKind::NotUtf8, number)),
-            Err(TextError::OutOfMemory) => return Err(FileError::OutOfMemory),
-        }
+        let number = rows.items().len() as u64 + 1;
+        add_line(alloc, drop_return(line), cells, number, &mut rows)?;
         rest = after;
     }
     Ok(rows)

@@ -1,7 +1,7 @@
 //! Laws of key files, for all bytes.
 ghost use Rattle.esto_stores.specs.KeyLaws.{KeyRowsJoin, KeyFaultsJoin, KeyRowsTakeReturns, KeyFaultsTakeReturns};
 
-use esto_lines::laws::{faults_join, lines_begin_anew};
+use esto_ports::{faults_join, lines_begin_anew};
 
 /// A law: of a key file that ends with LF and of another one after it, the rows are those of the one and then those of the
 /// other; the first fault is that of the one, or else that of the other, whose place is moved on by the number of LF in

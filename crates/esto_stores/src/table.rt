@@ -1,20 +1,44 @@
 //! The rows of CSV files.
-ghost use Rattle.std.specs.Prelude.{map};
+ghost use Rattle.std.specs.Prelude.{◌≡◌, ◌+◌, length, map};
 ghost use Rattle.esto_ports.specs.declared.file_fault.FileKind.TheVariants as kinds;
-ghost use Rattle.esto_lines.specs.Faults.{Gives};
-ghost use Rattle.esto_stores.specs.Rows.{first_fault};
+ghost use Rattle.esto_ports.specs.FileFaults.{Gives};
+ghost use Rattle.csv.specs.Records.{fields_of};
+ghost use Rattle.esto_stores.specs.Rows.{AddsTexts, first_fault};
 ghost use Rattle.esto_stores.specs.Left.{Reads, left_of};
 ghost use Rattle.esto_stores.specs.Table.{cells_at, fault_of_records, rows_of_records, table_fault, table_rows};
 
-use crate::cells::text_row;
+use crate::cells::{put_row, text_row};
 use crate::header::read_header;
 use crate::marks::drop_marks;
 use crate::reader::{open_reader, read_next};
 use csv::{ByteRecord, Reader};
-use esto_lines::fault;
-use esto_ports::{FileError, FileKind};
+use esto_ports::{FileError, FileKind, fault};
 use esto_term::{List, Text, TextError, TextRow, TextRows};
 use std::alloc::Global;
+
+// Puts the cells at these places of the record of this number, which is to have so many, as a row after these, or finds its
+// fault.
+fn add_record(
+    alloc: Global,
+    cells: &ByteRecord,
+    width: usize,
+    places: &[usize],
+    number: u64,
+    rows: &mut TextRows,
+) -> Result<(), FileError>
+    requires { number ≡ length rows.old + 1 }
+    ensures { AddsTexts kinds.Length width (cells_at places.now) (fields_of cells.now)
+        rows.old rows.new result }
+{
+    if cells.len() != width {
+        return Err(fault(FileKind::Length, number));
+    }
+    match text_row(alloc, cells, places) {
+        Ok(row) => put_row(row, rows),
+        Err(TextError::NotUtf8) => Err(fault(FileKind::NotUtf8, number)),
+        Err(TextError::OutOfMemory) => Err(FileError::OutOfMemory),
+    }
+}
 
 // The records that the reader has left, as rows of the cells at these places.
 fn read_rows(
@@ -32,14 +56,7 @@ fn read_rows(
     let mut cells = ByteRecord::new(alloc);
     'records: while read_next(reader, &mut cells)? {
         let number = rows.len() as u64 + 1;
-        if cells.len() != width {
-            return Err(fault(FileKind::Length, number));
-        }
-        match text_row(alloc, &cells, places) {
-            Ok(row) => rows.push(row)?,
-            Err(TextError::NotUtf8) => return Err(fault(FileKind::NotUtf8, number)),
-            Err(TextError::OutOfMemory) => return Err(FileError::OutOfMemory),
-        }
+        add_record(alloc, &cells, width, places, number, &mut rows)?;
     }
     Ok(rows)
 }

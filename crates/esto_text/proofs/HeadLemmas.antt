@@ -116,10 +116,6 @@ module _ (tokens so_far : List Token) (r : ℕ) (rest : List Token) (more : Bool
   head_fails on e f = row_fails (IsRow IsName) (AName ∷ MoreNames ∷ []) tokens so_far (rest_of more r rest) more on h e
       (subst (λ (b : Bool). Fails (AName ∷ MoreNames ∷ []) (rest_of b r rest) e) (sym on) f)
 
-  pub head_full_fails : more ≡ true → r ≡ 0 → Fails (AName ∷ MoreNames ∷ []) tokens (Syntax (length rest))
-  head_full_fails on z = head_fails on (Syntax (length rest)) (subst (λ (n : ℕ). Fails (AName ∷ MoreNames ∷ []) (limited_row n rest) (Syntax (length rest)))
-      (sym z) (no_room_fails rest (Syntax (length rest)) refl))
-
   pub head_next : more ≡ true → (room : ℕ) → r ≡ suc room → (x : Token) (after' left : List Token) (more' : Bool) → (rest ≡ x ∷ after') × IsName x
       → Ended RightParen more' after' left
       → (s : List Symbol) → Goes (IsRow IsName) (AName ∷ MoreNames ∷ s) s tokens (so_far ++ x ∷ []) (rest_of more' room left) more'

@@ -1,19 +1,34 @@
 //! Groups and their entries.
-ghost use Rattle.std.specs.Prelude.{◌<◌, [], ◌∷◌, length, IfOk, IfErr};
-ghost use Rattle.esto_text.specs.Grammar.{IsEntry, IsGroup};
-ghost use Rattle.esto_text.specs.Machine.{AnEntry, MoreEntries, Takes, Fails};
+ghost use Rattle.std.specs.Prelude.{◌≡◌, ◌<◌, [], ◌∷◌, drop, length, true, false, IfOk, IfErr};
+ghost use Rattle.esto_text.specs.declared.stop.Stop.TheVariants.{Syntax};
+ghost use Rattle.esto_text.specs.declared.token.Token.{Token};
+ghost use Rattle.esto_text.specs.Grammar.{class_of, is_term, IsEntry, IsGroup};
+ghost use Rattle.esto_text.specs.Machine.{class_at, AnEntry, MoreEntries, Takes, Fails};
 ghost use Rattle.esto_text.specs.View.{entry_of, entries_of};
 
 use crate::parts::{class_at, separator, term};
 use crate::paths::path;
 use crate::stop::Stop;
 use crate::token::{Token, TokenKind};
-use crate::tree::EntrySyntax;
+use crate::tree::{EntrySyntax, StepSyntax};
 use esto_term::List;
 use std::alloc::Global;
 
 /// The greatest number of braces that are open at one time.
 pub const MAX_OPEN: u32 = 32;
+
+/// The entry of this path and of the term behind the colon, and what comes after it.
+fn term_entry(path: List<StepSyntax>, tokens: &[Token]) -> Result<(EntrySyntax, &[Token]), Stop>
+    requires { class_at tokens.now ≡ TokenKind.Colon }
+    ensures ok { IfOk result (λ x. (term : Token) × (drop 1 tokens.now ≡ term ∷ x.1.now)
+        × (is_term (class_of term) ≡ true) × (x.0 ≡ EntrySyntax.Value path term)) }
+    ensures err { IfErr result (λ e. (e ≡ Syntax (length (drop 1 tokens.now)))
+        × (is_term (class_at (drop 1 tokens.now)) ≡ false)) }
+{
+    let (_, rest) = tokens.split_at(1);
+    let (term, rest) = term(rest)?;
+    Ok((EntrySyntax::Value { path, term }, rest))
+}
 
 /// An entry, where so many braces are open, and what comes after it.
 #[cycle(group)]
@@ -24,11 +39,7 @@ fn entry(alloc: Global, tokens: &[Token], depth: u32) -> Result<(EntrySyntax, &[
 {
     let (path, rest) = path(alloc, tokens)?;
     match class_at(rest) {
-        TokenKind::Colon => {
-            let (_, rest) = rest.split_at(1);
-            let (term, rest) = term(rest)?;
-            Ok((EntrySyntax::Value { path, term }, rest))
-        }
+        TokenKind::Colon => term_entry(path, rest),
         TokenKind::LeftBrace => {
             if depth >= MAX_OPEN {
                 return Err(Stop::Syntax(rest.len()));

@@ -1,6 +1,7 @@
 //! Rows of names and of terms.
-ghost use Rattle.std.specs.Prelude.{[], ◌∷◌, IfOk, IfErr};
-ghost use Rattle.esto_text.specs.Grammar.{IsName, IsTerm, IsRow};
+ghost use Rattle.std.specs.Prelude.{◌≡◌, ◌<◌, ◌-◌, [], ◌∷◌, ◌++◌, length, IfOk, IfErr, if◌then◌else◌};
+ghost use Rattle.esto_text.specs.declared.token.Token.{Token};
+ghost use Rattle.esto_text.specs.Grammar.{class_of, IsName, IsTerm, IsRow};
 ghost use Rattle.esto_text.specs.Limits.{limited_row};
 ghost use Rattle.esto_text.specs.Machine.{AName, ATerm, MoreNames, MoreTerms, Takes, Fails};
 
@@ -13,6 +14,24 @@ use std::alloc::Global;
 /// The greatest number of names of a head.
 pub const MAX_NAMES: usize = 32;
 
+/// Adds the name with which the tokens begin to the names of a head, where there is room; gives
+/// whether a comma comes then, and not the parenthesis, and what comes after that.
+fn add_name<'a>(tokens: &'a [Token], names: &mut Tokens) -> Result<(bool, &'a [Token]), Stop>
+    ensures ok { IfOk result (λ x. (name : Token) × (sign : Token)
+        × (tokens.now ≡ name ∷ sign ∷ x.1.now) × (class_of name ≡ TokenKind.Name)
+        × (class_of sign ≡ (if x.0 then TokenKind.Comma else TokenKind.RightParen))
+        × (names.new ≡ names.old ++ name ∷ []) × (length names.old < MAX_NAMES)) }
+    ensures err { IfErr result (λ e. Fails (AName ∷ MoreNames ∷ [])
+        (limited_row (MAX_NAMES - length names.old) tokens.now) e) }
+{
+    if names.len() >= MAX_NAMES {
+        return Err(Stop::Syntax(tokens.len()));
+    }
+    let (name, rest) = sign(tokens, TokenKind::Name)?;
+    names.push(name)?;
+    separator(rest, TokenKind::RightParen)
+}
+
 /// The names of a head, of which there are not too many, and what comes after its parenthesis.
 pub fn names(alloc: Global, tokens: &[Token]) -> Result<(Tokens, &[Token]), Stop>
     ensures ok { IfOk result (λ x. Takes (IsRow IsName x.0) (limited_row MAX_NAMES tokens.now) x.1.now) }
@@ -22,12 +41,7 @@ pub fn names(alloc: Global, tokens: &[Token]) -> Result<(Tokens, &[Token]), Stop
     let mut rest = tokens;
     let mut more = true;
     'names: while more {
-        if names.len() >= MAX_NAMES {
-            return Err(Stop::Syntax(rest.len()));
-        }
-        let (name, after) = sign(rest, TokenKind::Name)?;
-        names.push(name)?;
-        (more, rest) = separator(after, TokenKind::RightParen)?;
+        (more, rest) = add_name(rest, &mut names)?;
     }
     Ok((names, rest))
 }

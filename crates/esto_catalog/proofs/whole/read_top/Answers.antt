@@ -1,6 +1,6 @@
-use Rattle.std.proofs.Common.{refl}
-use Rattle.esto_course.proofs.Steps.{first_stops, then_stops, then_goes, gives_goes}
+use Rattle.esto_course.proofs.Steps.{first_stops, then_stops, then_goes}
 use Rattle.esto_catalog.proofs.RowLemmas.{row_exit}
+use Rattle.esto_catalog.proofs.WholeLemmas.{sections_go, sections_stop}
 use Rattle.esto_catalog.specs.Whole.{reads_top}
 use Rattle.esto_catalog.proofs.whole.read_top.Goals as goal
 
@@ -22,38 +22,17 @@ returns-in_err-core c =
     (then_stops _ _ _ (rw c.items-entry.ensures at c.in_ok-version.ensures)
     (first_stops _ _ c.in_err-core.ensures)))
 
-pub returns-in_err-fits_section : goal.returns-in_err-fits_section
-returns-in_err-fits_section c =
-    row_exit (reads_top c.args.document.now) _ _ c.from_residual-in_err-fits_section.ensures.1
+pub returns-in_err-fits_sections : goal.returns-in_err-fits_sections
+returns-in_err-fits_sections c =
+    row_exit (reads_top c.args.document.now) _ _ c.from_residual-in_err-fits_sections.ensures.1
     (then_stops _ _ _ (rw (c.top_keys-keys.ensures, c.items-entry.ensures) at c.in_ok-knows_keys.ensures)
     (then_stops _ _ _ (rw c.items-entry.ensures at c.in_ok-version.ensures)
     (then_stops _ _ _ c.in_ok-core.ensures
-    (first_stops _ _ c.in_err-fits_section.ensures))))
-
-pub returns-in_err-fits_section-2 : goal.returns-in_err-fits_section-2
-returns-in_err-fits_section-2 c =
-    row_exit (reads_top c.args.document.now) _ _ c.from_residual-in_err-fits_section-2.ensures.1
-    (then_stops _ _ _ (rw (c.top_keys-keys.ensures, c.items-entry.ensures) at c.in_ok-knows_keys.ensures)
-    (then_stops _ _ _ (rw c.items-entry.ensures at c.in_ok-version.ensures)
-    (then_stops _ _ _ c.in_ok-core.ensures
-    (then_stops _ _ _ c.in_ok-fits_section.ensures
-    (first_stops _ _ c.in_err-fits_section-2.ensures)))))
-
-pub returns-in_err-fits_section-3 : goal.returns-in_err-fits_section-3
-returns-in_err-fits_section-3 c =
-    row_exit (reads_top c.args.document.now) _ _ c.from_residual-in_err-fits_section-3.ensures.1
-    (then_stops _ _ _ (rw (c.top_keys-keys.ensures, c.items-entry.ensures) at c.in_ok-knows_keys.ensures)
-    (then_stops _ _ _ (rw c.items-entry.ensures at c.in_ok-version.ensures)
-    (then_stops _ _ _ c.in_ok-core.ensures
-    (then_stops _ _ _ c.in_ok-fits_section.ensures
-    (then_stops _ _ _ c.in_ok-fits_section-2.ensures
-    (first_stops _ _ c.in_err-fits_section-3.ensures))))))
+    (sections_stop c.args.document.now c.in_ok-version.version c.in_ok-core.core _ c.in_err-fits_sections.ensures))))
 
 pub returns : goal.returns
 returns c =
     then_goes _ _ _ _ (rw (c.top_keys-keys.ensures, c.items-entry.ensures) at c.in_ok-knows_keys.ensures)
     (then_goes _ _ _ _ (rw c.items-entry.ensures at c.in_ok-version.ensures)
     (then_goes _ _ _ _ c.in_ok-core.ensures
-    (then_goes _ _ _ _ c.in_ok-fits_section.ensures
-    (then_goes _ _ _ _ c.in_ok-fits_section-2.ensures
-    (then_goes _ _ _ _ c.in_ok-fits_section-3.ensures (gives_goes _ _ _ refl))))))
+    (sections_go c.args.document.now c.in_ok-version.version c.in_ok-core.core _ c.in_ok-fits_sections.ensures)))

@@ -13,6 +13,7 @@ returns-clause-rules c =
     c.add_tuple_rule-2.ensures.rules
 
 pub returns-clause-names : goal.returns-clause-names
+unfolding lib.Utf8.encode
 returns-clause-names c =
     after (map written c.args.rules.now) _ _ (take 6 document_names) _ c.add_tuple_rule-2.result
     (grown (map written c.args.rules.now) _ _ (take 5 document_names) _ c.in_ok-add_rules_of_values.ensures.names

@@ -15,6 +15,7 @@ returns-clause-rules c =
     ++ denial (atom root (0 ∷ []) ∷ below c.args.base (1 ∷ 0 ∷ []) ∷ []) ∷ [])) same c.add_denial.ensures.rules)
 
 pub returns-clause-names : goal.returns-clause-names
+unfolding lib.Utf8.encode
 returns-clause-names c =
     after (map written c.args.rules.now) _ _ document_names _ c.add_denial.result c.in_ok-add_rules_of_documents.ensures.names
     c.add_denial.ensures.names

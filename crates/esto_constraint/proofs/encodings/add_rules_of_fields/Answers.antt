@@ -13,6 +13,7 @@ returns-clause-rules c =
     c.add_equality_rule-3.ensures.rules
 
 pub returns-clause-names : goal.returns-clause-names
+unfolding lib.Utf8.encode
 returns-clause-names c =
     after (map written c.args.rules.now) _ _ (take 2 document_names) _ c.add_equality_rule-3.result
     (grown (map written c.args.rules.now) _ _ (take 1 document_names) _ c.in_ok-add_equality_rule.ensures.names

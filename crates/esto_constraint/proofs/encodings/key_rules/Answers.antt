@@ -10,5 +10,6 @@ returns-clause-rules c =
     begun (map rule_of c.new-rules.result) _ (key_rules c.args.relation) (ap (map rule_of) c.new-rules.ensures) c.in_ok-add_equality_rule.ensures.rules
 
 pub returns-clause-names : goal.returns-clause-names
+unfolding lib.Utf8.encode
 returns-clause-names c =
     begun (map written c.new-rules.result) _ key_names (ap (map written) c.new-rules.ensures) c.in_ok-add_equality_rule.ensures.names

@@ -1,15 +1,20 @@
-use Rattle.std.proofs.Common.{List, ap, arith, sym, ◌∙◌}
+use Rattle.std.proofs.Common.{◌≡◌, ◌∷◌, [], List, None, slice_get, refl, ap, arith, sym, ◌∙◌}
+use Rattle.std.proofs.lemmas.List.{drop_all}
 use Rattle.std.proofs.lemmas.Result.{IfOk-weaker}
 use Rattle.serde_json.specs.Data.{Data, array, item, no_items, object, string}
 use Rattle.serde_json.proofs.Views.{view-Object}
-use Rattle.serde_json.specs.View.{view}
+use Rattle.serde_json.specs.View.{view, members_view}
 use Rattle.serde_json.specs.declared.value.Value as json
 use Rattle.esto_docmodel.specs.Shapes.{entries_of}
 use Rattle.esto_docmodel.specs.declared.pattern.Entry.{Entry}
 use Rattle.esto_docmodel.specs.declared.pattern.Step.{Step}
-use Rattle.esto_docs.specs.Documents.{document, first_name, later_steps, path_data}
+use Rattle.esto_docs.specs.Documents.{document, first_name, later_steps, members, path_data}
 use Rattle.esto_docs.proofs.GroupLemmas.{fields_first, group_data, item_first, members_go, text_data, value_data}
 use Rattle.esto_docs.proofs.document.+write.Goals as goal
+
+none_first : (entries : List Entry) → slice_get entries 0 ≡ None → entries ≡ []
+none_first [] is = refl
+none_first (first ∷ rest) is = cc is
 
 pub members_of-entries-preserved : goal.members_of-entries-preserved
 members_of-entries-preserved t c =
@@ -52,3 +57,15 @@ document_of-returns t c =
     ∙ item_first c.args.entries.now c.in-Some.first.now c.args.row.now c.path_of.result.now c.in-Some.ensures.value c.path_of.ensures.first
     (sym c.begins_with_field.ensures ∙ c.if-begins_with_field.false) in
     IfOk-weaker c.array_of.result _ _ (λ it is. is ∙ whole) c.array_of.ensures
+
+pub document_of-returns-in_default : goal.document_of-returns-in_default
+document_of-returns-in_default t c =
+    view-Object c.new.result ∙ ap (λ es. object (members_view es)) c.new.ensures.empty
+    ∙ sym (ap (λ (es : List Entry). document (entries_of es) c.args.row.now) (none_first c.args.entries.now (sym c.in_default.ensures.value)))
+
+pub members_of-entries-init : goal.members_of-entries-init
+members_of-entries-init t c = (
+  omega arith,
+  ap members_view c.new-members.ensures.empty
+      ∙ sym (ap (λ (es : List Entry). members (entries_of es) c.args.row.now) (drop_all _ c.args.entries.now (omega arith))),
+)

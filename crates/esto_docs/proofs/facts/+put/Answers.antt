@@ -11,8 +11,9 @@ use Rattle.esto_docmodel.proofs.GainLemmas.{room_stays}
 use Rattle.esto_docmodel.proofs.RisingLemmas.{rising_fields, rising_items}
 use Rattle.esto_docs.specs.Filling.{value_node}
 use Rattle.esto_docs.specs.Trees.{trees_of, fields_of}
-use Rattle.esto_docs.proofs.FactLemmas.{bare, bool_node, items_node, members_node, null_node, number_bare, string_node}
+use Rattle.esto_docs.proofs.FactLemmas.{bool_node, items_node, members_node, null_node, number_bare, string_node}
 use Rattle.esto_docs.proofs.FactLemmas.{inside_puts, no_row, node_puts, turns_end, turns_more, turns_start}
+use Rattle.esto_docs.proofs.HoldingLemmas.{nothing_inside}
 use Rattle.esto_docs.proofs.TreeLemmas.{all_rise}
 use Rattle.esto_docs.proofs.facts.+put.Goals as goal
 
@@ -41,12 +42,12 @@ put_inside-returns-in-Object-clause-puts g t c =
 pub put_inside-returns-in-Null-clause-puts : goal.put_inside-returns-in-Null-clause-puts
 put_inside-returns-in-Null-clause-puts g t c =
     no_row g.S.FactSink.Holds g.S.FactSink.arities c.args.relations.now _ c.args.first _ c.args.sink.now
-    (bare _ _ (null_node c.args.value.now c.in-Null.is))
+    (nothing_inside _ _ (null_node c.args.value.now c.in-Null.is))
 
 pub put_inside-returns-in-Bool-clause-puts : goal.put_inside-returns-in-Bool-clause-puts
 put_inside-returns-in-Bool-clause-puts g t c =
     no_row g.S.FactSink.Holds g.S.FactSink.arities c.args.relations.now _ c.args.first _ c.args.sink.now
-    (bare _ _ (bool_node c.args.value.now c.in-Bool.field-0 c.in-Bool.is))
+    (nothing_inside _ _ (bool_node c.args.value.now c.in-Bool.field-0 c.in-Bool.is))
 
 pub put_inside-returns-in-Number-clause-puts : goal.put_inside-returns-in-Number-clause-puts
 put_inside-returns-in-Number-clause-puts g t c =
@@ -56,7 +57,7 @@ put_inside-returns-in-Number-clause-puts g t c =
 pub put_inside-returns-in-String-clause-puts : goal.put_inside-returns-in-String-clause-puts
 put_inside-returns-in-String-clause-puts g t c =
     no_row g.S.FactSink.Holds g.S.FactSink.arities c.args.relations.now _ c.args.first _ c.args.sink.now
-    (bare _ _ (string_node c.args.value.now c.in-String.field-0 c.in-String.is))
+    (nothing_inside _ _ (string_node c.args.value.now c.in-String.field-0 c.in-String.is))
 
 pub put_members-members-init : goal.put_members-members-init
 put_members-members-init g t c = (

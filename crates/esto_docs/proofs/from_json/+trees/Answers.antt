@@ -1,14 +1,21 @@
-use Rattle.std.proofs.Common.{◌∙◌, ◌++◌, ◌∷◌, [], List, string_cmp, sym, ap, subst, append_assoc}
+use Rattle.std.proofs.Common.{◌∙◌, ◌++◌, ◌∷◌, [], List, true, false, string_cmp, sym, ap, subst, append_assoc}
 use Rattle.std.proofs.lemmas.List.{append-nil, take_all}
+use Rattle.std.proofs.lemmas.Result.{IfOk-weaker}
 use Rattle.std.specs.List.Sorted.{IsStrictlySortedBy}
 use Rattle.std.specs.Map.{keys_of}
-use Rattle.serde_json.specs.View.{view, items_view, members_view}
+use Rattle.serde_json.specs.Data.{boolean, null, number, string}
+use Rattle.serde_json.specs.View.{number_view, view, items_view, members_view}
 use Rattle.serde_json.specs.declared.value.Value.{Value}
+use Rattle.serde_json.specs.declared.value.Value as json
 use Rattle.serde_json.proofs.Views.{Entry, view-Array, view-Object}
 use Rattle.esto_docs.specs.Trees.{tree_of, trees_of, fields_of}
 use Rattle.esto_docmodel.specs.Names.{Rise}
 use Rattle.esto_docmodel.specs.declared.tree.Tree.{Tree}
 use Rattle.esto_docmodel.specs.declared.tree.Tree.TheVariants.{Items, Fields}
+use Rattle.esto_docmodel.specs.declared.tree.Tree.TheVariants as tree
+use Rattle.std.specs.Prelude.{string_bytes}
+use Rattle.esto_docs.proofs.FactLemmas.{tree_as, view_bool, view_null, view_number}
+use Rattle.esto_docs.proofs.GroupLemmas.{text_data}
 use Rattle.esto_docs.proofs.TreeLemmas.{trees_go, fields_go, fields_push, rises}
 use Rattle.esto_docs.proofs.from_json.+trees.Goals as goal
 
@@ -59,3 +66,32 @@ pub tree_of-returns-in_ok-fields_of-in-Object : goal.tree_of-returns-in_ok-field
 tree_of-returns-in_ok-fields_of-in-Object t c =
     ap Fields c.in_ok-fields_of-in-Object.ensures
     ∙ sym (ap (λ (value : Value). tree_of (view value)) c.in-Object.is ∙ ap tree_of (view-Object c.in-Object.members))
+
+pub tree_of-returns-in-Null : goal.tree_of-returns-in-Null
+tree_of-returns-in-Null t c = sym (tree_as c.args.value.now json.Null null c.in-Null.is view_null)
+
+pub tree_of-returns-in-Bool-true : goal.tree_of-returns-in-Bool-true
+tree_of-returns-in-Bool-true t c =
+    let is_true = c.in-Bool-true.is ∙ ap json.Bool (sym c.in-Bool-true.field-0-is ∙ c.in-Bool-true.field-0-test) in
+    IfOk-weaker c.value_of.result _ _
+    (λ it is. is ∙ sym (tree_as c.args.value.now (json.Bool true) (boolean true) is_true (view_bool true))) c.value_of.ensures
+
+pub tree_of-returns-in-Bool-false : goal.tree_of-returns-in-Bool-false
+tree_of-returns-in-Bool-false t c =
+    let is_false = c.in-Bool-false.is ∙ ap json.Bool (sym c.in-Bool-false.field-0-is ∙ c.in-Bool-false.field-0-test) in
+    IfOk-weaker c.value_of-in-Bool-false.result _ _
+    (λ it is. is ∙ sym (tree_as c.args.value.now (json.Bool false) (boolean false) is_false (view_bool false)))
+    c.value_of-in-Bool-false.ensures
+
+pub tree_of-returns-in-Number : goal.tree_of-returns-in-Number
+tree_of-returns-in-Number t c =
+    let own = c.in-Number.number in
+    IfOk-weaker c.number_of.result _ _
+    (λ it is. is ∙ sym (tree_as c.args.value.now (json.Number own) (number (number_view own)) c.in-Number.is (view_number own))) c.number_of.ensures
+
+pub tree_of-returns-in-String : goal.tree_of-returns-in-String
+tree_of-returns-in-String t c =
+    let text = c.in-String.text in
+    IfOk-weaker c.value_of-in-String.result _ _
+    (λ it is. is ∙ ap tree.Value c.as_str.ensures.value
+    ∙ sym (tree_as c.args.value.now (json.String text) (string (string_bytes text)) c.in-String.is (text_data text))) c.value_of-in-String.ensures

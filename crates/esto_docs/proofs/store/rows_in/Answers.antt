@@ -3,7 +3,7 @@ use Rattle.esto_docmodel.specs.Stores.{IsShapeFor}
 use Rattle.esto_docmodel.specs.declared.file.Shape.{Shape}
 use Rattle.esto_docmodel.specs.Layouts.{IsLayout}
 use Rattle.esto_docmodel.specs.Shapes.{entries_of}
-use Rattle.esto_lines.specs.Faults.{Gives}
+use Rattle.esto_ports.specs.FileFaults.{Gives}
 use Rattle.esto_stores.specs.Keys.{key_rows, key_fault}
 use Rattle.esto_stores.specs.Table.{table_rows, table_fault}
 use Rattle.esto_docs.specs.Stores.{IsRowIn, first_fault_in, GivesRows}

@@ -1,4 +1,4 @@
-use Rattle.std.proofs.Common.{◌<◌, [], map, get_or, Contains, refl, sym, subst}
+use Rattle.std.proofs.Common.{◌<◌, [], ℕ, List, map, get_or, Contains, refl, sym, subst}
 use Rattle.std.specs.List.{AllZip}
 use Rattle.std.proofs.lemmas.List.Elements.{Contains-get_or}
 use Rattle.std.proofs.lemmas.List.{length-map}
@@ -9,8 +9,9 @@ use Rattle.esto_term.proofs.ListLemmas.{map_at}
 use Rattle.esto_views.specs.Fragments.{patterns_of}
 use Rattle.esto_views.specs.Plans.{fact_of}
 use Rattle.esto_columns.proofs.CodingLemmas.{grows_on}
-use Rattle.esto_steps.specs.Planned.{IsGetOf, IsKnown, IsSource, AreStepsAfter, atoms_of}
-use Rattle.esto_plan.proofs.PlanLemmas.{planned_more, can_here, fragment_there, head_known, planned_all}
+use Rattle.esto_steps.specs.Planned.{IsGetOf, IsKnown, IsSource, AreStepsAfter, CanPlan, atoms_of}
+use Rattle.esto_plan.proofs.PlanLemmas.{IsPlannedBelow, planned_start, planned_more, can_here, fragment_there, head_known, planned_all}
+use Rattle.esto_term.specs.declared.term.Term.{Term}
 use Rattle.esto_plan.proofs.planning.steps_of.Goals as goal
 
 pub item-atom-requires : goal.item-atom-requires
@@ -85,3 +86,21 @@ returns-clause-steps c =
     c.atoms.invariant c.atoms-test.false
     c.head_of.new.codes c.args.plan.now.head c.in_ok-head.head c.head_of.ensures.grown
     (subst (λ them. AllZip (IsSource c.head_of.new.codes them) c.args.plan.now.head c.in_ok-head.head) c.items.ensures c.in_ok-head.ensures.head))
+
+pub atoms-init : goal.atoms-init
+atoms-init c =
+    let patterns = patterns_of c.args.fragments.now in
+    let atoms = map fact_of c.args.plan.now.atoms in
+    let order = c.items-number-items.result.now in
+    let codes = c.args.codes.now in
+    subst (IsPlannedBelow patterns atoms order 0 codes codes c.new-bound.result) (sym c.new-gets.ensures)
+    (subst (λ (them : List Term). IsPlannedBelow patterns atoms order 0 codes codes them []) (sym c.new-bound.ensures)
+    (planned_start patterns atoms order codes
+    (subst (λ (them : List ℕ). CanPlan patterns [] (atoms_of atoms them)) (sym c.items-number-items.ensures) c.requires.can)))
+
+pub returns-in_err-head-clause-grown : goal.returns-in_err-head-clause-grown
+returns-in_err-head-clause-grown c =
+    grows_on c.args.codes.now c.atoms.codes c.head_of.new.codes c.atoms.invariant.grown c.head_of.ensures.grown
+
+pub returns-clause-grown : goal.returns-clause-grown
+returns-clause-grown c = grows_on c.args.codes.now c.atoms.codes c.head_of.new.codes c.atoms.invariant.grown c.head_of.ensures.grown

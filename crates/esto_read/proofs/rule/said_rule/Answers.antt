@@ -1,6 +1,6 @@
 use Rattle.std.proofs.Common.{ap}
 use Rattle.std.specs.Prelude.{map}
-use Rattle.std.proofs.lemmas.Result.{err_from_is_err_and}
+use Rattle.std.proofs.lemmas.Result.{IfErr-weaker, IfOk-weaker, err_from_is_err_and}
 use Rattle.esto_query.specs.Schemas.{arities_of}
 use Rattle.esto_text.specs.Trees.{Items, Equality}
 use Rattle.esto_text.specs.View.{item_of, head_of, constraint_of}
@@ -31,19 +31,6 @@ returns-in_err-head-in-Items c =
           (map item_of c.in-Items.items) (ap head_of c.in-Items.is) _ (rw c.items-in-Items.ensures at c.in_err-head-in-Items.ensures.err);
     })
 
-pub returns-in_err-left-in-Equality : goal.returns-in_err-left-in-Equality
-returns-in_err-left-in-Equality c =
-    let exit = c.from_residual-in_err-left-in-Equality.ensures.1 in
-    let p = err_from_is_err_and c.from_residual-in_err-left-in-Equality.result exit in
-    rw (p.1, p.2) (record {
-      said = tt;
-      over = tt;
-      error = sides_error c.args.words.now (arities_of c.args.schema.now) c.args.bytes.now (constraint_of c.args.tree.now)
-          (rw c.items.ensures at c.in_ok-atoms.ensures.fits) c.in-Equality.left c.in-Equality.right c.in_ok-atoms.atoms c.body.new.names
-          (ap head_of c.in-Equality.is) (rw (c.new-names.ensures, c.items.ensures) at c.in_ok-atoms.ensures.ok) _
-          (rw c.items-in-Equality.ensures at c.in_err-left-in-Equality.ensures.error);
-    })
-
 -- ---- a tuple rule
 
 pub tuple_rule-requires : goal.tuple_rule-requires
@@ -72,29 +59,38 @@ returns-in_ok-head-in-Items-clause-said c =
 
 -- ---- an equality rule
 
-pub equal_rule-requires : goal.equal_rule-requires
-equal_rule-requires c =
+pub said_equality-requires-clause-parts : goal.said_equality-requires-clause-parts
+said_equality-requires-clause-parts c = λ one other after sides fixed.
     equality_parts c.requires.text.0 c.args.words.now (arities_of c.args.schema.now) c.args.bytes.now (constraint_of c.args.tree.now)
     c.requires.text.1 c.requires.stands c.requires.relations c.in-Equality.left c.in-Equality.right (ap head_of c.in-Equality.is)
-    c.in_ok-atoms.atoms c.in_ok-left-in-Equality.left c.in_ok-left-in-Equality.right c.safe_sides.new.names (record {
+    c.in_ok-atoms.atoms one other after (record {
       between = c.body.new.names;
       body_atoms = rw (c.new-names.ensures, c.items.ensures) at c.in_ok-atoms.ensures.ok;
       body_fits = rw c.items.ensures at c.in_ok-atoms.ensures.fits;
-      sides = c.in_ok-left-in-Equality.ensures.sides;
+      sides = sides;
     })
-    (rw c.items-in-Equality.ensures at c.in_ok-left-in-Equality.ensures.fixed)
+    fixed
 
-pub returns-in_ok-left-in-Equality-clause-said : goal.returns-in_ok-left-in-Equality-clause-said
-returns-in_ok-left-in-Equality-clause-said c =
+pub returns-in-Equality-clause-said : goal.returns-in-Equality-clause-said
+returns-in-Equality-clause-said c =
+    IfOk-weaker c.said_equality.result _ _
+    (λ rule (one, other, after, sides, made).
     equality_said c.args.words.now (arities_of c.args.schema.now) c.args.bytes.now (constraint_of c.args.tree.now)
-    c.in-Equality.left c.in-Equality.right c.equal_rule.result
-    c.in_ok-atoms.atoms c.in_ok-left-in-Equality.left c.in_ok-left-in-Equality.right c.safe_sides.new.names
-    c.equal_rule.ensures.made (ap head_of c.in-Equality.is) (record {
+    c.in-Equality.left c.in-Equality.right rule c.in_ok-atoms.atoms one other after made (ap head_of c.in-Equality.is) (record {
       between = c.body.new.names;
       body_atoms = rw (c.new-names.ensures, c.items.ensures) at c.in_ok-atoms.ensures.ok;
       body_fits = rw c.items.ensures at c.in_ok-atoms.ensures.fits;
-      sides = c.in_ok-left-in-Equality.ensures.sides;
-    })
+      sides = sides;
+    }))
+    c.said_equality.ensures.said
+
+pub returns-in-Equality-clause-error : goal.returns-in-Equality-clause-error
+returns-in-Equality-clause-error c =
+    IfErr-weaker c.said_equality.result _ _
+    (sides_error c.args.words.now (arities_of c.args.schema.now) c.args.bytes.now (constraint_of c.args.tree.now)
+    (rw c.items.ensures at c.in_ok-atoms.ensures.fits) c.in-Equality.left c.in-Equality.right c.in_ok-atoms.atoms c.body.new.names
+    (ap head_of c.in-Equality.is) (rw (c.new-names.ensures, c.items.ensures) at c.in_ok-atoms.ensures.ok))
+    c.said_equality.ensures.error
 
 -- ---- a denial
 
@@ -136,16 +132,16 @@ body-requires-in-Items-clause-stand c =
 pub body-requires-in-Items-clause-relations : goal.body-requires-in-Items-clause-relations
 body-requires-in-Items-clause-relations c = c.requires.relations
 
-pub safe_sides-requires-clause-utf8 : goal.safe_sides-requires-clause-utf8
-safe_sides-requires-clause-utf8 c = c.requires.text.1.1.0
+pub said_equality-requires-clause-utf8 : goal.said_equality-requires-clause-utf8
+said_equality-requires-clause-utf8 c = c.requires.text.1.1.0
 
-pub safe_sides-requires-clause-left : goal.safe_sides-requires-clause-left
-safe_sides-requires-clause-left c =
+pub said_equality-requires-clause-left : goal.said_equality-requires-clause-left
+said_equality-requires-clause-left c =
     name_is_term c.args.bytes.now c.in-Equality.left (head_stands c.args.bytes.now (constraint_of c.args.tree.now) c.requires.stands
     (Equality c.in-Equality.left c.in-Equality.right) (ap head_of c.in-Equality.is)).0
 
-pub safe_sides-requires-clause-right : goal.safe_sides-requires-clause-right
-safe_sides-requires-clause-right c =
+pub said_equality-requires-clause-right : goal.said_equality-requires-clause-right
+said_equality-requires-clause-right c =
     (head_stands c.args.bytes.now (constraint_of c.args.tree.now) c.requires.stands
     (Equality c.in-Equality.left c.in-Equality.right) (ap head_of c.in-Equality.is)).1
 
@@ -154,8 +150,8 @@ safe_sides-requires-clause-right c =
 pub returns-in_ok-head-in-Items-clause-over : goal.returns-in_ok-head-in-Items-clause-over
 returns-in_ok-head-in-Items-clause-over c = c.tuple_rule.ensures.over
 
-pub returns-in_ok-left-in-Equality-clause-over : goal.returns-in_ok-left-in-Equality-clause-over
-returns-in_ok-left-in-Equality-clause-over c = c.equal_rule.ensures.over
+pub returns-in-Equality-clause-over : goal.returns-in-Equality-clause-over
+returns-in-Equality-clause-over c = c.said_equality.ensures.over
 
 pub returns-in-Never-clause-over : goal.returns-in-Never-clause-over
 returns-in-Never-clause-over c = c.denial.ensures.over

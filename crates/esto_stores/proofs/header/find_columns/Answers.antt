@@ -2,7 +2,7 @@ use Rattle.std.proofs.Common.{◌≡◌, ◌≢◌, ◌∙◌, ◌∷◌, ◌++�
 use Rattle.std.proofs.lemmas.List.{get_or_read}
 use Rattle.csv.specs.Records.{fields_of}
 use Rattle.esto_ports.specs.declared.file_fault.FileKind.TheVariants.{Header}
-use Rattle.esto_lines.specs.Faults.{fault_at}
+use Rattle.esto_ports.specs.FileFaults.{fault_at}
 use Rattle.esto_stores.specs.Table.{place_in, times_in}
 use Rattle.esto_stores.proofs.TableLemmas.{column_goes, column_stops, columns_end}
 use Rattle.esto_stores.proofs.RowLemmas.{gives_fault}
