@@ -5,6 +5,7 @@ pub mod PickLemmas
 pub mod StoredLemmas
 pub mod CodingLemmas
 pub mod SortedLemmas
+pub mod LeadLemmas
 pub mod IndexLemmas
 pub mod RowIndexLemmas
 pub mod FindLemmas

@@ -6,3 +6,4 @@ pub mod Indexed
 pub mod Interned
 pub mod RowIndexes
 pub mod Lent
+pub mod Leads

@@ -2,16 +2,21 @@
 ghost use Rattle.std.specs.Prelude.{◌≡◌, ◌≢◌, ◌⊎◌, ◌↔◌, ◌<◌, ℕ, List, [], ◌∷◌, ◌++◌, length, slice_get, Some, Contains, AllPairs, IfOk, IfErr, OnErr, MatchOption, IsUtf8, IsTrue};
 ghost use Rattle.esto_columns.specs.Interned.{IsRightFault};
 
+use crate::asked::Asked;
 use esto_term::TextError;
 use indexmap::IndexSet;
+use smallvec::SmallVec;
 use std::alloc::Global;
 use std::marker::Model;
 use std::str;
 
+/// How many bytes of a text stand in its entry; longer ones have an allocation.
+const INLINE: usize = 16;
+
 /// Codes of texts, which contracts see as the list of the texts in the order of their codes.
 #[derive(Drop)]
 pub struct Codes {
-    texts: IndexSet<Vec<u8>>,
+    texts: IndexSet<SmallVec<u8, INLINE>>,
 }
 
 impl Model for Codes {
@@ -55,7 +60,7 @@ impl Codes {
             return Err(TextError::NotUtf8);
         }
         let alloc = *self.texts.allocator();
-        let Ok(owned) = Vec::from_slice(alloc, text) else {
+        let Ok(owned) = SmallVec::from_slice(alloc, text) else {
             return Err(TextError::OutOfMemory);
         };
         let Ok((number, _)) = self.texts.insert_full(owned) else {
@@ -88,7 +93,7 @@ impl Codes {
         ensures { MatchOption result (¬ (Contains self.now text.now))
             (λ code. slice_get self.now code ≡ Some text.now) }
     {
-        match self.texts.get_index_of(text) {
+        match self.texts.get_index_of(Asked { text }) {
             Some(number) => Some(number as u64),
             None => None,
         }

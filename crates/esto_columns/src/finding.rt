@@ -1,5 +1,5 @@
 //! Rows that are found by an index of them, and their codes one by one.
-ghost use Rattle.std.specs.Prelude.{◌≡◌, ◌↔◌, ◌+◌, ◌<◌, ℕ, List, Some, length, take, slice_get, Contains, IfOk, OnOk, MatchOption, IsTrue};
+ghost use Rattle.std.specs.Prelude.{◌≡◌, ◌↔◌, ◌+◌, ◌<◌, ℕ, List, [], Some, length, take, slice_get, Contains, IfOk, OnOk, MatchOption, IsTrue};
 ghost use Rattle.esto_columns.specs.Indexed.{IsIndexOf};
 ghost use Rattle.esto_columns.specs.RowIndexes.{StandsLast};
 
@@ -22,6 +22,18 @@ fn index_own(
 {
     rows.read_row(at, row)?;
     index.add(row.items())
+}
+
+/// Puts the rows, each its own key, into an index of no rows. They are read into the list.
+fn with_own_keys(rows: &Rows, row: &mut Values<u64>, none: Index) -> Result<Index, OutOfMemory>
+    requires { IsIndexOf none [] }
+    ensures { IfOk result (λ it. IsIndexOf it rows.now.rows) }
+{
+    let mut index = none;
+    'rows: for at in 0..rows.len() {
+        index_own(rows, at, row, &mut index)?;
+    }
+    Ok(index)
 }
 
 impl Rows {
@@ -57,12 +69,9 @@ impl Rows {
     pub fn own_index(&self, alloc: Global, room: usize) -> Result<Index, OutOfMemory>
         ensures { IfOk result (λ it. IsIndexOf it self.now.rows) }
     {
-        let mut index = Index::new(alloc, room)?;
+        let index = Index::new(alloc, room)?;
         let mut row = Values::new(alloc);
-        'rows: for at in 0..self.len() {
-            index_own(self, at, &mut row, &mut index)?;
-        }
-        Ok(index)
+        with_own_keys(self, &mut row, index)
     }
 
     /// The last place where the row stands, by an index of the rows: only those of its bucket are looked at. An index of

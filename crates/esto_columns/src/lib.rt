@@ -2,6 +2,7 @@
 //! and `Fragment`.
 #![tactic(auto)]
 
+mod asked;
 mod codes;
 mod coding;
 mod finding;

@@ -70,17 +70,33 @@ fn index_row(
     index.add(key.items())
 }
 
+/// Puts the keys of the table's rows by the columns into an index of no rows. The rows and their keys are read into the
+/// two lists.
+fn with_keys(
+    table: &Table,
+    columns: &[usize],
+    row: &mut Values<u64>,
+    key: &mut Values<u64>,
+    none: Index,
+) -> Result<Index, OutOfMemory>
+    requires { IsIndexOf none [] }
+    ensures { IfOk result (λ it. IsIndexOf it (map (key_at columns.now) table.now.rows)) }
+{
+    let mut index = none;
+    'rows: for at in 0..table.len() {
+        index_row(table, columns, at, row, key, &mut index)?;
+    }
+    Ok(index)
+}
+
 /// The index of the table's rows by the columns.
 fn indexed(alloc: Global, table: &Table, columns: &[usize]) -> Result<Index, OutOfMemory>
     ensures { IfOk result (λ it. IsIndexOf it (map (key_at columns.now) table.now.rows)) }
 {
-    let mut index = Index::new(alloc, table.len())?;
+    let index = Index::new(alloc, table.len())?;
     let mut row = Values::new(alloc);
     let mut key = Values::new(alloc);
-    'rows: for at in 0..table.len() {
-        index_row(table, columns, at, &mut row, &mut key, &mut index)?;
-    }
-    Ok(index)
+    with_keys(table, columns, &mut row, &mut key, index)
 }
 
 impl Rows {

@@ -65,6 +65,29 @@ fn push_held(
     into.add(row.items())
 }
 
+/// Puts the rows at the places that hold the inputs at the end of no rows. They are read into the list.
+fn with_held(
+    rows: &Rows,
+    places: &[usize],
+    inputs: &[Input],
+    row: &mut Values<u64>,
+    none: Rows,
+) -> Result<Rows, OutOfMemory>
+    requires columns { (input : Input) → Contains inputs.now input → input.column < rows.now.arity }
+    requires places { (place : ℕ) → Contains places.now place → place < length rows.now.rows }
+    requires none { none ≡ record { arity = rows.now.arity; rows = [] } }
+    ensures { IfOk result (λ it. it ≡ record {
+      arity = rows.now.arity;
+      rows = filter (holds_all inputs.now) (rows_at rows.now.rows places.now);
+    }) }
+{
+    let mut held = none;
+    'places: for place in places {
+        push_held(rows, *place, inputs, row, &mut held)?;
+    }
+    Ok(held)
+}
+
 /// The rows at the places that hold the inputs.
 fn held_among(
     alloc: Global,
@@ -79,12 +102,9 @@ fn held_among(
       rows = filter (holds_all inputs.now) (rows_at rows.now.rows places.now);
     }) }
 {
-    let mut held = Rows::new(alloc, rows.arity())?;
+    let held = Rows::new(alloc, rows.arity())?;
     let mut row = Values::new(alloc);
-    'places: for place in places {
-        push_held(rows, *place, inputs, &mut row, &mut held)?;
-    }
-    Ok(held)
+    with_held(rows, places, inputs, &mut row, held)
 }
 
 /// The rows that hold the inputs, by a look at those that hold the first.

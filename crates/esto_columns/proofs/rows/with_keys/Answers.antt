@@ -1,10 +1,10 @@
 use Rattle.std.proofs.Common.{◌<◌, map, subst, arith}
 use Rattle.std.proofs.lemmas.List.{take_all}
 use Rattle.esto_columns.specs.Indexed.{IsIndexOf, key_at}
-use Rattle.esto_columns.proofs.rows.indexed.Goals as goal
+use Rattle.esto_columns.proofs.rows.with_keys.Goals as goal
 
 pub rows-init : goal.rows-init
-rows-init c = c.in_ok-index.ensures
+rows-init c = c.requires
 
 pub index_row-requires-clause-there : goal.index_row-requires-clause-there
 index_row-requires-clause-there c = subst (λ it. c.rows.at < it) c.len-at-end.ensures c.rows-test.true

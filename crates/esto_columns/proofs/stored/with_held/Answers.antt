@@ -6,7 +6,7 @@ use Rattle.esto_columns.specs.Asked.{holds_all}
 use Rattle.esto_columns.specs.CodedRows.{CodedRows}
 use Rattle.esto_columns.specs.Picked.{rows_at}
 use Rattle.esto_columns.proofs.StoredLemmas.{held_more}
-use Rattle.esto_columns.proofs.stored.held_among.Goals as goal
+use Rattle.esto_columns.proofs.stored.with_held.Goals as goal
 
 pub push_held-requires-clause-there : goal.push_held-requires-clause-there
 push_held-requires-clause-there c =
@@ -29,3 +29,6 @@ returns c =
       arity = c.args.rows.now.arity;
       rows = filter (holds_all c.args.inputs.now) (rows_at c.args.rows.now.rows them);
     }) (take_all c.places.place-index c.args.places.now c.places-test.false) c.places.invariant
+
+pub places-init : goal.places-init
+places-init c = c.requires.none
