@@ -1,16 +1,18 @@
 -- What is kept after several sets, and what it covers.
-use Rattle.std.proofs.Common.{◌≡◌, ◌↔◌, ◌⊎◌, ℕ, ◌+◌, ◌<◌, Bool, List, [], ◌∷◌, ◌++◌, length, map, take, get_or, slice_get, Some, IfSome, Contains, refl, sym}
-use Rattle.std.proofs.Common.{ap, ◌∙◌, subst, inl, inr, arith, append_assoc, append-nil}
+use Rattle.std.proofs.Common.{◌≡◌, ◌↔◌, ◌⊎◌, ℕ, ◌+◌, ◌<◌, Bool, List, [], ◌∷◌, ◌++◌, length, map, take, get_or, slice_get, Some, IfSome, IsTrue, true, Contains}
+use Rattle.std.specs.Prelude.{Result, Ok, Err, OnErr}
+use Rattle.std.proofs.Common.{refl, sym, ap, ◌∙◌, subst, inl, inr, arith, append_assoc, append-nil}
 use Rattle.std.proofs.lemmas.List.{get_or_append_left, get_or_at, length-append, map-append, nil_from_length}
-use Rattle.std.proofs.lemmas.Option.{slice_get-get_or}
 use Rattle.std.proofs.lemmas.List.Elements.{Contains-append_left, Contains-append_right, Contains-append_cases}
-use Rattle.esto_term.proofs.ListLemmas.{Contains-cases, Contains-head, Contains-map, Contains-map_from, Contains-nil, Contains-rest}
+use Rattle.esto_term.proofs.ListLemmas.{Contains-at, Contains-cases, Contains-head, Contains-map, Contains-map_from, Contains-nil, Contains-rest, thing_at}
 use Rattle.esto_term.proofs.PlaceLemmas.{take-there}
 use Rattle.esto_term.specs.Sets.{Within, Covers, united}
 use Rattle.esto_term.proofs.SetLemmas.{has_united, within_refl}
-use Rattle.esto_bits.specs.Kept.{with_set, with_sets, unions, AddsOfBoth, CoverAlikeBeside, CoversAlso, CoversAlsoBeside, CoversBoth, CoversEither, IsAntichain}
+use Rattle.esto_bits.specs.Kept.{with_set, with_sets, unions, AddsOfBoth, CoverAlikeBeside, CoversAlso, CoversAlsoBeside, CoversBoth, CoversEither}
+use Rattle.esto_bits.specs.Kept.{HasFirst, IsAntichain}
 use Rattle.esto_bits.proofs.FamilyLemmas.{covered-with_set, with_set-uncovered}
 use Rattle.esto_bits.proofs.PackedLemmas.{none_left_out}
+use Rattle.esto_bits.proofs.ProductLemmas.{same_there}
 
 -- ---- what a family covers
 
@@ -87,13 +89,21 @@ covers-with_sets sets (row ∷ rows) set =
       ]),
     )
 
+-- where an error comes, the first few sets are added
+pub has_first : {T E : Type 0} (result : Result T E) (sets rows later : List (List Bool)) (count : ℕ) → later ≡ with_sets sets (take count rows)
+    → OnErr result (HasFirst sets rows later)
+has_first (Ok value) sets rows later count is = tt
+has_first (Err error) sets rows later count is = (count, is)
+
 -- ---- turns of loops over the sets that are added
 
--- the union with a set of the others
-pub united_there : (others : List (List Bool)) (index : ℕ) (one row : List Bool) → index < length others
-    → IfSome (slice_get others index) (λ set. row ≡ united one set) → (set : List Bool) × (slice_get others index ≡ Some set) × (row ≡ united one set)
-united_there others index one row below is =
-    let there = slice_get-get_or others index [] below in (get_or others index [], there, subst (λ it. IfSome it (λ set. row ≡ united one set)) there is)
+-- the union of the sets at two places
+pub united_there : (earlier later sets : List (List Bool)) (at : ℕ) (others : List (List Bool)) (place : ℕ) (one row : List Bool)
+    → slice_get sets at ≡ Some one → IfSome (slice_get others place) (λ set. row ≡ united one set) → later ≡ with_set earlier row
+    → (set other : List Bool) → slice_get sets at ≡ Some set → slice_get others place ≡ Some other → later ≡ with_set earlier (united set other)
+united_there earlier later sets at others place one row own is now set other there its =
+    now ∙ ap (with_set earlier)
+    (subst (λ it. IfSome it (λ set. row ≡ united one set)) its is ∙ ap (λ it. united it other) (same_there sets at one set own there))
 
 module _ (start sets after items : List (List Bool)) (index : ℕ) (set : List Bool) (there : slice_get items index ≡ Some set) where
   taken : take (index + 1) items ≡ take index items ++ set ∷ []
@@ -164,13 +174,24 @@ with_sets-antichain none sets empty antichain =
 cover_up : (sets : List (List Bool)) (set own : List Bool) → Covers sets set → Within set own → Covers sets own
 cover_up sets set own (low, inside, within) up = (low, inside, λ number has. up number (within number has))
 
+-- the set at a place, where a test has told whether it covers one of the others
+covered_at : (sets others : List (List Bool)) (at : ℕ) (answer : Bool) → IfSome (slice_get sets at) (λ set. IsTrue answer ↔ Covers others set)
+    → answer ≡ true → (row : List Bool) → slice_get sets at ≡ Some row → Covers others row
+covered_at sets others at answer says told row there = (subst (λ it. IfSome it (λ set. IsTrue answer ↔ Covers others set)) there says).0 told
+
 -- a set that covers one of the others
-pub alone : (earlier sets others later : List (List Bool)) (row : List Bool) → Contains sets row → Covers others row → CoversAlso earlier row later
-    → AddsOfBoth earlier sets others later
-alone earlier sets others later row inside covered also set = (
-  λ before. (also set).1 (inl before),
-  λ covers. elim ((also set).0 covers) [ inl before ↦ inl before | inr within ↦ inr ((row, inside, within), cover_up others row set covered within) ],
-)
+pub alone : (earlier sets others later : List (List Bool)) (at : ℕ) → at < length sets → (answer : Bool)
+    → IfSome (slice_get sets at) (λ set. IsTrue answer ↔ Covers others set) → answer ≡ true
+    → ((set : List Bool) → slice_get sets at ≡ Some set → later ≡ with_set earlier set) → AddsOfBoth earlier sets others later
+alone earlier sets others later at below answer says told now set =
+    let (row, there) = thing_at sets at below in
+    let also : CoversAlso earlier row later = subst (CoversAlso earlier row) (sym (now row there)) (covered-with_set earlier row) in (
+      λ before. (also set).1 (inl before),
+      λ covers. elim ((also set).0 covers) [
+        | inl before ↦ inl before
+        | inr within ↦ inr ((row, Contains-at sets at row there, within), cover_up others row set (covered_at sets others at answer says told row there) within)
+      ],
+    )
 
 pub adds_none : (sets others earlier : List (List Bool)) → AddsOfBoth earlier sets others earlier
 adds_none sets others earlier set = (λ before. before, λ covers. inl covers)
@@ -189,8 +210,8 @@ adds_turned sets others first second adds set = (
 )
 
 -- sets that are left
-pub left_out : (others earlier : List (List Bool)) (row : List Bool) → Covers others row → CoversAlsoBeside others earlier row earlier
-left_out others earlier row covered set = (
+covered_out : (others earlier : List (List Bool)) (row : List Bool) → Covers others row → CoversAlsoBeside others earlier row earlier
+covered_out others earlier row covered set = (
   λ which. elim which [ inl before ↦ inl (inl before) | inr its ↦ inr its ],
   λ which. elim which [
     | inl either ↦ elim either [ inl before ↦ inl before | inr within ↦ inr (cover_up others row set covered within) ]
@@ -198,11 +219,24 @@ left_out others earlier row covered set = (
   ],
 )
 
-pub left_in : (others earlier later : List (List Bool)) (row : List Bool) → CoversAlso earlier row later → CoversAlsoBeside others earlier row later
-left_in others earlier later row also set = (
+uncovered_in : (others earlier later : List (List Bool)) (row : List Bool) → CoversAlso earlier row later → CoversAlsoBeside others earlier row later
+uncovered_in others earlier later row also set = (
   λ which. elim which [ inl covers ↦ inl ((also set).0 covers) | inr its ↦ inr its ],
   λ which. elim which [ inl either ↦ inl ((also set).1 either) | inr its ↦ inr its ],
 )
+
+module _ (earlier sets others : List (List Bool)) (at : ℕ) (below : at < length sets) where
+  pub left_out : (answer : Bool) → IfSome (slice_get sets at) (λ set. IsTrue answer ↔ Covers others set) → answer ≡ true
+      → (set : List Bool) × (slice_get sets at ≡ Some set) × CoversAlsoBeside others earlier set earlier
+  left_out answer says told =
+      let (row, there) = thing_at sets at below in
+      (row, there, covered_out others earlier row (covered_at sets others at answer says told row there))
+
+  pub left_in : (later : List (List Bool)) → ((set : List Bool) → slice_get sets at ≡ Some set → later ≡ with_set earlier set)
+      → (set : List Bool) × (slice_get sets at ≡ Some set) × CoversAlsoBeside others earlier set later
+  left_in later now =
+      let (row, there) = thing_at sets at below in
+      (row, there, uncovered_in others earlier later row (subst (CoversAlso earlier row) (sym (now row there)) (covered-with_set earlier row)))
 
 -- the sets so far, beside what the others cover
 abbrev pub LeftSoFar : List (List Bool) → List (List Bool) → ℕ → List (List Bool) → Type 0
@@ -230,28 +264,39 @@ left_turn others sets left later at so_far (row, there, also) set = rw (take-the
   ],
 )
 
--- the unions of what is left are enough
-pub rest_enough : (sets others earlier ones rest later : List (List Bool)) → CoverAlikeBeside earlier sets ones → CoverAlikeBeside earlier others rest
-    → later ≡ with_sets earlier (unions ones rest)
-    → (set : List Bool) → Covers later set ↔ (Covers earlier set ⊎ (Covers sets set × Covers others set))
-rest_enough sets others earlier ones rest later left left' is set =
+pub alike_itself : (others sets : List (List Bool)) → CoverAlikeBeside others sets sets
+alike_itself others sets set = (λ which. which, λ which. which)
+
+-- what the unions of two families add
+pub unions_enough : (earlier ones rest later : List (List Bool)) → later ≡ with_sets earlier (unions ones rest)
+    → (set : List Bool) → Covers later set ↔ (Covers earlier set ⊎ (Covers ones set × Covers rest set))
+unions_enough earlier ones rest later is set =
     let kept = covers-with_sets earlier (unions ones rest) set in
     let both = covers_unions ones rest set in rw is (
-      λ covers. elim (kept.0 covers) [
-        | inl before ↦ inl before
-        | inr new ↦ elim ((left set).1 (inl (both.0 new).0)) [
-          | inl one ↦ elim ((left' set).1 (inl (both.0 new).1)) [ inl other ↦ inr (one, other) | inr before ↦ inl before ]
-          | inr before ↦ inl before
-        ]
-      ],
-      λ which. kept.1 (elim which [
-        | inl before ↦ inl before
-        | inr (one, other) ↦ elim ((left set).0 (inl one)) [
-          | inl own ↦ elim ((left' set).0 (inl other)) [ inl its ↦ inr (both.1 (own, its)) | inr before ↦ inl before ]
-          | inr before ↦ inl before
-        ]
-      ]),
+      λ covers. elim (kept.0 covers) [ inl before ↦ inl before | inr new ↦ inr (both.0 new) ],
+      λ which. kept.1 (elim which [ inl before ↦ inl before | inr new ↦ inr (both.1 new) ]),
     )
+
+-- what is left of two families adds as much as they
+pub rest_enough : (sets others earlier ones rest later : List (List Bool)) → CoverAlikeBeside earlier sets ones → CoverAlikeBeside earlier others rest
+    → ((set : List Bool) → Covers later set ↔ (Covers earlier set ⊎ (Covers ones set × Covers rest set)))
+    → (set : List Bool) → Covers later set ↔ (Covers earlier set ⊎ (Covers sets set × Covers others set))
+rest_enough sets others earlier ones rest later left left' adds set = (
+  λ covers. elim ((adds set).0 covers) [
+    | inl before ↦ inl before
+    | inr (own, its) ↦ elim ((left set).1 (inl own)) [
+      | inl one ↦ elim ((left' set).1 (inl its)) [ inl other ↦ inr (one, other) | inr before ↦ inl before ]
+      | inr before ↦ inl before
+    ]
+  ],
+  λ which. (adds set).1 (elim which [
+    | inl before ↦ inl before
+    | inr (one, other) ↦ elim ((left set).0 (inl one)) [
+      | inl own ↦ elim ((left' set).0 (inl other)) [ inl its ↦ inr (own, its) | inr before ↦ inl before ]
+      | inr before ↦ inl before
+    ]
+  ]),
+)
 
 pub adds_all : (sets others first second later : List (List Bool)) → AddsOfBoth first sets others second
     → ((set : List Bool) → Covers later set ↔ (Covers second set ⊎ (Covers sets set × Covers others set)))

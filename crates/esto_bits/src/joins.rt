@@ -1,7 +1,7 @@
 //! Products put together.
 ghost use Rattle.std.specs.Prelude.{◌≡◌, ◌↔◌, ◌⊎◌, ◌<◌, [], ◌∷◌, List, Bool, Some, length, map, slice_get, IfOk, OnOk, OnErr};
 ghost use Rattle.esto_term.specs.Sets.{Covers, Within, united};
-ghost use Rattle.esto_bits.specs.Kept.{kept, with_sets, unions, AddsOfBoth, CoverAlikeBeside, CoversAlsoBeside, CoversBoth, CoversEither, HasFirst};
+ghost use Rattle.esto_bits.specs.Kept.{kept, with_set, with_sets, unions, AddsOfBoth, CoverAlikeBeside, CoversAlsoBeside, CoversBoth, CoversEither, HasFirst};
 
 use crate::products::{Products, products_are_antichains};
 use crate::row_bits::RowBits;
@@ -35,8 +35,7 @@ impl Products {
             return Ok(());
         }
         'sets: for at in 0..others.len() {
-            let set = others.copy_of(alloc, at)?;
-            self.add(alloc, &set)?;
+            self.add_at(alloc, others, at)?;
         }
         Ok(())
     }
@@ -68,34 +67,55 @@ impl Products {
         ensures ok { OnOk result
             (self.new.sets ≡ with_sets self.old.sets (unions sets.now.sets others.now.sets)) }
     {
-        products_are_antichains(sets);
         'sets: for at in 0..sets.len() {
-            let set = sets.copy_of(alloc, at)?;
-            self.add_united(alloc, &set, others)?;
+            self.add_united(alloc, sets, at, others)?;
         }
         Ok(())
     }
 
-    /// Adds the union of a set and each of the others.
+    /// Adds the union of the set at a place of the sets and each of the others.
     fn add_united(
         &mut self,
         alloc: Global,
-        set: &RowBits,
+        sets: &Products,
+        at: usize,
         others: &Products,
     ) -> Result<(), OutOfMemory>
-        requires set { length set.now ≡ self.old.count }
+        requires sets { sets.now.count ≡ self.old.count }
         requires others { others.now.count ≡ self.old.count }
+        requires at { at < length sets.now.sets }
         ensures count { self.new.count ≡ self.old.count }
-        ensures ok { OnOk result
-            (self.new.sets ≡ with_sets self.old.sets (map (united set.now) others.now.sets)) }
+        ensures ok { OnOk result ((set : List Bool) → slice_get sets.now.sets at ≡ Some set
+            → self.new.sets ≡ with_sets self.old.sets (map (united set) others.now.sets)) }
     {
-        products_are_antichains(others);
-        'sets: for at in 0..others.len() {
-            let mut row = set.copy(alloc)?;
-            others.union_into(at, &mut row);
-            self.add(alloc, &row)?;
+        'places: for place in 0..others.len() {
+            self.add_union_at(alloc, sets, at, others, place)?;
         }
         Ok(())
+    }
+
+    /// Adds the union of the set at a place of the sets and the one at a place of the others. Answers whether it came.
+    fn add_union_at(
+        &mut self,
+        alloc: Global,
+        sets: &Products,
+        at: usize,
+        others: &Products,
+        place: usize,
+    ) -> Result<bool, OutOfMemory>
+        requires sets { sets.now.count ≡ self.old.count }
+        requires others { others.now.count ≡ self.old.count }
+        requires at { at < length sets.now.sets }
+        requires place { place < length others.now.sets }
+        ensures count { self.new.count ≡ self.old.count }
+        ensures ok { OnOk result ((set other : List Bool) → slice_get sets.now.sets at ≡ Some set
+            → slice_get others.now.sets place ≡ Some other
+            → self.new.sets ≡ with_set self.old.sets (united set other)) }
+    {
+        products_are_antichains(sets);
+        let mut row = sets.copy_of(alloc, at)?;
+        others.union_into(place, &mut row);
+        self.add(alloc, &row)
     }
 
     /// Adds the set at a place of the sets, if it covers one of the others. Answers whether it came.
@@ -113,12 +133,10 @@ impl Products {
         ensures covers { OnOk result
             (AddsOfBoth self.old.sets sets.now.sets others.now.sets self.new.sets) }
     {
-        products_are_antichains(sets);
-        let set = sets.copy_of(alloc, at)?;
-        if !others.covered(&set) {
+        if !others.covers_one(sets, at) {
             return Ok(false);
         }
-        self.add(alloc, &set)
+        self.add_at(alloc, sets, at)
     }
 
     /// Adds those of the sets that cover one of the others.
@@ -156,12 +174,10 @@ impl Products {
             × (slice_get sets.now.sets at ≡ Some set)
             × CoversAlsoBeside others.now.sets self.old.sets set self.new.sets) }
     {
-        products_are_antichains(sets);
-        let set = sets.copy_of(alloc, at)?;
-        if others.covered(&set) {
+        if others.covers_one(sets, at) {
             return Ok(false);
         }
-        self.add(alloc, &set)
+        self.add_at(alloc, sets, at)
     }
 
     /// Those of the kept sets that cover none of the others.
@@ -192,8 +208,24 @@ impl Products {
             ↔ (Covers self.old.sets set ⊎ (Covers sets.now.sets set × Covers others.now.sets set))) }
     {
         let ones = sets.left_by(alloc, self)?;
+        self.add_unions_left(alloc, &ones, others)
+    }
+
+    /// Adds the unions of one of the sets and one of the others that is not covered.
+    fn add_unions_left(
+        &mut self,
+        alloc: Global,
+        sets: &Products,
+        others: &Products,
+    ) -> Result<(), OutOfMemory>
+        requires sets { sets.now.count ≡ self.old.count }
+        requires others { others.now.count ≡ self.old.count }
+        ensures count { self.new.count ≡ self.old.count }
+        ensures covers { OnOk result ((set : List Bool) → Covers self.new.sets set
+            ↔ (Covers self.old.sets set ⊎ (Covers sets.now.sets set × Covers others.now.sets set))) }
+    {
         let rest = others.left_by(alloc, self)?;
-        self.add_unions(alloc, &ones, &rest)
+        self.add_unions(alloc, sets, &rest)
     }
 
     /// Adds the unions of a set of the one family and one of the other, in every combination, as far as they are minimal. A

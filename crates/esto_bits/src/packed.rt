@@ -1,7 +1,7 @@
 //! Sets of one count in one vector of words.
-ghost use Rattle.std.specs.Prelude.{◌≡◌, ◌↔◌, ◌<◌, ◌≤◌, ◌+◌, ◌*◌, ◌++◌, ◌∷◌, [], Some, filter, length, not, slice_get, IsTrue, IfOk, IfSome, OnOk, OnErr};
+ghost use Rattle.std.specs.Prelude.{◌≡◌, ◌↔◌, ◌<◌, ◌+◌, ◌*◌, ◌++◌, ◌∷◌, [], Some, length, slice_get, IsTrue, IfOk, IfSome, OnOk, OnErr};
 ghost use Rattle.esto_term.specs.Sets.{Covers};
-ghost use Rattle.esto_bits.specs.Kept.{HasSuperset, in_place_of_supersets, is_within, kept, unless_superset};
+ghost use Rattle.esto_bits.specs.Kept.{HasSuperset, in_place_of_supersets, kept, unless_superset};
 ghost use Rattle.esto_bits.specs.Words.{AreWordsBelow, set_of};
 
 use crate::lanes::row_within;
@@ -138,17 +138,18 @@ impl PackedSets {
         self.push(words)
     }
 
-    /// The sets that are no supersets of the one that the words keep.
-    fn without_supersets(&self, alloc: Global, row: &[u64]) -> Result<PackedSets, OutOfMemory>
-        requires { AreWordsBelow row.now self.now.count }
-        ensures { IfOk result (λ it. it ≡ kept self.now.count
-            (filter (λ set. not (is_within (set_of row.now self.now.count) set)) self.now.sets)) }
+    /// Puts those of the others that are no supersets of the set that the words keep at the end, where none is yet, and
+    /// that set behind them.
+    fn push_for_supersets(&mut self, others: &PackedSets, row: &[u64]) -> Result<(), OutOfMemory>
+        requires row { AreWordsBelow row.now others.now.count }
+        requires none { self.old ≡ kept others.now.count [] }
+        ensures { OnOk result (self.new ≡ kept others.now.count
+            (in_place_of_supersets others.now.sets (set_of row.now others.now.count))) }
     {
-        let mut rest = PackedSets::new(alloc, self.count);
-        'sets: for at in 0..self.len() {
-            rest.push_unless_superset(self, at, row)?;
+        'sets: for at in 0..others.len() {
+            self.push_unless_superset(others, at, row)?;
         }
-        Ok(rest)
+        self.push(row)
     }
 
     /// Puts the set that the words keep at the end, in place of its supersets. An error changes nothing.
@@ -161,8 +162,8 @@ impl PackedSets {
         if !self.has_superset(row) {
             return self.push(row);
         }
-        let mut rest = self.without_supersets(alloc, row)?;
-        rest.push(row)?;
+        let mut rest = PackedSets::new(alloc, self.count());
+        rest.push_for_supersets(self, row)?;
         *self = rest;
         Ok(())
     }

@@ -1,7 +1,8 @@
 //! Antichains: families of sets of which none is a subset of another.
-ghost use Rattle.std.specs.Prelude.{◌≡◌, ◌↔◌, ◌<◌, List, Bool, Some, [], false, length, slice_get, IsTrue, IfOk, IfSome, OnOk, OnErr, Contains};
+ghost use Rattle.std.specs.Prelude.{◌≡◌, ◌↔◌, ◌<◌, ◌++◌, List, Bool, Some, [], false, length, slice_get, IsTrue, IfOk, IfSome, OnOk, OnErr, Contains};
 ghost use Rattle.esto_term.specs.Sets.{AreInOrder, Covers, united};
 ghost use Rattle.esto_bits.specs.Kept.{AreOver, IsAntichain, with_set, CoversAlso, OneMoreIsMinimal, KeptAreMinimal};
+ghost use Rattle.esto_bits.specs.Words.{AreWordsBelow, set_of};
 
 use crate::packed::PackedSets;
 use crate::row_bits::RowBits;
@@ -91,7 +92,7 @@ impl Products {
     }
 
     /// Whether the kept set of the others at a place is covered here.
-    fn covers_one(&self, others: &Products, at: usize) -> bool
+    pub(crate) fn covers_one(&self, others: &Products, at: usize) -> bool
         requires same_count { others.now.count ≡ self.now.count }
         requires in_range { at < length others.now.sets }
         ensures { IfSome (slice_get others.now.sets at)
@@ -110,7 +111,36 @@ impl Products {
         ensures covers { OnOk result (CoversAlso self.old.sets set.now self.new.sets) }
         ensures err { OnErr result (self.new ≡ self.old) }
     {
-        let words = set.words();
+        self.add_words(alloc, set.words())
+    }
+
+    /// Keeps the kept set of the others at a place in the same way.
+    pub(crate) fn add_at(
+        &mut self,
+        alloc: Global,
+        others: &Products,
+        at: usize,
+    ) -> Result<bool, OutOfMemory>
+        requires same_count { others.now.count ≡ self.old.count }
+        requires in_range { at < length others.now.sets }
+        ensures count { self.new.count ≡ self.old.count }
+        ensures ok { OnOk result ((set : List Bool) → slice_get others.now.sets at ≡ Some set
+            → self.new.sets ≡ with_set self.old.sets set) }
+        ensures err { OnErr result (self.new ≡ self.old) }
+    {
+        self.add_words(alloc, others.packed.words_at(at))
+    }
+
+    /// Keeps the set that the words keep in the same way.
+    fn add_words(&mut self, alloc: Global, words: &[u64]) -> Result<bool, OutOfMemory>
+        requires { AreWordsBelow words.now self.old.count }
+        ensures answer { IfOk result (λ added. (added ≡ false)
+            ↔ Covers self.old.sets (set_of words.now self.old.count)) }
+        ensures count { self.new.count ≡ self.old.count }
+        ensures ok { OnOk result
+            (self.new.sets ≡ with_set self.old.sets (set_of words.now self.old.count)) }
+        ensures err { OnErr result (self.new ≡ self.old) }
+    {
         if self.packed.covers(words) {
             return Ok(false);
         }
@@ -135,22 +165,26 @@ impl Products {
         ensures in_order { IfOk result AreInOrder }
     {
         products_are_antichains(self);
-        let mut sets = copies(alloc, self)?;
+        let mut sets = Vec::new(alloc);
+        put_copies(alloc, self, &mut sets)?;
         sets.sort_by(|set, other| set.compare(other))?;
         Ok(List::from_vec(sets))
     }
 }
 
-/// Copies of the kept sets, in their order.
-fn copies(alloc: Global, products: &Products) -> Result<Vec<RowBits>, OutOfMemory>
-    ensures { IfOk result (λ it. it.items ≡ products.now.sets) }
+/// Puts copies of the kept sets at the end, in their order.
+fn put_copies(
+    alloc: Global,
+    products: &Products,
+    copies: &mut Vec<RowBits>,
+) -> Result<(), OutOfMemory>
+    ensures { OnOk result (copies.new.items ≡ copies.old.items ++ products.now.sets) }
 {
-    let mut copies = Vec::new(alloc);
     'sets: for at in 0..products.len() {
         let set = products.copy_of(alloc, at)?;
-        push(&mut copies, set)?;
+        push(copies, set)?;
     }
-    Ok(copies)
+    Ok(())
 }
 
 impl Replicate for Products {

@@ -14,7 +14,6 @@ use Rattle.esto_docmodel.specs.Encodings.{facts_from, facts_of, is_kept, kept}
 use Rattle.esto_docmodel.specs.Forests.{Node}
 use Rattle.esto_docmodel.specs.Matching.{AreRows, head_of}
 use Rattle.esto_docmodel.specs.Patterns.{Entries}
-use Rattle.esto_docmodel.specs.declared.kept.Kept.{Kept}
 use Rattle.esto_docmodel.specs.declared.matches.AskedPattern.{AskedPattern}
 use Rattle.esto_docmodel.proofs.MatchLemmas.{are_rows, one}
 
@@ -55,12 +54,12 @@ answers_kept docs head body row = (
         (Contains-filter (is_kept (all_but_below (asks_below body))) docs doc in_all (kept_there body m atom doc inside is)))
 
 -- the rows of a query that was made before
-pub asked_rows : (entries : Entries) (start : Node) (asked : AskedPattern) → IsAskedBy entries asked → (relations : Kept) (facts : List (Fact Term))
-    → relations ≡ all_but_below (asks_below asked.query.body) → facts ≡ kept relations (facts_from [] 0 (one start)) → (rows : List (List Term))
+pub asked_rows : (entries : Entries) (start : Node) (asked : AskedPattern) → IsAskedBy entries asked → (facts : List (Fact Term))
+    → facts ≡ kept (all_but_below (asks_below asked.query.body)) (facts_from [] 0 (one start)) → (rows : List (List Term))
     → ((row : List Term) → Contains rows row
     ↔ IsAnswerInto Const (record { head = asked.query.head; body = asked.query.body }) (Contains facts) row)
     → AreRows entries start asked.variables.items rows
-asked_rows entries start asked is relations facts kept_are facts_are rows told =
+asked_rows entries start asked is facts facts_are rows told =
     are_rows entries start asked.variables.items is.variables (facts_of 0 0 (one start)) asked.query.body refl is.body rows
     (λ row.
     let same = answers_kept (facts_from [] 0 (one start)) (head_of asked.variables.items) asked.query.body row in
@@ -70,5 +69,5 @@ asked_rows entries start asked is relations facts kept_are facts_are rows told =
     (Contains (kept (all_but_below (asks_below asked.query.body)) (facts_from [] 0 (one start)))) row) is.head
     (subst (λ (them : List (Fact Term)). Contains rows row
     ↔ IsAnswerInto Const (record { head = asked.query.head; body = asked.query.body }) (Contains them) row)
-    (facts_are ∙ ap (λ (it : Kept). kept it (facts_from [] 0 (one start))) kept_are) (told row)) in
+    facts_are (told row)) in
     ((λ inside. same.0 (own.0 inside)), (λ answer. own.1 (same.1 answer))))

@@ -235,6 +235,7 @@ pub fn encode_documents(
 {
     let facts = List::new(alloc);
     let mut encoded = Encoded { facts, next };
-    put_documents(alloc, &mut encoded, &every(base), trees.items())?;
+    let put = put_documents(alloc, &mut encoded, &every(base), trees.items());
+    put?;
     Ok(encoded)
 }

@@ -38,6 +38,15 @@ pub fn after(number: u64) -> Result<u64, OutOfMemory>
     }
 }
 
+// A node, in a list with room for so many terms.
+fn one_term(alloc: Global, room: usize, node: u64) -> Result<Terms, OutOfMemory>
+    ensures { IfOk result (λ it. it ≡ Plain node ∷ []) }
+{
+    let mut terms = List::with_room(alloc, room)?;
+    terms.push(Term::Plain(node))?;
+    Ok(terms)
+}
+
 /// Puts a fact over one node.
 pub fn put_one(
     alloc: Global,
@@ -47,8 +56,7 @@ pub fn put_one(
 ) -> Result<(), OutOfMemory>
     ensures { OnOk result (facts.new ≡ facts.old ++ fact_over relation (Plain node ∷ []) ∷ []) }
 {
-    let mut terms = List::with_room(alloc, 1)?;
-    terms.push(Term::Plain(node))?;
+    let terms = one_term(alloc, 1, node)?;
     facts.push(Fact { relation, terms })
 }
 
@@ -56,8 +64,7 @@ pub fn put_one(
 fn two_terms(alloc: Global, room: usize, node: u64, term: Term) -> Result<Terms, OutOfMemory>
     ensures { IfOk result (λ it. it ≡ Plain node ∷ term ∷ []) }
 {
-    let mut terms = List::with_room(alloc, room)?;
-    terms.push(Term::Plain(node))?;
+    let mut terms = one_term(alloc, room, node)?;
     terms.push(term)?;
     Ok(terms)
 }

@@ -1,5 +1,6 @@
 //! The matches of a pattern in a tree.
-ghost use Rattle.std.specs.Prelude.{◌≡◌, ◌↔◌, ◌+◌, ◌<◌, suc, ℕ, List, length, map, Contains, AllPairs, IfOk, OnOk};
+ghost use Rattle.std.specs.Prelude.{◌≡◌, ◌↔◌, [], ◌∷◌, ◌+◌, ◌<◌, suc, ℕ, List};
+ghost use Rattle.std.specs.Prelude.{length, map, Contains, AllPairs, IfOk, OnOk};
 ghost use Rattle.std.specs.FinMap as finite;
 ghost use Rattle.esto_term.specs.declared.term.Term.{Term};
 ghost use Rattle.esto_term.specs.declared.term.Term.TheVariants.{Plain};
@@ -9,7 +10,8 @@ ghost use Rattle.std.specs.List.{list_any};
 ghost use Rattle.esto_docmodel.specs.Asking.{IsAskedBy, all_but_below, asks_below};
 ghost use Rattle.esto_docmodel.specs.Matching.{AreVariables, AreRows, head_of, IsEncoding, valuation_of};
 ghost use Rattle.esto_docmodel.specs.Patterns.{done, Mentions};
-ghost use Rattle.esto_docmodel.specs.Shapes.{shape, entry_shape, entries_of};
+ghost use Rattle.esto_docmodel.specs.Encodings.{kept_of};
+ghost use Rattle.esto_docmodel.specs.Shapes.{documents, shape, entry_shape, entries_of};
 ghost use Rattle.esto_docmodel.specs.Valuations.{HaveFlatTerms, AreMatches, BindsVariables, GivesTexts, ComesBefore};
 
 use crate::documents::document_facts;
@@ -18,7 +20,7 @@ use crate::kept::{Kept, KeptTexts};
 use crate::pattern::{Entry, Pattern};
 use crate::tree::Tree;
 use esto_query::{Name, Names, Query, answers};
-use esto_semantics::{Atom, Valuation};
+use esto_semantics::{Atom, Facts, Valuation};
 use esto_term::{List, OutOfMemory, Replicate, Term, TermRows, Terms, Text, push};
 use std::alloc::Global;
 
@@ -156,18 +158,21 @@ fn asks_below(body: &[Atom]) -> bool
     body.iter().any(|atom| atom.relation == BELOW)
 }
 
-// The facts of documents that the atoms of a pattern can go to: all, but those of `below` only where an atom asks for them.
-fn kept_for(body: &[Atom]) -> Kept
-    ensures { result ≡ all_but_below (asks_below body.now) }
+// The facts of the tree that the atoms of a pattern can go to: all, but those of `below` only where an atom asks for
+// them.
+fn facts_for(alloc: Global, body: &[Atom], tree: &Tree) -> Result<Facts, OutOfMemory>
+    ensures { IfOk result (λ facts. facts
+        ≡ kept_of (all_but_below (asks_below body.now)) 0 (documents (tree.now ∷ []))) }
 {
-    Kept {
+    let kept = Kept {
         base: 0,
         root: true,
         field: KeptTexts::Every,
         item: true,
         value: KeptTexts::Every,
         below: asks_below(body),
-    }
+    };
+    document_facts(alloc, &kept, tree)
 }
 
 // The pattern as a query for these variables' terms.
@@ -206,8 +211,7 @@ fn rows_of(
         (AreRows (entries_of pattern.now.entries) (shape tree.now) asked.now.variables.items) }
     ensures ascending { IfOk result IsAscending }
 {
-    let kept = kept_for(asked.query.body.items());
-    let facts = document_facts(alloc, &kept, tree)?;
+    let facts = facts_for(alloc, asked.query.body.items(), tree)?;
     answers(alloc, &asked.query, &facts)
 }
 

@@ -3,3 +3,4 @@ pub mod WhyLemmas
 pub mod ProductLemmas
 pub mod DeriveLemmas
 pub mod MeetLemmas
+pub mod PutLemmas

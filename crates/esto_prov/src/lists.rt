@@ -1,5 +1,5 @@
 //! Lists of terms, unions of products, and facts that are alike to an atom.
-ghost use Rattle.std.specs.Prelude.{◌≡◌, ◌++◌, ◌∷◌, [], length, MatchOption, IfOk, OnOk};
+ghost use Rattle.std.specs.Prelude.{◌≡◌, ◌++◌, ◌∷◌, [], length, MatchOption, IfOk, IsOkAnd, OnOk};
 ghost use Rattle.esto_term.specs.Sets.{united};
 ghost use Rattle.esto_term.specs.declared.term.Term.{Term};
 ghost use Rattle.esto_semantics.specs.declared.fact.Fact.{Fact};
@@ -11,6 +11,19 @@ use esto_chase_laws::Claim;
 use esto_semantics::Atom;
 use esto_term::{List, OutOfMemory, Replicate, Term, Terms};
 use std::alloc::Global;
+
+/// Puts an item at the end, if it was made.
+pub(crate) fn put_made<T: Drop>(
+    items: &mut List<T>,
+    made: Result<T, OutOfMemory>,
+) -> Result<(), OutOfMemory>
+    ensures { OnOk result (IsOkAnd made (λ item. items.new ≡ items.old ++ item ∷ [])) }
+{
+    match made {
+        Ok(item) => items.push(item),
+        Err(_) => Err(OutOfMemory),
+    }
+}
 
 /// Puts copies of the terms at the end of the others.
 pub fn put_terms(alloc: Global, more: &[Term], terms: &mut Terms) -> Result<(), OutOfMemory>

@@ -6,6 +6,7 @@ ghost use Rattle.esto_chase_laws.specs.Making.{made_for};
 ghost use Rattle.esto_chase_laws.specs.WorldMatches.{taken};
 ghost use Rattle.esto_prov.specs.Taking.{made_of};
 
+use crate::lists::{both, put_made, put_terms};
 use esto_semantics::Atom;
 use esto_term::{List, OutOfMemory, Replicate, Term, Terms, has_term};
 use std::alloc::Global;
@@ -16,8 +17,7 @@ pub fn terms_of(alloc: Global, atoms: &[Atom]) -> Result<Terms, OutOfMemory>
 {
     let mut terms = List::new(alloc);
     'atoms: for atom in atoms {
-        let own = atom.terms.copy(alloc)?;
-        terms.append(own)?;
+        put_terms(alloc, atom.terms.items(), &mut terms)?;
     }
     Ok(terms)
 }
@@ -26,10 +26,7 @@ pub fn terms_of(alloc: Global, atoms: &[Atom]) -> Result<Terms, OutOfMemory>
 pub fn followed(alloc: Global, terms: &Terms, others: &Terms) -> Result<Terms, OutOfMemory>
     ensures { IfOk result (λ it. it ≡ terms.now ++ others.now) }
 {
-    let mut all = terms.copy(alloc)?;
-    let others = others.copy(alloc)?;
-    all.append(others)?;
-    Ok(all)
+    both(alloc, terms.items(), others.items())
 }
 
 /// The term that a term meets first.
@@ -69,8 +66,8 @@ pub fn taken_terms(
 {
     let mut taken = List::new(alloc);
     'terms: for term in terms {
-        let met = taken_term(from, to, term).copy(alloc)?;
-        taken.push(met)?;
+        let met = taken_term(from, to, term).copy(alloc);
+        put_made(&mut taken, met)?;
     }
     Ok(taken)
 }
@@ -116,8 +113,8 @@ pub fn made_fact(
 {
     let mut terms = List::new(alloc);
     'terms: for term in atom.terms.items() {
-        let made = made_term(alloc, number, from, to, values, term)?;
-        terms.push(made)?;
+        let made = made_term(alloc, number, from, to, values, term);
+        put_made(&mut terms, made)?;
     }
     Ok(Atom {
         relation: atom.relation,

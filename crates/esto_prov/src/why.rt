@@ -3,6 +3,7 @@ ghost use Rattle.std.specs.Prelude.{ℕ, ◌≡◌, ◌<◌, ◌≤◌, length, 
 ghost use Rattle.esto_chase_laws.specs.WorldLaws.{AreReasoned};
 ghost use Rattle.esto_prov.specs.Derivations.{IsWhy, AreWhys};
 
+use crate::lists::put_made;
 use esto_chase_laws::{Entry, Reason};
 use esto_term::{List, OutOfMemory, Replicate};
 use std::alloc::Global;
@@ -48,8 +49,8 @@ fn copied_all(alloc: Global, whys: &[Why]) -> Result<Whys, OutOfMemory>
 {
     let mut own = List::new(alloc);
     'whys: for why in whys {
-        let copy = copied(alloc, why)?;
-        own.push(copy)?;
+        let copy = copied(alloc, why);
+        put_made(&mut own, copy)?;
     }
     Ok(own)
 }
@@ -95,8 +96,8 @@ fn whys_of(
 {
     let mut whys = List::new(alloc);
     'places: for place in places {
-        let why = why_of(alloc, entries, *place)?;
-        whys.push(why)?;
+        let why = why_of(alloc, entries, *place);
+        put_made(&mut whys, why)?;
     }
     Ok(whys)
 }

@@ -1,5 +1,5 @@
 //! The index of a list of facts.
-ghost use Rattle.std.specs.Prelude.{◌≡◌, ◌<◌, ◌+◌, List, length, slice_get, Some, IfOk, OnOk, IfSome};
+ghost use Rattle.std.specs.Prelude.{◌≡◌, ◌<◌, ◌+◌, List, length, Some, IfOk, OnOk, IfSome};
 ghost use Rattle.esto_term.specs.declared.term.Term.{Term};
 ghost use Rattle.esto_term.specs.declared.term.Term.TheVariants.{Const};
 ghost use Rattle.esto_semantics.specs.Maps.{Keeps};
@@ -136,39 +136,47 @@ fn buckets_of(alloc: Global, facts: &[Atom]) -> Result<Buckets, OutOfMemory>
     Ok(relations)
 }
 
-/// The index of the facts by the columns, where terms have their ranks for numbers.
-fn named_index(
+/// The names among which terms have their ranks for numbers, and the table of the facts' places by these.
+fn ranked_table(
     alloc: Global,
-    columns: Marks,
-    relations: Buckets,
+    columns: &Marks,
     facts: &[Atom],
-) -> Result<Index, OutOfMemory>
-    requires { AreInBuckets facts.now (length facts.now) relations }
-    ensures { IfOk result (IsIndex facts.now) }
+) -> Result<(Vec<Term>, Table), OutOfMemory>
+    ensures { IfOk result (λ it. AreInOrder it.0.items
+        × IsTableOf facts.now columns.now it.0.items it.1) }
 {
-    let names = names_of(alloc, &columns, facts)?;
-    let terms = table_by(alloc, &columns, &names, facts)?;
-    Ok(Index {
-        columns,
-        names,
-        relations,
-        terms,
-    })
+    let names = names_of(alloc, columns, facts)?;
+    let terms = table_by(alloc, columns, &names, facts)?;
+    Ok((names, terms))
 }
 
-/// The index of the facts by the columns. Terms have their hashes for numbers, but where these clash, as texts can be made
-/// to do, their ranks.
+/// The table of the facts' places by their terms in the columns, behind the names by which these have numbers: none,
+/// so that terms have their hashes for numbers, but where these clash, as texts can be made to do, those among which
+/// they have their ranks.
+fn named_table(
+    alloc: Global,
+    columns: &Marks,
+    facts: &[Atom],
+) -> Result<(Vec<Term>, Table), OutOfMemory>
+    ensures { IfOk result (λ it. AreInOrder it.0.items
+        × IsTableOf facts.now columns.now it.0.items it.1) }
+{
+    let terms = table_by(alloc, columns, &[], facts)?;
+    if clashes(facts, &terms) {
+        return ranked_table(alloc, columns, facts);
+    }
+    Ok((Vec::new(alloc), terms))
+}
+
+/// The index of the facts by the columns.
 pub fn index_of(alloc: Global, columns: Marks, facts: &[Atom]) -> Result<Index, OutOfMemory>
     ensures { IfOk result (IsIndex facts.now) }
 {
     let relations = buckets_of(alloc, facts)?;
-    let terms = table_by(alloc, &columns, &[], facts)?;
-    if clashes(facts, &terms) {
-        return named_index(alloc, columns, relations, facts);
-    }
+    let (names, terms) = named_table(alloc, &columns, facts)?;
     Ok(Index {
         columns,
-        names: Vec::new(alloc),
+        names,
         relations,
         terms,
     })

@@ -1,5 +1,5 @@
 //! The least active match of a rule, atom by atom.
-ghost use Rattle.std.specs.Prelude.{◌∷◌, IfOk, OnOk, MatchOption};
+ghost use Rattle.std.specs.Prelude.{◌∷◌, IfOk, MatchOption};
 ghost use Rattle.std.specs.FinMap as map;
 ghost use Rattle.esto_semantics.specs.Maps.{AreFlat};
 ghost use Rattle.esto_query.specs.Active.{rule_of, IsAimed, NoneIsActive, IsLeastActiveFrom, FindsLeast};
@@ -72,10 +72,8 @@ fn least_from<'a>(
     let Some((atom, rest)) = atoms.split_first() else {
         return is_active(alloc, start, rule, facts, trail);
     };
-    match has_active(alloc, start, rule, atoms, facts, trail) {
-        Ok(true) => {}
-        Ok(false) => return Ok(false),
-        Err(error) => return Err(error),
+    if !has_active(alloc, start, rule, atoms, facts, trail)? {
+        return Ok(false);
     }
     least_through(alloc, start, rule, atom, rest, facts, trail, places)
 }
@@ -98,14 +96,11 @@ fn least_found<'a>(
         found.valuation found.places)) }
 {
     let mut places = Values::new(alloc);
-    match least_from(alloc, start, rule, rule.body, facts, trail, &mut places) {
-        Ok(true) => {
-            let valuation = extended(alloc, start, trail)?;
-            Ok(Some(Found { valuation, places }))
-        }
-        Ok(false) => Ok(None),
-        Err(error) => Err(error),
+    if !least_from(alloc, start, rule, rule.body, facts, trail, &mut places)? {
+        return Ok(None);
     }
+    let valuation = extended(alloc, start, trail)?;
+    Ok(Some(Found { valuation, places }))
 }
 
 impl<'a> IndexedFacts<'a> {

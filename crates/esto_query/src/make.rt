@@ -1,9 +1,11 @@
 //! When a query is made.
-ghost use Rattle.std.specs.Prelude.{◌≢◌, [], ◌<◌, Contains, All, length, MatchOption};
+ghost use Rattle.std.specs.Prelude.{◌≢◌, [], ◌<◌, ◌≤◌, List, Contains, All, length, MatchOption, Err};
 ghost use Rattle.esto_term.specs.declared.term.Term.{Term};
 ghost use Rattle.esto_semantics.specs.Maps.{IsFlat, AreFlat};
 ghost use Rattle.esto_query.specs.Soundness.{AreNamed, IsSafe};
 ghost use Rattle.esto_query.specs.Schemas.{arities_of};
+ghost use Rattle.esto_semantics.specs.WellFormed.{AreOver};
+ghost use Rattle.esto_query.specs.declared.query.Name.{Name};
 ghost use Rattle.esto_query.specs.Making.{MakesQuery, IsFirstUnsafe};
 
 use crate::body::{first_misfit, missing_variable};
@@ -52,6 +54,28 @@ fn first_unsafe(head: &[Term], body: &[Atom]) -> Option<u64>
     None
 }
 
+/// Why no query is made of this head and body. None comes exactly where one is made.
+fn fault_of(schema: &Schema, head: &[Term], body: &[Atom]) -> Option<QueryFault>
+    requires relations { All (λ atom. atom.relation < length schema.now) body.now }
+    requires flat { (term : Term) → Contains head.now term → IsFlat term }
+    ensures { MatchOption result
+        (AreOver (arities_of schema.now) body.now × (length body.now ≤ MAX_ATOMS)
+        × IsSafe head.now body.now)
+        (λ fault. (names : List Name)
+        → MakesQuery (arities_of schema.now) head.now body.now names (Err fault)) }
+{
+    if let Some(place) = first_misfit(schema, body) {
+        return Some(QueryFault::Arity(place));
+    }
+    if body.len() > MAX_ATOMS {
+        return Some(QueryFault::TooLarge(body.len()));
+    }
+    match first_unsafe(head, body) {
+        Some(variable) => Some(QueryFault::Unsafe(variable)),
+        None => None,
+    }
+}
+
 /// The query of this head, body and names. Arity comes exactly where an atom has a wrong number of terms, with
 /// the place of the first such atom; else TooLarge exactly where the body has more than 64 atoms, with their
 /// number; else Unsafe exactly where a variable of the head is not in the body, with the first such variable.
@@ -71,14 +95,8 @@ pub fn make_query(
     requires named { AreNamed names body }
     ensures { MakesQuery (arities_of schema.now) head body names result }
 {
-    if let Some(place) = first_misfit(schema, body.items()) {
-        return Err(QueryFault::Arity(place));
+    if let Some(fault) = fault_of(schema, head.items(), body.items()) {
+        return Err(fault);
     }
-    if body.len() > MAX_ATOMS {
-        return Err(QueryFault::TooLarge(body.len()));
-    }
-    match first_unsafe(head.items(), body.items()) {
-        Some(variable) => Err(QueryFault::Unsafe(variable)),
-        None => Ok(Query { head, body, names }),
-    }
+    Ok(Query { head, body, names })
 }

@@ -1,5 +1,5 @@
 //! Matches of a body in a list of facts.
-ghost use Rattle.std.specs.Prelude.{◌≡◌, ◌<◌, ◌↔◌, ℕ, List, IfOk, IfSome, IfNone, ⊤};
+ghost use Rattle.std.specs.Prelude.{◌≡◌, ◌<◌, ◌↔◌, [], ℕ, List, IfOk, IfSome, IfNone, ⊤};
 ghost use Rattle.esto_term.specs.declared.term.Term.{Term};
 ghost use Rattle.esto_semantics.specs.Maps.{AreFlat, Sends};
 ghost use Rattle.esto_semantics.specs.declared.fact.Fact.{Fact};
@@ -47,6 +47,30 @@ pub(crate) fn extended(
     Ok(valuation)
 }
 
+/// The least match from the given places on, whose bindings come into the trail, which is empty.
+fn least_by<'a>(
+    alloc: Global,
+    body: &[Atom],
+    facts: &IndexedFacts<'a>,
+    start: &Valuation,
+    from: &[usize],
+    trail: &mut Vec<Binding<'a>>,
+) -> Result<Option<Found>, OutOfMemory>
+    requires flat { AreFlat body.now }
+    requires empty { trail.old.items ≡ [] }
+    ensures found { IfOk result (λ outcome. IfSome outcome (λ found. IsLeastMatch
+        body.now facts.now start.now (IsAtMost from.now) found.valuation found.places)) }
+    ensures none { IfOk result (λ outcome. IfNone outcome
+        (HasNoMatch body.now facts.now start.now (IsAtMost from.now))) }
+{
+    let mut places = Values::new(alloc);
+    if !search(start, body, facts, from, trail, &mut places)? {
+        return Ok(None);
+    }
+    let valuation = extended(alloc, start, trail)?;
+    Ok(Some(Found { valuation, places }))
+}
+
 /// The least match from the given places on.
 fn least_match(
     alloc: Global,
@@ -62,15 +86,7 @@ fn least_match(
         (HasNoMatch body.now facts.now start.now (IsAtMost from.now))) }
 {
     let mut trail = Vec::new(alloc);
-    let mut places = Values::new(alloc);
-    match search(start, body, facts, from, &mut trail, &mut places) {
-        Ok(true) => {
-            let valuation = extended(alloc, start, &trail)?;
-            Ok(Some(Found { valuation, places }))
-        }
-        Ok(false) => Ok(None),
-        Err(error) => Err(error),
-    }
+    least_by(alloc, body, facts, start, from, &mut trail)
 }
 
 /// Places such that, of the lists of this many places below the bound, exactly those from them on

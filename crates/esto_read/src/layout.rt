@@ -1,6 +1,6 @@
 //! Layouts, from their texts.
 ghost use Rattle.std.specs.Prelude.{IfOk, IfErr, IsTrue, ◌↔◌, MatchOption};
-ghost use Rattle.esto_text.specs.Faults.{IsFieldIn, IsTermIn};
+ghost use Rattle.esto_text.specs.Faults.{IsFieldIn, IsTermIn, IsLayoutText, LayoutStandsAt};
 ghost use Rattle.esto_text.specs.Trees.{EachOfEntry, EachOfEntries};
 ghost use Rattle.esto_text.specs.View.{entry_of, entries_of};
 ghost use Rattle.esto_read.specs.Layouts.{AreColumns, entry_terms, terms_of, IsStranger, AreKnown, IsFirstStranger, IsLayoutReading, IsLayoutError};
@@ -67,6 +67,27 @@ fn first_stranger(bytes: &[u8], entries: &[EntrySyntax], columns: &[Name]) -> Op
     None
 }
 
+/// The pattern that the entries of the text say, whose variables are columns; or the fault of the first name after
+/// `:` that is no column's.
+fn said_layout(
+    alloc: Global,
+    bytes: &[u8],
+    group: &[EntrySyntax],
+    columns: &Names,
+) -> Result<Pattern, ReadError>
+    requires text { IsLayoutText bytes.now (entries_of group.now) }
+    requires stand { LayoutStandsAt bytes.now (entries_of group.now) }
+    ensures reading { IfOk result (IsLayoutReading columns.now bytes.now) }
+    ensures error { IfErr result (IsLayoutError columns.now bytes.now) }
+{
+    if let Some(fault) = first_stranger(bytes, group, columns.items()) {
+        return Err(ReadError::Fault(fault));
+    }
+    let mut names = columns.copy(alloc)?;
+    let entries = entries(alloc, bytes, group, &mut names)?;
+    Ok(Pattern { entries })
+}
+
 /// The pattern that a text of a layout is, whose variables are columns: each has its column's number, and the wildcards
 /// have the numbers from the count of columns on. Or the text's first fault: Utf8, Syntax, then Unknown at the first name
 /// after `:` that is no column's.
@@ -78,12 +99,7 @@ pub fn read_layout(alloc: Global, bytes: &[u8], columns: &Names) -> Result<Patte
     ensures error { IfErr result (IsLayoutError columns.now bytes.now) }
 {
     let group = read_layout_tree(alloc, bytes)?;
-    if let Some(fault) = first_stranger(bytes, group.items(), columns.items()) {
-        return Err(ReadError::Fault(fault));
-    }
-    let mut names = columns.copy(alloc)?;
-    let entries = entries(alloc, bytes, group.items(), &mut names)?;
-    Ok(Pattern { entries })
+    said_layout(alloc, bytes, group.items(), columns)
 }
 
 /// A law: over the same columns a text of a layout has at most one pattern and at most one first fault, and never both.

@@ -56,17 +56,48 @@ fn put_row<'a>(
     facts.push(fact)
 }
 
+/// The facts of the rows, each of which is put among those that were seen, which are none at the start.
+fn facts_seen<'a>(
+    alloc: Global,
+    relation: usize,
+    rows: &'a [TextRow],
+    seen: &mut Seen<'a>,
+) -> Result<Facts, OutOfMemory>
+    requires { seen.old ≡ [] }
+    ensures { IfOk result (λ it. AreRowFacts relation rows.now it) }
+{
+    let mut facts = List::new(alloc);
+    'rows: for row in rows {
+        put_row(alloc, relation, row, seen, &mut facts)?;
+    }
+    Ok(facts)
+}
+
 /// The facts of a table's rows: each row as a fact of the relation over its cells as constants, a repeated row once, in
 /// order of first occurrence.
 pub fn table_facts(alloc: Global, relation: usize, rows: &TextRows) -> Result<Facts, OutOfMemory>
     ensures { IfOk result (λ it. AreRowFacts relation rows.now it) }
 {
     let mut seen = Seen::new(alloc);
-    let mut facts = List::new(alloc);
-    'rows: for row in rows.items() {
-        put_row(alloc, relation, row, &mut seen, &mut facts)?;
+    facts_seen(alloc, relation, rows.items(), &mut seen)
+}
+
+// Whether one of the rows stands there twice. Those before it are put among those that were seen, which are none at
+// the start.
+fn is_seen_twice<'a>(
+    alloc: Global,
+    rows: &'a [TextRow],
+    seen: &mut Seen<'a>,
+) -> Result<bool, OutOfMemory>
+    requires { seen.old ≡ [] }
+    ensures { IfOk result (λ it. (it ≡ false) → AreEachOnce rows.now rows.now) }
+{
+    'rows: for row in rows {
+        if !seen.add(alloc, row)? {
+            return Ok(true);
+        }
     }
-    Ok(facts)
+    Ok(false)
 }
 
 // Whether one of the rows stands there twice.
@@ -74,12 +105,7 @@ fn has_repeats(alloc: Global, rows: &[TextRow]) -> Result<bool, OutOfMemory>
     ensures { IfOk result (λ it. (it ≡ false) → AreEachOnce rows.now rows.now) }
 {
     let mut seen = Seen::new(alloc);
-    'rows: for row in rows {
-        if !seen.add(alloc, row)? {
-            return Ok(true);
-        }
-    }
-    Ok(false)
+    is_seen_twice(alloc, rows, &mut seen)
 }
 
 // The constants of the cells, which are moved and not copied, in order.

@@ -1,5 +1,5 @@
 //! Paths.
-ghost use Rattle.std.specs.Prelude.{◌<◌, ℕ, [], ◌∷◌, length, IfOk, IfErr, MatchOption};
+ghost use Rattle.std.specs.Prelude.{◌≡◌, ◌<◌, ℕ, [], ◌∷◌, length, IfOk, IfErr, MatchOption};
 ghost use Rattle.esto_text.specs.Grammar.{IsFirst, IsLater, IsPath};
 ghost use Rattle.esto_text.specs.Machine.{AnEntry, PathRest, class_at, Takes, Fails, EndsPath};
 
@@ -49,6 +49,23 @@ fn later_step(tokens: &[Token]) -> Result<Option<(StepSyntax, &[Token])>, Stop>
     }
 }
 
+/// Puts the steps of a path into an empty list; gives what comes after them.
+fn put_path<'a>(tokens: &'a [Token], path: &mut List<StepSyntax>) -> Result<&'a [Token], Stop>
+    requires { path.old ≡ [] }
+    ensures ok { IfOk result (λ rest. Takes (IsPath path.new) tokens.now rest.now) }
+    ensures ends { IfOk result (λ rest. EndsPath rest.now) }
+    ensures shorter { IfOk result (λ rest. length rest.now < length tokens.now) }
+    ensures err { IfErr result (λ e. (n : ℕ) → Fails (AnEntry n ∷ []) tokens.now e) }
+{
+    let (step, mut rest) = first_step(tokens)?;
+    path.push(step)?;
+    'steps: while let Some((step, after)) = later_step(rest)? {
+        path.push(step)?;
+        rest = after;
+    }
+    Ok(rest)
+}
+
 /// A path, and what comes after it.
 pub fn path(alloc: Global, tokens: &[Token]) -> Result<(List<StepSyntax>, &[Token]), Stop>
     ensures ok { IfOk result (λ x. Takes (IsPath x.0) tokens.now x.1.now) }
@@ -56,12 +73,7 @@ pub fn path(alloc: Global, tokens: &[Token]) -> Result<(List<StepSyntax>, &[Toke
     ensures shorter { IfOk result (λ x. length x.1.now < length tokens.now) }
     ensures err { IfErr result (λ e. (n : ℕ) → Fails (AnEntry n ∷ []) tokens.now e) }
 {
-    let (step, mut rest) = first_step(tokens)?;
     let mut path = List::new(alloc);
-    path.push(step)?;
-    'steps: while let Some((step, after)) = later_step(rest)? {
-        path.push(step)?;
-        rest = after;
-    }
+    let rest = put_path(tokens, &mut path)?;
     Ok((path, rest))
 }

@@ -46,6 +46,20 @@ pub fn names(alloc: Global, tokens: &[Token]) -> Result<(Tokens, &[Token]), Stop
     Ok((names, rest))
 }
 
+/// Adds the term with which the tokens begin to the terms of an atom; gives whether a comma comes
+/// then, and not the parenthesis, and what comes after that.
+fn add_term<'a>(tokens: &'a [Token], terms: &mut Tokens) -> Result<(bool, &'a [Token]), Stop>
+    ensures ok { IfOk result (λ x. (term : Token) × (sign : Token)
+        × (tokens.now ≡ term ∷ sign ∷ x.1.now) × IsTerm term
+        × (class_of sign ≡ (if x.0 then TokenKind.Comma else TokenKind.RightParen))
+        × (terms.new ≡ terms.old ++ term ∷ [])) }
+    ensures err { IfErr result (λ e. Fails (ATerm ∷ MoreTerms ∷ []) tokens.now e) }
+{
+    let (term, rest) = term(tokens)?;
+    terms.push(term)?;
+    separator(rest, TokenKind::RightParen)
+}
+
 /// The terms of an atom, and what comes after its parenthesis.
 pub fn terms(alloc: Global, tokens: &[Token]) -> Result<(Tokens, &[Token]), Stop>
     ensures ok { IfOk result (λ x. Takes (IsRow IsTerm x.0) tokens.now x.1.now) }
@@ -55,9 +69,7 @@ pub fn terms(alloc: Global, tokens: &[Token]) -> Result<(Tokens, &[Token]), Stop
     let mut rest = tokens;
     let mut more = true;
     'terms: while more {
-        let (term, after) = term(rest)?;
-        terms.push(term)?;
-        (more, rest) = separator(after, TokenKind::RightParen)?;
+        (more, rest) = add_term(rest, &mut terms)?;
     }
     Ok((terms, rest))
 }

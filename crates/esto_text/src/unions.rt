@@ -1,5 +1,5 @@
 //! Unions of queries.
-ghost use Rattle.std.specs.Prelude.{◌≡◌, ◌≤◌, length, map, IfOk, IfErr};
+ghost use Rattle.std.specs.Prelude.{◌≡◌, ◌≤◌, [], length, map, IfOk, IfErr};
 ghost use Rattle.esto_text.specs.Grammar.{class_of, IsUnion};
 ghost use Rattle.esto_text.specs.Limits.{is_semicolon, limited_union};
 ghost use Rattle.esto_text.specs.Machine.{IsCut, TakesQuery, QueryFails, UnionFails};
@@ -49,6 +49,26 @@ fn next_query(alloc: Global, tokens: &[Token]) -> Result<(QuerySyntax, &[Token])
     }
 }
 
+/// Puts the queries of the union that the tokens are into an empty list.
+fn put_queries(alloc: Global, tokens: &[Token], queries: &mut List<QuerySyntax>) -> Result<(), Stop>
+    requires { queries.old ≡ [] }
+    ensures ok { IfOk result (λ _. IsUnion (map tree_of queries.new) (limited_union tokens.now)) }
+    ensures err { IfErr result (UnionFails tokens.now) }
+{
+    let mut rest = tokens;
+    'queries: loop {
+        let (query, after) = next_query(alloc, rest)?;
+        queries.push(query)?;
+        if after.is_empty() {
+            return Ok(());
+        }
+        if queries.len() == MAX_QUERIES {
+            return Err(Stop::Syntax(after.len()));
+        }
+        (_, rest) = after.split_at(1);
+    }
+}
+
 /// The queries of the union that the tokens are.
 pub fn queries(alloc: Global, tokens: &[Token]) -> Result<List<QuerySyntax>, Stop>
     ensures ok { IfOk result (λ queries.
@@ -56,16 +76,6 @@ pub fn queries(alloc: Global, tokens: &[Token]) -> Result<List<QuerySyntax>, Sto
     ensures err { IfErr result (UnionFails tokens.now) }
 {
     let mut queries = List::new(alloc);
-    let mut rest = tokens;
-    'queries: loop {
-        let (query, after) = next_query(alloc, rest)?;
-        queries.push(query)?;
-        if after.is_empty() {
-            return Ok(queries);
-        }
-        if queries.len() == MAX_QUERIES {
-            return Err(Stop::Syntax(after.len()));
-        }
-        (_, rest) = after.split_at(1);
-    }
+    put_queries(alloc, tokens, &mut queries)?;
+    Ok(queries)
 }

@@ -1,8 +1,12 @@
 use Rattle.std.proofs.Common.{◌∙◌, refl, sym}
 use Rattle.std.proofs.lemmas.Bool.{false≢true}
 use Rattle.esto_bits.specs.Pages.{HasAround}
-use Rattle.esto_bits.proofs.PageLemmas.{none_around, page_found, page_passed, rest_says, rest_whole}
+use Rattle.esto_bits.proofs.PageLemmas.{none_around, page_found, page_passed, rest_says, rest_whole, room_of_page}
 use Rattle.esto_bits.proofs.pages.any_around_by.Goals as goal
+
+pub page_has_around-requires-clause-room : goal.page_has_around-requires-clause-room
+page_has_around-requires-clause-room c =
+    room_of_page c.args.rows.now c.args.width c.requires.width (HasAround c.args.row.now) c.pages.place _ c.pages-test.true c.requires.pages.whole
 
 pub pages-preserved-then-row-page : goal.pages-preserved-then-row-page
 pages-preserved-then-row-page c = page_passed c.args.rows.now c.args.width c.requires.width (HasAround c.args.row.now) c.pages.place

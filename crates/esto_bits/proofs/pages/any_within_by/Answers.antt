@@ -1,8 +1,12 @@
 use Rattle.std.proofs.Common.{◌∙◌, refl, sym}
 use Rattle.std.proofs.lemmas.Bool.{false≢true}
 use Rattle.esto_bits.specs.Pages.{HasWithin}
-use Rattle.esto_bits.proofs.PageLemmas.{none_within, page_found, page_passed, rest_says, rest_whole}
+use Rattle.esto_bits.proofs.PageLemmas.{none_within, page_found, page_passed, rest_says, rest_whole, room_of_page}
 use Rattle.esto_bits.proofs.pages.any_within_by.Goals as goal
+
+pub page_has_within-requires-clause-room : goal.page_has_within-requires-clause-room
+page_has_within-requires-clause-room c =
+    room_of_page c.args.rows.now c.args.width c.requires.width (HasWithin c.args.row.now) c.pages.place _ c.pages-test.true c.requires.pages.whole
 
 pub pages-preserved-then-page-row : goal.pages-preserved-then-page-row
 pages-preserved-then-page-row c = page_passed c.args.rows.now c.args.width c.requires.width (HasWithin c.args.row.now) c.pages.place

@@ -1,9 +1,10 @@
-use Rattle.std.proofs.Common.{ap, ◌∙◌, subst, arith}
+use Rattle.std.proofs.Common.{ap, ◌∙◌, get_or, subst, arith}
 use Rattle.esto_chase_laws.specs.declared.entry.Entry.{Entry}
 use Rattle.esto_chase_laws.specs.declared.entry.Reason.TheVariants as reason
-use Rattle.esto_prov.specs.Derivations.{AreWhys}
+use Rattle.esto_prov.specs.Derivations.{AreWhys, IsWhy}
 use Rattle.esto_prov.specs.Derivations.IsWhy.{expanded, step, same}
 use Rattle.esto_prov.proofs.WhyLemmas.{below_step, below_chain, has_reason, whys_more, place_below}
+use Rattle.esto_prov.proofs.PutLemmas.{put_has}
 use Rattle.esto_prov.proofs.why.+why.Goals as goal
 
 pub why_of-whys_of-requires : goal.why_of-whys_of-requires
@@ -47,8 +48,8 @@ why_of-returns-in_ok-parts-in-Equal t c =
     (has_reason c.args.entries.now c.args.at c.index-entries-at.result (reason.Equal c.in-Equal.places)
     c.requires.within c.index-entries-at.is (ap (λ (it : Entry). it.reason) c.index-entries-at.is ∙ c.in-Equal.is)) whys.as_many whys.each
 
-pub whys_of-why_of-requires : goal.whys_of-why_of-requires
-whys_of-why_of-requires t c =
+pub whys_of-why_of-why-requires : goal.whys_of-why_of-why-requires
+whys_of-why_of-why-requires t c =
     let below = place_below c.args.places.now c.places.place-index c.args.bound c.places-test.true c.requires.below in (
       omega (arith, below, c.decreases),
       (omega (arith, below, c.requires.within), c.requires.reasoned),
@@ -56,5 +57,7 @@ whys_of-why_of-requires t c =
 
 pub whys_of-places-preserved : goal.whys_of-places-preserved
 whys_of-places-preserved t c =
-    whys_more c.args.entries.now c.args.places.now c.places.whys c.push.new.self c.places.place-index c.in_ok-why.why c.places-test.true
-    c.places.invariant c.in_ok-why.ensures c.in_ok-push.ensures.ok
+    let (why, is, now) =
+    put_has c.why_of-why.result (IsWhy c.args.entries.now (get_or c.args.places.now c.places.place-index 0)) c.places.whys c.put_made.new.items
+    c.why_of-why.ensures c.in_ok-put_made.ensures in
+    whys_more c.args.entries.now c.args.places.now c.places.whys c.put_made.new.items c.places.place-index why c.places-test.true c.places.invariant is now

@@ -3,12 +3,12 @@ use Rattle.esto_query.specs.Trails.{with_trail}
 use Rattle.esto_query.proofs.RowLemmas.{known_adds}
 use Rattle.esto_query.proofs.answer.push_if_matched.Goals as goal
 
-pub returns-in-Ok-true-clause-trail : goal.returns-in-Ok-true-clause-trail
-returns-in-Ok-true-clause-trail c = on_ok_weaker c.push_image.result (λ _. c.in-Ok-true.ensures.trail) c.push_image.ensures
+pub returns-clause-trail : goal.returns-clause-trail
+returns-clause-trail c = on_ok_weaker c.push_image.result (λ _. c.in_ok-has_match.ensures.trail) c.push_image.ensures
 
-pub returns-in-Ok-true-clause-adds : goal.returns-in-Ok-true-clause-adds
-returns-in-Ok-true-clause-adds c =
-    let found = rw c.in-Ok-true.field-0-test at c.in-Ok-true.ensures.decides in
-    let adds = rw (c.deref.ensures.value, c.in-Ok-true.ensures.trail) at c.push_image.ensures in
+pub returns-clause-adds : goal.returns-clause-adds
+returns-clause-adds c =
+    let found = rw c.if-not-branch.false at c.in_ok-has_match.ensures.decides in
+    let adds = rw (c.deref.ensures.value, c.in_ok-has_match.ensures.trail) at c.push_image.ensures in
     on_ok_weaker c.push_image.result (known_adds c.args.head.now c.args.left.now c.args.facts.now (with_trail c.args.start.now c.args.trail.now.items) _ _
     c.requires.known found) adds

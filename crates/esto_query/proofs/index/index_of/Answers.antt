@@ -1,12 +1,4 @@
-use Rattle.std.proofs.Common.{sym, subst}
-use Rattle.esto_query.specs.Indexes.{IsTableOf}
-use Rattle.esto_table.specs.Numbers.{AreInOrder}
-use Rattle.esto_table.proofs.NumberLemmas.{names_none}
 use Rattle.esto_query.proofs.index.index_of.Goals as goal
 
 pub returns : goal.returns
-returns c = record {
-  relations = c.in_ok-relations.ensures;
-  names = subst AreInOrder (sym c.new.ensures.items) names_none;
-  terms = subst (λ names. IsTableOf c.args.facts.now c.args.columns names c.in_ok-terms.terms) (sym c.new.ensures.items) c.in_ok-terms.ensures;
-}
+returns c = record { relations = c.in_ok-relations.ensures; names = c.in_ok-names.ensures.0; terms = c.in_ok-names.ensures.1 }

@@ -18,15 +18,15 @@ least_from-returns-in_default t c =
     (λ same is tells. least_at_end c.args.facts.now (rule_of c.args.rule.now) c.args.start.now c.args.trail.now.items c.is_active.new.trail.items
     c.args.places.now same is tells) c.is_active.ensures.trail c.is_active.ensures.tells)
 
-pub least_from-returns-in-Ok-false : goal.least_from-returns-in-Ok-false
-least_from-returns-in-Ok-false t c =
-    let none = rw c.in-Ok-false.field-0-test at c.in-Ok-false.ensures.decides in
-    (c.in-Ok-false.ensures.trail, refl, none)
+pub least_from-returns-then-not-branch : goal.least_from-returns-then-not-branch
+least_from-returns-then-not-branch t c =
+    let none = rw c.if-not-branch.true at c.in_ok-has_active.ensures.decides in
+    (c.in_ok-has_active.ensures.trail, refl, none)
 
 pub least_from-least_through-requires : goal.least_from-least_through-requires
 least_from-least_through-requires t c =
     let split : c.args.atoms.now ≡ c.in-Some.atom.now ∷ c.in-Some.rest.now = c.in-Some.ensures.cases.0 in
-    let aimed = rw (← c.in-Ok-true.ensures.trail) at c.requires.aimed in (
+    let aimed = rw (← c.in_ok-has_active.ensures.trail) at c.requires.aimed in (
       omega (arith, ap length split),
       (
         subst AreFlat split c.requires.flat,
@@ -38,7 +38,7 @@ least_from-least_through-requires t c =
 pub least_from-returns : goal.least_from-returns
 least_from-returns t c =
     let split : c.args.atoms.now ≡ c.in-Some.atom.now ∷ c.in-Some.rest.now = c.in-Some.ensures.cases.0 in
-    rw split (rw c.in-Ok-true.ensures.trail at c.least_through.ensures)
+    rw split (rw c.in_ok-has_active.ensures.trail at c.least_through.ensures)
 
 pub least_through-places-init : goal.least_through-places-init
 least_through-places-init t c = record { trail = refl; places = refl; holds = λ place inside. absurd (Contains-nil place inside) }

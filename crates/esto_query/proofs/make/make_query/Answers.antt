@@ -1,12 +1,19 @@
-use Rattle.std.proofs.Common.{refl, arith}
+use Rattle.std.proofs.Common.{List, Err, refl, subst}
+use Rattle.esto_term.specs.declared.term.Term.{Term}
+use Rattle.esto_semantics.specs.declared.fact.Fact.{Fact}
+use Rattle.esto_query.specs.Making.{MakesQuery}
+use Rattle.esto_query.specs.Schemas.{arities_of}
 use Rattle.esto_query.proofs.make.make_query.Goals as goal
 
-pub first_unsafe-requires : goal.first_unsafe-requires
-first_unsafe-requires c = rw c.items-2.ensures c.requires.flat_head
+pub fault_of-requires-clause-relations : goal.fault_of-requires-clause-relations
+fault_of-requires-clause-relations c = rw c.items-2.ensures c.requires.relations
+
+pub fault_of-requires-clause-flat : goal.fault_of-requires-clause-flat
+fault_of-requires-clause-flat c = rw c.items.ensures c.requires.flat_head
 
 pub invariant_of-result : goal.invariant_of-result
 invariant_of-result c =
-    let safe = rw (c.items-2.ensures, c.items-3.ensures) at c.in-None.ensures in
+    let made = rw (c.items.ensures, c.items-2.ensures) at c.in_default.ensures in
     record {
       sound = ∣ record {
         query = record {
@@ -14,24 +21,20 @@ invariant_of-result c =
           has_body = c.requires.has_body;
           flat_head = c.requires.flat_head;
           flat_body = c.requires.flat_body;
-          safe = safe;
+          safe = made.2;
         };
         named = c.requires.named;
       } ∣₁;
     }
 
-pub returns-in-None : goal.returns-in-None
-returns-in-None c =
-    let over = rw c.items.ensures at c.in_default.ensures in
-    let safe = rw (c.items-2.ensures, c.items-3.ensures) at c.in-None.ensures in
-    (over, omega arith, safe, refl, refl, refl)
-
 pub returns-in-Some : goal.returns-in-Some
-returns-in-Some c = rw c.items.ensures at c.in-Some.ensures
+returns-in-Some c =
+    let arities = arities_of c.args.schema.now in
+    subst (λ (head : List Term). MakesQuery arities head c.args.body c.args.names (Err c.in-Some.fault)) c.items.ensures
+    (subst (λ (body : List (Fact Term)). MakesQuery arities c.items.result.now body c.args.names (Err c.in-Some.fault)) c.items-2.ensures
+    (c.in-Some.ensures c.args.names))
 
-pub returns-then-len-gt-MAX_ATOMS : goal.returns-then-len-gt-MAX_ATOMS
-returns-then-len-gt-MAX_ATOMS c = (rw c.items.ensures at c.in_default.ensures, c.len-then-len-gt-MAX_ATOMS.ensures, omega arith)
-
-pub returns-in-Some-first_unsafe : goal.returns-in-Some-first_unsafe
-returns-in-Some-first_unsafe c =
-    (rw c.items.ensures at c.in_default.ensures, omega arith, rw (c.items-2.ensures, c.items-3.ensures) at c.in-Some-first_unsafe.ensures)
+pub returns : goal.returns
+returns c =
+    let made = rw (c.items.ensures, c.items-2.ensures) at c.in_default.ensures in
+    (made.0, made.1, made.2, refl, refl, refl)

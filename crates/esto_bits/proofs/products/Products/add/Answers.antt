@@ -1,71 +1,27 @@
-use Rattle.std.proofs.Common.{◌≡◌, ◌∙◌, ap, refl, subst, sym}
-use Rattle.std.proofs.lemmas.Bool.{false≢true}
+use Rattle.std.proofs.Common.{◌≡◌, ◌↔◌, ◌∙◌, IfOk, OnOk, ap, false, subst, sym}
+use Rattle.std.proofs.lemmas.Result.{on_ok_weaker}
 use Rattle.esto_term.specs.Sets.{Covers}
-use Rattle.esto_bits.specs.Kept.{AreOver, CoversAlso, IsAntichain, Kept, with_set}
-use Rattle.esto_bits.proofs.FamilyLemmas.{covered-with_set, with_set-covered}
-use Rattle.esto_bits.proofs.ProductLemmas.{added, below_count, covers_row}
+use Rattle.esto_bits.specs.Kept.{CoversAlso, with_set}
+use Rattle.esto_bits.specs.Words.{AreWordsBelow, set_of}
+use Rattle.esto_bits.proofs.FamilyLemmas.{covered-with_set}
 use Rattle.esto_bits.proofs.products.Products.add.Goals as goal
 
-pub covers-requires : goal.covers-requires
-covers-requires c =
-    below_count c.args.set.now c.self.inside.packed c.words-words.result.now (c.requires ∙ sym (ap (λ (it : Kept). it.count) c.self.view_is))
-    c.words-words.ensures.below c.words-words.ensures.set
+pub add_words-requires : goal.add_words-requires
+add_words-requires c = subst (AreWordsBelow c.words.result.now) c.requires c.words.ensures.below
 
--- ---- the set is covered
-
-covered : (c : goal.Then-covers) → Covers c.args.self.now.sets c.args.set.now
-covered c = subst (λ (it : Kept). Covers it.sets c.args.set.now) c.self.view_is
-    ((covers_row c.args.set.now c.self.inside.packed c.words-words.result.now (c.requires ∙ sym (ap (λ (it : Kept). it.count) c.self.view_is))
-    c.words-words.ensures.below c.words-words.ensures.set
-    c.covers.result c.covers.ensures).0 c.if-covers.true)
-
-pub returns-then-covers-clause-answer : goal.returns-then-covers-clause-answer
-returns-then-covers-clause-answer c = (λ _. covered c, λ _. refl)
-
-pub returns-then-covers-clause-ok : goal.returns-then-covers-clause-ok
-returns-then-covers-clause-ok c =
-    with_set-covered c.args.self.now.sets c.args.set.now
-    (covered c)
-
-pub returns-then-covers-clause-covers : goal.returns-then-covers-clause-covers
-returns-then-covers-clause-covers c =
-    subst (CoversAlso c.args.self.now.sets c.args.set.now) (sym (returns-then-covers-clause-ok c)) (covered-with_set c.args.self.now.sets c.args.set.now)
-
--- ---- memory is wanting
-
-pub invariant_of-self : goal.invariant_of-self
-invariant_of-self c =
-    subst (λ (it : Kept). AreOver it.count it.sets × IsAntichain it.sets) (sym c.in_err-put_for_supersets.ensures.err) c.self.invariant
-
--- ---- the set is put in place of its supersets
-
-uncovered : (c : goal.In_ok-put_for_supersets) → ¬ (Covers c.self.inside.packed.sets c.args.set.now)
-uncovered c = λ covers. false≢true (sym c.if-covers.false ∙ (covers_row c.args.set.now c.self.inside.packed c.words-words.result.now
-    (c.requires ∙ sym (ap (λ (it : Kept). it.count) c.self.view_is))
-    c.words-words.ensures.below c.words-words.ensures.set
-    c.covers.result c.covers.ensures).1 covers)
+-- the words keep the set
+same : (c : goal.After-add_words) → set_of c.words.result.now c.args.self.now.count ≡ c.args.set.now
+same c = ap (set_of c.words.result.now) (sym c.requires) ∙ c.words.ensures.set
 
 pub returns-clause-answer : goal.returns-clause-answer
-returns-clause-answer c = (
-  λ never. absurd (false≢true (sym never)),
-  λ covers. absurd (uncovered c (subst (λ (it : Kept). Covers it.sets c.args.set.now) (sym c.self.view_is) covers)),
-)
-
-pub invariant_of-self-2 : goal.invariant_of-self-2
-invariant_of-self-2 c =
-    (added c.args.set.now c.self.inside.packed c.words-words.result.now (c.requires ∙ sym (ap (λ (it : Kept). it.count) c.self.view_is))
-    c.words-words.ensures.below c.words-words.ensures.set
-    c.self.invariant (uncovered c)
-    c.put_for_supersets.new.self c.in_ok-put_for_supersets.ensures.ok).2
+returns-clause-answer c =
+    subst (λ set. IfOk c.add_words.result (λ added. (added ≡ false) ↔ Covers c.args.self.now.sets set)) (same c) c.add_words.ensures.answer
 
 pub returns-clause-ok : goal.returns-clause-ok
 returns-clause-ok c =
-    subst (λ (it : Kept). c.put_for_supersets.new.self.sets ≡ with_set it.sets c.args.set.now) c.self.view_is
-    (added c.args.set.now c.self.inside.packed c.words-words.result.now (c.requires ∙ sym (ap (λ (it : Kept). it.count) c.self.view_is))
-    c.words-words.ensures.below c.words-words.ensures.set
-    c.self.invariant (uncovered c)
-    c.put_for_supersets.new.self c.in_ok-put_for_supersets.ensures.ok).0
+    subst (λ set. OnOk c.add_words.result (c.add_words.new.self.sets ≡ with_set c.args.self.now.sets set)) (same c) c.add_words.ensures.ok
 
 pub returns-clause-covers : goal.returns-clause-covers
 returns-clause-covers c =
-    subst (CoversAlso c.args.self.now.sets c.args.set.now) (sym (returns-clause-ok c)) (covered-with_set c.args.self.now.sets c.args.set.now)
+    on_ok_weaker c.add_words.result
+    (λ now. subst (CoversAlso c.args.self.now.sets c.args.set.now) (sym now) (covered-with_set c.args.self.now.sets c.args.set.now)) (returns-clause-ok c)

@@ -1,24 +1,27 @@
-use Rattle.std.proofs.Common.{◌≡◌, ◌∙◌, ap, arith, length, subst, sym}
+use Rattle.std.proofs.Common.{◌∙◌, ap, arith, subst, sym}
 use Rattle.std.proofs.lemmas.List.{take_all}
-use Rattle.std.proofs.lemmas.List.Elements.{All-contains}
-use Rattle.esto_term.proofs.ListLemmas.{Contains-at}
+use Rattle.esto_term.proofs.ListLemmas.{thing_at}
 use Rattle.esto_bits.specs.Kept.{CoversEither, Kept, with_sets}
-use Rattle.esto_bits.proofs.JoinLemmas.{added_next, covers-with_sets, with_sets-antichain}
+use Rattle.esto_bits.proofs.JoinLemmas.{added_next, covers-with_sets, has_first, with_sets-antichain}
 use Rattle.esto_bits.proofs.products.Products.add_all.Goals as goal
 
-pub add-requires : goal.add-requires
-add-requires c =
-    All-contains (λ set. length set ≡ c.args.others.now.count) c.args.others.now.sets c.in_ok-set.set c.products_are_antichains.ensures.over
-    (Contains-at c.args.others.now.sets c.sets.at c.in_ok-set.set c.in_ok-set.ensures)
-    ∙ c.requires ∙ sym c.sets.invariant.count
+pub add_at-requires-clause-same_count : goal.add_at-requires-clause-same_count
+add_at-requires-clause-same_count c = c.requires ∙ sym c.sets.invariant.count
 
 pub sets-preserved : goal.sets-preserved
-sets-preserved c = record {
-  count = c.add.ensures.count ∙ c.sets.invariant.count;
-  sets =
-      added_next c.args.self.now.sets c.sets.self.sets c.add.new.self.sets c.args.others.now.sets c.sets.at c.in_ok-set.set c.in_ok-set.ensures
-      c.in_ok-add.ensures.ok c.sets.invariant.sets;
-}
+sets-preserved c =
+    let here = thing_at c.args.others.now.sets c.sets.at (omega (arith, c.sets-test.true, c.len-at-end.ensures)) in
+    record {
+      count = c.add_at.ensures.count ∙ c.sets.invariant.count;
+      sets =
+          added_next c.args.self.now.sets c.sets.self.sets c.add_at.new.self.sets c.args.others.now.sets c.sets.at here.0 here.1
+          (c.in_ok-add_at.ensures.ok here.0 here.1) c.sets.invariant.sets;
+    }
+
+pub returns-in_err-add_at-clause-err : goal.returns-in_err-add_at-clause-err
+returns-in_err-add_at-clause-err c =
+    has_first c.from_residual-in_err-add_at.result c.args.self.now.sets c.args.others.now.sets c.add_at.new.self.sets c.sets.at
+    (ap (λ (it : Kept). it.sets) c.in_err-add_at.ensures.err ∙ c.sets.invariant.sets)
 
 pub returns-clause-ok : goal.returns-clause-ok
 returns-clause-ok c =

@@ -8,4 +8,4 @@ pub returns : goal.returns
 returns c =
     subst (λ (it : Kept). IsTrue c.covers.result ↔ Covers it.sets c.args.set.now) c.self.view_is
     (covers_row c.args.set.now c.self.inside.packed c.words.result.now (c.requires ∙ sym (ap (λ (it : Kept). it.count) c.self.view_is))
-    c.words.ensures.below c.words.ensures.set c.covers.result c.covers.ensures)
+    c.words.ensures.set c.covers.result c.covers.ensures)

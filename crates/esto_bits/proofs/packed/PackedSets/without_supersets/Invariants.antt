@@ -1,8 +1,0 @@
-use Rattle.std.proofs.Common.{◌≡◌, filter, not, take}
-use Rattle.esto_bits.specs.Kept.{is_within, kept}
-use Rattle.esto_bits.specs.Words.{set_of}
-use Rattle.esto_bits.proofs.packed.PackedSets.without_supersets.Given as goal
-
--- the sets so far that are no supersets
-abbrev pub invariant-sets : goal.invariant-sets
-invariant-sets l = l.rest ≡ kept l.self.count (filter (λ set. not (is_within (set_of l.row l.self.count) set)) (take l.at l.self.sets))

@@ -1,6 +1,0 @@
-use Rattle.std.proofs.Common.{◌≡◌, take}
-use Rattle.esto_bits.proofs.products.copies.Given as goal
-
--- the sets so far are copied
-abbrev pub invariant-sets : goal.invariant-sets
-invariant-sets l = l.copies.items ≡ take l.at l.products.sets
