@@ -1,7 +1,10 @@
 -- Matches that are found are those that there are.
-use Rattle.std.proofs.Common.{◌≡◌, ℕ, List, [], ◌∷◌, Some, None, Ok, Err, Option, Result, IfOk, Contains, refl, subst, sym, ap, ◌∙◌}
+use Rattle.std.proofs.Common.{◌≡◌, ◌↔◌, ℕ, Bool, true, false, List, [], ◌∷◌, Some, None, Ok, Err, Option, Result, IfOk, IsTrue, Contains}
+use Rattle.std.proofs.Common.{refl, subst, sym, ap, ◌∙◌}
+use Rattle.std.specs.Bool.{then_some}
 use Rattle.std.specs.List.{AllZip}
 use Rattle.std.specs.Option.{MatchOption}
+use Rattle.std.proofs.lemmas.Bool.{false≢true}
 use Rattle.std.proofs.lemmas.Option.{same_Some}
 use Rattle.esto_term.proofs.ListLemmas.{Contains-head, Contains-rest}
 use Rattle.esto_term.proofs.ZipLemmas.{zip_weaker}
@@ -119,3 +122,11 @@ judged_there claims body facts links chosen equalities them stated named them_is
     (found_there claims body facts links it.chosen it.chosen equalities them it.renamings it.from it.to (stated ∙ ap Some (sym chosen_is)) named refl
     them_is tells from_is (to_is ∙ ap terms_of (sym chosen_is)) fits)
 judged_there claims body facts links chosen equalities them stated named them_is it chosen_is tells from_is to_is (Err error) judged = tt
+
+-- a value that is there exactly where a test lets it pass
+pub if_so : {A : Type 0} (test : Bool) (value : A) (found : Option A) (P : Type 0) → found ≡ then_some test value → IsTrue test ↔ P
+    → MatchOption found (¬ P) (λ same. (same ≡ value) × P)
+if_so test value found P is tells = subst (λ it. MatchOption it (¬ P) (λ same. (same ≡ value) × P)) (sym is) (by_test test tells) where
+  by_test : (test : Bool) → IsTrue test ↔ P → MatchOption (then_some test value) (¬ P) (λ same. (same ≡ value) × P)
+  by_test true tells = (refl, tells.0 refl)
+  by_test false tells = λ holds. false≢true (tells.1 holds)

@@ -1,8 +1,9 @@
 //! What a line may claim after others, and which line may be the last.
-ghost use Rattle.std.specs.Prelude.{◌≡◌, ◌↔◌, ◌<◌, ℕ, List, Some, length, IsTrue, IfOk};
+ghost use Rattle.std.specs.Prelude.{◌≡◌, ◌↔◌, ◌<◌, ℕ, List, Some, length, map, IsTrue, IfOk};
 ghost use Rattle.esto_constraint.specs.Constraints.{rule_of};
 ghost use Rattle.esto_semantics.specs.Facts.{terms_of};
 ghost use Rattle.esto_semantics.specs.Rules.{tuple, equality, body_of};
+ghost use Rattle.esto_chase_laws.specs.Making.{frontier};
 ghost use Rattle.esto_chase_laws.specs.WorldMatches.{taken};
 ghost use Rattle.esto_chase_laws.specs.declared.entry.Claim.{Claim};
 ghost use Rattle.esto_cert.specs.Certificates.{made_at, IsNamed};
@@ -24,7 +25,7 @@ use esto_constraint::{Constraint, Egd, Tgd, frontier_of};
 use esto_prov::{made_fact, taken_term, taken_terms};
 use esto_query::Query;
 use esto_semantics::{Atom, ExpandedFact};
-use esto_term::{OutOfMemory, Replicate, Term};
+use esto_term::{OutOfMemory, Replicate, Term, Terms};
 use std::alloc::Global;
 
 /// What is judged of a line.
@@ -49,6 +50,20 @@ pub fn body_of(rule: &Constraint) -> &[Atom]
     }
 }
 
+/// What the terms that a tuple rule's head shares with its body meet, where the terms of the body meet these.
+fn frontier_values(
+    alloc: Global,
+    rule: &Tgd,
+    from: &[Term],
+    to: &[Term],
+) -> Result<Terms, OutOfMemory>
+    ensures { IfOk result
+        (λ it. it ≡ map (taken from.now to.now) (frontier rule.now.body rule.now.head)) }
+{
+    let shared = frontier_of(alloc, rule.body.items(), rule.head.items())?;
+    taken_terms(alloc, from, to, shared.items())
+}
+
 /// The fact that a tuple rule makes at a place of its head.
 fn made_of_tuple(
     alloc: Global,
@@ -65,8 +80,7 @@ fn made_of_tuple(
     let Some(atom) = numbered(rule.head.items(), place) else {
         return Ok(None);
     };
-    let shared = frontier_of(alloc, rule.body.items(), rule.head.items())?;
-    let values = taken_terms(alloc, from, to, shared.items())?;
+    let values = frontier_values(alloc, rule, from, to)?;
     let fact = made_fact(alloc, number, from, to, &values, atom)?;
     Ok(Some(Claim::Fact(fact)))
 }
@@ -223,7 +237,11 @@ impl Case<'_> {
             return Ok(Judged::Refused);
         };
         match find_match(alloc, claims, body_of(rule), facts, links)? {
-            Some(it) => judge_made(alloc, place, (number - 1) as usize, rule, &it),
+            Some(it) => {
+                let judged = judge_made(alloc, place, (number - 1) as usize, rule, &it);
+                drop(it);
+                judged
+            }
             None => Ok(Judged::Refused),
         }
     }
@@ -254,7 +272,11 @@ impl Case<'_> {
     {
         let body = self.query.body.items();
         match find_match(alloc, claims, body, facts, links)? {
-            Some(it) => self.judge_found(alloc, &it),
+            Some(it) => {
+                let judged = self.judge_found(alloc, &it);
+                drop(it);
+                judged
+            }
             None => Ok(Judged::Refused),
         }
     }
@@ -298,7 +320,11 @@ impl Case<'_> {
         ensures { IfOk result (IsJudgedText (case_of self.now) claims.now (line_of bytes.now)) }
     {
         match read_line(alloc, bytes)? {
-            Some(line) => self.judge(alloc, claims, &line),
+            Some(line) => {
+                let judged = self.judge(alloc, claims, &line);
+                drop(line);
+                judged
+            }
             None => {
                 self.count_all(claims);
                 Ok(Judged::Refused)

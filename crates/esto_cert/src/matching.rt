@@ -90,10 +90,7 @@ fn if_fits(alloc: Global, body: &[Atom], it: Found) -> Result<Option<Found>, Out
         (λ same. (same ≡ it)
         × FactsFit (StandsAsOne it.renamings) body.now it.chosen it.from it.to)) }
 {
-    if fits(alloc, body, &it)? {
-        return Ok(Some(it));
-    }
-    Ok(None)
+    Ok(fits(alloc, body, &it)?.then_some(it))
 }
 
 /// The match of the body by the facts and the equalities that the claims of these numbers state, if it is one.

@@ -78,7 +78,10 @@ fn run(
     let mut instance = start;
     match go_on(alloc, &mut instance, rules, ranks)? {
         None => Ok(Left(Chased { instance })),
-        Some(clash) => Ok(Right(clash)),
+        Some(clash) => {
+            drop(instance);
+            Ok(Right(clash))
+        }
     }
 }
 

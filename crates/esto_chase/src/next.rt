@@ -88,5 +88,7 @@ pub fn next(alloc: Global, rules: &Rules, facts: &Facts) -> Result<Option<Broken
         broken.found.valuation broken.found.places)) }
 {
     let indexed = IndexedFacts::of(alloc, facts)?;
-    next_in(alloc, rules, &indexed)
+    let found = next_in(alloc, rules, &indexed);
+    drop(indexed);
+    found
 }

@@ -57,7 +57,9 @@ fn give(
         × IsAdded entries.old entry.claim entry.product entry.reason entries.new) }
 {
     let entry = entry_of(alloc, fact, atoms)?;
-    add(alloc, entries, &entry)
+    let added = add(alloc, entries, &entry);
+    drop(entry);
+    added
 }
 
 /// Puts the entries of the expanded facts, where there are none yet.
@@ -158,8 +160,8 @@ fn chased(
     ensures joined { IfOk result (λ entries. AreJoined entries entries) }
 {
     let mut entries = Known::new(alloc)?;
-    rounds(alloc, facts, atoms, rules, ranks, &mut entries)?;
-    Ok(entries.into_list())
+    let ended = rounds(alloc, facts, atoms, rules, ranks, &mut entries);
+    ended.and(Ok(entries.into_list()))
 }
 
 /// The conditional chase of expanded facts: what the rules make of them in the world of each set of atoms, in one chase for

@@ -5,7 +5,7 @@ ghost use Rattle.esto_term.specs.declared.term.Term.{Term};
 ghost use Rattle.esto_chase_laws.specs.Worlds.{AreOfCount};
 ghost use Rattle.esto_constraint.specs.Relations.{HasRelation};
 ghost use Rattle.esto_condchase.specs.News.{IsApart, IsSettled, AreFoundAnew};
-ghost use Rattle.esto_condchase.specs.Ways.{IsOldWay};
+ghost use Rattle.esto_condchase.specs.Ways.{AreFound, IsOldWay};
 ghost use Rattle.esto_known.specs.KeptWays.{AreCounted};
 
 use crate::ways::{match_next, matches_of};
@@ -59,6 +59,26 @@ pub fn is_new(way: &Way, since: usize) -> bool
     has_later(way.facts.items(), since) || has_later(way.links.items(), since)
 }
 
+/// The ways that match the body, as far as they tell what the last atom's terms and those asked for meet.
+fn given_for(
+    alloc: Global,
+    known: &Known,
+    body: &[Atom],
+    last: &Atom,
+    asked: &[Term],
+    sides: &[Term],
+    count: usize,
+) -> Result<List<Way>, OutOfMemory>
+    requires among { (term : Term) → Contains sides.now term → Contains asked.now term }
+    requires counts { AreOfCount count known.now }
+    ensures found { IfOk result
+        (AreFound known.now body.now (last.now.terms ++ asked.now) sides.now) }
+    ensures counted { IfOk result (λ ways. AreCounted count ways) }
+{
+    let live = both(alloc, last.terms.items(), asked)?;
+    matches_of(alloc, known, body, live.items(), sides, count)
+}
+
 /// The ways that go on by the last atom from ways for the others, and use an entry from a place on.
 fn anew(
     alloc: Global,
@@ -77,8 +97,7 @@ fn anew(
     ensures counted { IfOk result (λ ways. AreCounted count ways) }
 {
     let from = terms_of(alloc, body)?;
-    let live = both(alloc, last.terms.items(), asked)?;
-    let given = matches_of(alloc, known, body, live.items(), sides, count)?;
+    let given = given_for(alloc, known, body, last, asked, sides, count)?;
     match_next(
         alloc,
         known,

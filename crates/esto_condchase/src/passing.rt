@@ -100,8 +100,7 @@ fn with_link(
     }) }
 {
     let mut links = before.links.copy(alloc)?;
-    links.push(place)?;
-    Ok(Support { links, product })
+    links.push(place).and(Ok(Support { links, product }))
 }
 
 /// Adds the support with an equality more, unless a kept way tells the same with a product within its own, or nothing

@@ -27,8 +27,7 @@ fn copied(alloc: Global, terms: &[Term]) -> Result<Terms, OutOfMemory>
     ensures { IfOk result (λ it. it ≡ terms.now) }
 {
     let mut own = List::new(alloc);
-    put_terms(alloc, terms, &mut own)?;
-    Ok(own)
+    put_terms(alloc, terms, &mut own).and(Ok(own))
 }
 
 /// The minimal sets in whose worlds the targets touch what the head meets first.
@@ -64,8 +63,8 @@ fn first(
     ensures counted { IfOk result (AreReachedOf count) }
     ensures first { IfOk result (IsFirst groups.now head.now targets.now) }
 {
-    let by = touched(alloc, groups, head, targets, count)?;
     let to = copied(alloc, targets)?;
+    let by = touched(alloc, groups, head, targets, count)?;
     only(alloc, Reached { to, by })
 }
 
@@ -153,5 +152,7 @@ pub fn products_of_matches(
         ↔ HasMatch (InWorld entries.now set) head.now body.now targets.now) }
 {
     let groups = Groups::of(alloc, entries, count)?;
-    products_among(alloc, &groups, head, body, targets, count)
+    let products = products_among(alloc, &groups, head, body, targets, count);
+    drop(groups);
+    products
 }

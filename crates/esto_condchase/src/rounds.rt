@@ -85,6 +85,7 @@ fn ask(
         (Step number (way.now.facts ++ way.now.links)) more.new) }
 {
     if is_covered(entries, &claim, &way.product) {
+        drop(claim);
         return Ok(());
     }
     put_asked(alloc, number, way, claim, more)
@@ -122,7 +123,7 @@ fn answer_head(
 }
 
 /// Asks for what a tuple rule asks for at a way.
-fn answer_tuple(
+fn answer_tuple_at_way(
     alloc: Global,
     entries: &Known,
     rules: &[Constraint],
@@ -204,7 +205,7 @@ fn tuple_ways(
 }
 
 /// Asks for what a tuple rule asks for at each of the ways.
-fn answer_each_tuple(
+fn answer_tuple_at_each_way(
     alloc: Global,
     entries: &Known,
     rules: &[Constraint],
@@ -228,13 +229,14 @@ fn answer_each_tuple(
         → IsAnswered (entries.now ++ more.new) number (tuple rule.now.body rule.now.head) way) }
 {
     'ways: for way in ways {
-        answer_tuple(alloc, entries, rules, number, rule, from, shared, way, more)?;
+        answer_tuple_at_way(alloc, entries, rules, number, rule, from, shared, way, more)?;
     }
     Ok(())
 }
 
-/// The same, where the terms of the rule's body and those that its head shares with it are still to be found.
-fn answer_tuple_ways(
+/// Asks for what a tuple rule asks for at each of the ways, by the terms of its body and those that its head shares with
+/// it.
+fn find_terms_and_answer_tuple(
     alloc: Global,
     entries: &Known,
     rules: &[Constraint],
@@ -255,14 +257,14 @@ fn answer_tuple_ways(
 {
     let from = terms_of(alloc, rule.body.items())?;
     let shared = frontier_of(alloc, rule.body.items(), rule.head.items())?;
-    answer_each_tuple(
+    answer_tuple_at_each_way(
         alloc, entries, rules, number, rule, &from, &shared, ways, count, more,
     )
 }
 
 /// Asks for what a tuple rule asks for at all its direct matches, where what it asks for at those among the first few
 /// entries is there.
-fn answer_tuples(
+fn answer_tuple_rule(
     alloc: Global,
     entries: &Known,
     since: usize,
@@ -282,7 +284,7 @@ fn answer_tuples(
         (tuple rule.now.body rule.now.head)) }
 {
     let found = tuple_ways(alloc, entries, since, rule, count)?;
-    answer_tuple_ways(
+    find_terms_and_answer_tuple(
         alloc,
         entries,
         rules,
@@ -416,7 +418,7 @@ fn answer_rule(
         (IsRuleAnswered entries.now (entries.now ++ more.new) number (rule_of rule.now)) }
 {
     match rule {
-        Constraint::Tuple(tuple) => answer_tuples(
+        Constraint::Tuple(tuple) => answer_tuple_rule(
             alloc, entries, since, rules, number, tuple, count, more,
         ),
         Constraint::Equal(equal) => {
@@ -467,6 +469,5 @@ pub fn round(
     ensures joined { IfOk result (λ more. AreJoined entries.now (entries.now ++ more)) }
 {
     let mut more = answer_rules(alloc, entries, since, rules, count)?;
-    join(alloc, entries, since, count, &mut more)?;
-    Ok(more)
+    join(alloc, entries, since, count, &mut more).and(Ok(more))
 }

@@ -28,8 +28,7 @@ fn facts_with(alloc: Global, before: &Way, place: usize) -> Result<Places, OutOf
     ensures { IfOk result (λ it. it ≡ before.now.facts ++ place ∷ []) }
 {
     let mut facts = before.facts.copy(alloc)?;
-    facts.push(place)?;
-    Ok(facts)
+    facts.push(place).and(Ok(facts))
 }
 
 /// A support of these equalities and this product.

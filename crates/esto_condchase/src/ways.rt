@@ -83,8 +83,8 @@ fn kept_of(
     ensures counted { IfOk result (AreCounted count) }
 {
     let mut kept = Kept::new(alloc, given.len().max(64))?;
-    match_facts(alloc, level, given, count, &mut kept)?;
-    Ok(kept.into_list())
+    let matched = match_facts(alloc, level, given, count, &mut kept);
+    matched.and(Ok(kept.into_list()))
 }
 
 /// The places among the terms so far and those of the atom that tell what the two sides meet, if there are two, and

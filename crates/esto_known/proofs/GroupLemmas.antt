@@ -1,8 +1,8 @@
 -- Groups of entries: one entry more.
 use Rattle.std.proofs.Common.{◌≡◌, ◌⊎◌, ◌↔◌, inl, inr, ℕ, zero, suc, ◌+◌, ◌<◌, ◌≤◌, Bool, List, [], ◌∷◌, ◌++◌, length, take, get_or, Some, slice_get, slice_set}
-use Rattle.std.proofs.Common.{IsTrue, false, Option, None, MatchOption, Contains, refl, sym, ap, ◌∙◌, subst, arith}
+use Rattle.std.proofs.Common.{◌-◌, IsTrue, false, Option, None, MatchOption, Contains, refl, sym, ap, ◌∙◌, subst, arith}
 use Rattle.std.proofs.lemmas.Bool.{false≢true, cases_order}
-use Rattle.std.proofs.lemmas.List.{take_all}
+use Rattle.std.proofs.lemmas.List.{length-append, take_all}
 use Rattle.std.proofs.lemmas.List.Elements.{Contains-append_left, Contains-push, Contains-push_cases}
 use Rattle.std.proofs.lemmas.Option.{none-some, slice_get_within, same_Some, get_or_from_slice_get}
 use Rattle.esto_term.specs.declared.term.Term.{Term}
@@ -24,6 +24,20 @@ pub match_weaker : {A : Type 0} (result : Option A) (P P' : Type 0) (Q Q' : A �
     → MatchOption result P' Q'
 match_weaker None P P' Q Q' f g holds = f holds
 match_weaker (Some x) P P' Q Q' f g holds = g x holds
+
+take_first : {X : Type 0} (xs ys : List X) → take (length xs) (xs ++ ys) ≡ xs
+take_first [] ys = refl
+take_first (x ∷ xs) ys = ap (λ rest. x ∷ rest) (take_first xs ys)
+
+-- what stands before the last item, and the last item
+pub put_last : {X : Type 0} (before later items : List X) (it last : X) (count : ℕ) → later ≡ before ++ it ∷ [] → items ≡ later → count ≡ length later
+    → slice_get later (count - 1) ≡ Some last → (take (count - 1) items ≡ before) × (last ≡ it)
+put_last before later items it last count pushed same counted at =
+    let long : length (before ++ it ∷ []) ≡ length before + 1 = length-append before (it ∷ []) in
+    let place : count - 1 ≡ length before = omega (arith, counted, ap length pushed, long) in (
+      (λ i. take (place i) (same i)) ∙ ap (take (length before)) pushed ∙ take_first before (it ∷ []),
+      same_Some last it (sym at ∙ ap (slice_get later) place ∙ ap (λ xs. slice_get xs (length before)) pushed ∙ at_end before it),
+    )
 
 pub place_same : (groups : List Group) (claim : Claim) (fact : Fact Term) (place : ℕ) → claim ≡ Stated fact → StatesAt groups fact place
     → (group : Group) × (slice_get groups place ≡ Some group) × AreSameClaim claim group.claim

@@ -1,3 +1,4 @@
+pub mod DoneLemmas
 mod HashLemmas
 mod IndexLemmas
 mod GroupLemmas

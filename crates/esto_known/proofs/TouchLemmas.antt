@@ -7,8 +7,8 @@ use Rattle.esto_term.specs.declared.term.Term.{Term}
 use Rattle.esto_term.proofs.ListLemmas.{Contains-nil}
 use Rattle.esto_term.proofs.PlaceLemmas.{take-item}
 use Rattle.esto_term.proofs.ZipLemmas.{zip_append, zip_split}
-use Rattle.esto_term.specs.Sets.{Covers}
-use Rattle.esto_bits.specs.Kept.{CoversBoth}
+use Rattle.esto_term.specs.Sets.{Covers, Within}
+use Rattle.esto_bits.specs.Kept.{CoversAlso, CoversBoth}
 use Rattle.esto_chase_laws.specs.Claims.{AreSameClaim}
 use Rattle.esto_chase_laws.specs.declared.entry.Claim.{Claim}
 use Rattle.esto_chase_laws.specs.declared.entry.Claim.TheVariants.{Same}
@@ -34,6 +34,16 @@ both_from_none none sets others found empty all set = (
     | inr both ↦ both
   ]),
   (λ both. (all set).1 (inr both)),
+)
+
+pub one_from_none : (none : List (List Bool)) (row : List Bool) (later : List (List Bool)) → none ≡ [] → CoversAlso none row later
+    → (set : List Bool) → Covers later set ↔ Within row set
+one_from_none none row later empty also set = (
+  (λ covers. elim ((also set).0 covers) [
+    | inl before ↦ absurd (none_covered [] set refl (subst (λ it. Covers it set) empty before))
+    | inr within ↦ within
+  ]),
+  (λ within. (also set).1 (inr within)),
 )
 
 pub touch_nowhere : (groups : List Group) (sets : List (List Bool)) (term other : Term) → length sets ≡ 0

@@ -93,9 +93,9 @@ pub(crate) fn add_entry(
 pub(crate) fn begun(alloc: Global, place: usize, entry: &Entry) -> Result<Group, OutOfMemory>
     ensures { IfOk result (IsOfOne place entry.now) }
 {
-    Ok(Group {
-        places: Values::from_slice(alloc, &[place])?,
-        by: Products::only(alloc, &entry.product)?,
-        claim: entry.claim.copy(alloc)?,
-    })
+    let places = Values::from_slice(alloc, &[place])?;
+    let claim = entry.claim.copy(alloc)?;
+    let mut by = Products::new(alloc, entry.product.count());
+    by.add(alloc, &entry.product)
+        .and(Ok(Group { claim, places, by }))
 }

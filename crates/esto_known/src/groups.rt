@@ -14,12 +14,14 @@ use crate::finding::{place_linking, place_of, place_stating};
 use crate::group::{Group, add_entry, begun};
 use crate::hashes::{relation_hash, term_hash};
 use crate::keys::Keys;
+use crate::live::put_all;
 use esto_chase_laws::Entry;
 use esto_columns::Index;
 use esto_semantics::Atom;
 use esto_term::{OutOfMemory, Places, Term, Values, push};
 use std::alloc::Global;
 use std::marker::Model;
+use std::mem;
 
 /// How many groups there is room for, at first.
 const ROOM: usize = 64;
@@ -59,7 +61,8 @@ fn widen(alloc: Global, groups: &[Group], keys: &mut Keys) -> Result<(), OutOfMe
     if groups.len() < keys.room {
         return Ok(());
     }
-    *keys = Keys::new(alloc, groups.len().saturating_mul(2).max(ROOM))?;
+    let wider = Keys::new(alloc, groups.len().saturating_mul(2).max(ROOM))?;
+    drop(mem::replace(keys, wider));
     keys.add_all(groups)
 }
 
@@ -117,10 +120,7 @@ fn put_places(
         × (places.new ≡ places.old ++ found)) }
 {
     let found = index.places(alloc, &[key])?;
-    'found: for place in found.as_slice() {
-        places.push(*place)?;
-    }
-    Ok(())
+    put_all(found.as_slice(), places)
 }
 
 impl Groups {
@@ -192,8 +192,7 @@ impl Groups {
         ensures { IfOk result (AreGroups entries.now) }
     {
         let mut groups = Groups::new(alloc)?;
-        groups.take_all(alloc, entries, count)?;
-        Ok(groups)
+        groups.take_all(alloc, entries, count).and(Ok(groups))
     }
 
     /// The groups, in the order in which their claims came.
@@ -241,8 +240,7 @@ impl Groups {
     {
         let mut places = Values::new(alloc);
         let key = relation_hash(relation as u64);
-        put_places(alloc, &self.keys.by_first, key, &mut places)?;
-        Ok(places)
+        put_places(alloc, &self.keys.by_first, key, &mut places).and(Ok(places))
     }
 
     /// Places of groups, among which are all of equalities that have the term as a side.
@@ -254,7 +252,6 @@ impl Groups {
         let mut places = Values::new(alloc);
         let key = term_hash(term);
         put_places(alloc, &self.keys.by_first, key, &mut places)?;
-        put_places(alloc, &self.keys.by_second, key, &mut places)?;
-        Ok(places)
+        put_places(alloc, &self.keys.by_second, key, &mut places).and(Ok(places))
     }
 }

@@ -190,8 +190,7 @@ fn new_group(alloc: Global, key: u64, count: usize) -> Group {
 /// The group of one way.
 fn begun(alloc: Global, key: u64, place: usize, product: &RowBits) -> Result<Group, OutOfMemory> {
     let mut group = new_group(alloc, key, product.count());
-    put_way(alloc, place, product, &mut group)?;
-    Ok(group)
+    put_way(alloc, place, product, &mut group).and(Ok(group))
 }
 
 /// Puts a way into the group of its key, which begins with it where there is none.
@@ -299,6 +298,8 @@ impl Kept {
     pub fn into_list(self) -> List<Way>
         ensures { result ≡ self }
     {
+        drop(self.groups);
+        drop(self.index);
         self.ways
     }
 
@@ -330,14 +331,19 @@ impl Kept {
         ensures { OnOk result (self.new ≡ self.old ++ way ∷ []) }
     {
         let place = self.ways.len();
-        group_way(
+        self.ways.push(way)?;
+        let product = &self.ways.item(place).product;
+        let grouped = group_way(
             alloc,
             key,
             place,
-            &way.product,
+            product,
             &mut self.groups,
             &mut self.index,
-        )?;
-        self.ways.push(way)
+        );
+        if grouped.is_err() {
+            self.ways.truncate(place);
+        }
+        grouped
     }
 }

@@ -37,7 +37,7 @@ impl Model for Known {
     ghost invariant = { λ it. AreGroups it.entries it.groups };
 }
 
-/// Puts an entry into the group of its claim, and at the end.
+/// Puts an entry at the end, and into the group of its claim.
 fn push(
     alloc: Global,
     entry: Entry,
@@ -49,8 +49,9 @@ fn push(
     ensures entries { OnOk result (entries.new ≡ entries.old ++ entry ∷ []) }
     ensures groups { OnOk result (AreGroups entries.new groups.new) }
 {
-    groups.take(alloc, entries.items(), &entry)?;
-    entries.push(entry)
+    entries.push(entry)?;
+    let place = entries.len() - 1;
+    groups.take(alloc, &entries.items()[..place], entries.item(place))
 }
 
 impl Known {
@@ -103,6 +104,7 @@ impl Known {
     pub fn into_list(self) -> List<Entry>
         ensures { result ≡ self }
     {
+        drop(self.groups);
         self.entries
     }
 

@@ -10,7 +10,7 @@ use esto_term::{OutOfMemory, Places, Term, Values};
 use std::alloc::Global;
 
 /// Puts the places at the end of the others.
-fn put_all(more: &[usize], places: &mut Places) -> Result<(), OutOfMemory>
+pub(crate) fn put_all(more: &[usize], places: &mut Places) -> Result<(), OutOfMemory>
     ensures { OnOk result (places.new ≡ places.old ++ more.now) }
 {
     'more: for place in more {
@@ -39,6 +39,18 @@ fn put_group(groups: &[Group], at: usize, places: &mut Places) -> Result<(), Out
     }
 }
 
+/// Puts in the places of the groups that are found.
+fn put_groups(groups: &[Group], found: &[usize], places: &mut Places) -> Result<(), OutOfMemory>
+    ensures { OnOk result ((at : ℕ) → Contains found.now at → (group : Group)
+        → slice_get groups.now at ≡ Some group → (place : ℕ) → Contains group.places place
+        → Contains places.new place) }
+{
+    'found: for at in found {
+        put_group(groups, *at, places)?;
+    }
+    Ok(())
+}
+
 /// The places of entries, among which is one for each fact of the relation.
 pub fn facts_of(alloc: Global, known: &Known, relation: usize) -> Result<Places, OutOfMemory>
     ensures { IfOk result (λ it. AreAllFacts known.now relation it) }
@@ -46,10 +58,7 @@ pub fn facts_of(alloc: Global, known: &Known, relation: usize) -> Result<Places,
     let groups = known.groups();
     let found = groups.of_relation(alloc, relation)?;
     let mut places = Values::new(alloc);
-    'found: for at in found.items() {
-        put_group(groups.items(), *at, &mut places)?;
-    }
-    Ok(places)
+    put_groups(groups.items(), found.items(), &mut places).and(Ok(places))
 }
 
 /// The places of entries, among which is one for each equality of the two terms.

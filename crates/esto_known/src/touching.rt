@@ -17,8 +17,7 @@ pub fn both(alloc: Global, sets: &Products, others: &Products) -> Result<Product
     ensures covers { IfOk result (λ it. CoversBoth sets.now.sets others.now.sets it.sets) }
 {
     let mut found = Products::new(alloc, sets.count());
-    found.add_both(alloc, sets, others)?;
-    Ok(found)
+    found.add_both(alloc, sets, others).and(Ok(found))
 }
 
 /// Those of the sets in whose worlds an equality of the two terms is known, as far as they are minimal.
@@ -66,6 +65,29 @@ fn touch(
 }
 
 /// Keeps of the sets those in whose worlds the terms touch the others, place by place.
+fn touch_each(
+    alloc: Global,
+    groups: &Groups,
+    terms: &[Term],
+    others: &[Term],
+    count: usize,
+    sets: &mut Products,
+) -> Result<(), OutOfMemory>
+    requires groups { AreGroupsOf count groups.now }
+    requires rows { length terms.now ≡ length others.now }
+    requires count { sets.old.count ≡ count }
+    ensures count { OnOk result (sets.new.count ≡ count) }
+    ensures covers { OnOk result ((set : List Bool) → Covers sets.new.sets set
+        ↔ (Covers sets.old.sets set
+        × AllZip (AreTouching groups.now set) terms.now others.now)) }
+{
+    'terms: for (place, term) in terms.iter().enumerate() {
+        touch(alloc, groups, term, &others[place], count, sets)?;
+    }
+    Ok(())
+}
+
+/// Those of the sets in whose worlds the terms touch the others, place by place.
 pub fn touch_all(
     alloc: Global,
     groups: &Groups,
@@ -83,8 +105,5 @@ pub fn touch_all(
         × AllZip (AreTouching groups.now set) terms.now others.now)) }
 {
     let mut sets = start.copy(alloc)?;
-    'terms: for (place, term) in terms.iter().enumerate() {
-        touch(alloc, groups, term, &others[place], count, &mut sets)?;
-    }
-    Ok(sets)
+    touch_each(alloc, groups, terms, others, count, &mut sets).and(Ok(sets))
 }

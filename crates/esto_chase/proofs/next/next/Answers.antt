@@ -10,7 +10,7 @@ use Rattle.esto_chase.proofs.next.next.Goals as goal
 
 -- src/next.rt:85:1
 pub returns : goal.returns
-returns c = subst (λ (facts : List (Fact Term)). IfOk c.next_in.result (λ outcome. MatchOption outcome
+returns c = subst (λ (facts : List (Fact Term)). IfOk c.next_in-found.result (λ outcome. MatchOption outcome
     (AreMet facts (rules_of c.args.rules.now))
     (λ broken. IsNextFound (rules_of c.args.rules.now) facts broken.rule broken.found.valuation broken.found.places)))
-    c.in_ok-indexed.ensures c.next_in.ensures
+    c.in_ok-indexed.ensures c.next_in-found.ensures

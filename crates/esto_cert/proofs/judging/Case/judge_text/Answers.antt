@@ -7,11 +7,11 @@ use Rattle.esto_cert.proofs.judging.Case.judge_text.Goals as goal
 
 pub returns-in-Some : goal.returns-in-Some
 returns-in-Some c =
-    IfOk-weaker c.judge.result _ _
+    IfOk-weaker c.judge-judged.result _ _
     (λ judged is.
     let (its, said, stands) = near_read _ c.in-Some.line (sym c.in_ok-line.ensures ∙ c.in-Some.is) in
     subst (λ (it : Option Line). IsJudgedText (case_of c.args.self.now) c.args.claims.now it judged) (sym said) (is its stands))
-    c.judge.ensures
+    c.judge-judged.ensures
 
 pub returns-in-None : goal.returns-in-None
 returns-in-None c =

@@ -3,7 +3,7 @@ use Rattle.esto_semantics.specs.Rules.{tuple}
 use Rattle.esto_constraint.specs.Constraints.{rules_of}
 use Rattle.esto_known.specs.declared.way.Way.{Way}
 use Rattle.esto_condchase.specs.Rounds.{IsAnswered}
-use Rattle.esto_condchase.proofs.rounds.answer_each_tuple.Given as goal
+use Rattle.esto_condchase.proofs.rounds.answer_tuple_at_each_way.Given as goal
 use Rattle.esto_condchase.proofs.RoundLemmas.{AreAnsweredSoFar}
 
 abbrev pub invariant-ways : goal.invariant-ways
