@@ -275,17 +275,9 @@ over_told (Ok answer) body head is shared same old one two before stays known gi
     whether_before (tuple body head) old one answer before (tuple_answered body head is shared same one two stays tell known given answer of_body told)
 over_told (Err error) body head is shared same old one two before stays known given of_body tell told = tt
 
--- nothing is asked of the head where the body has no match
-pub tuple_unasked : (body head : List (Fact Term)) (shared : List Term) → shared ≡ frontier body head → (one : Coded) → HaveTexts one.texts shared
-    → (given : List (List ℕ)) → length given ≡ 0 → AreCodedAnswers one (record { head = shared; body = body }) given
-    → AnswersWhether one (tuple body head) true
-tuple_unasked body head shared same one known given empty of_body facts stand = (
-  λ told m keeps sends.
-      let own = answer_row one shared body given of_body known
-      (λ term inside. body_fixed body head term (subst (λ terms. Contains terms term) same inside)) facts stand m keeps sends in
-      let within = own.1.1 in absurd (omega (arith, within, empty)),
-  λ met. refl,
-)
+-- where there are no rows all of them are so
+pub none_are : (rows : List (List ℕ)) (So : List ℕ → Type 0) → length rows ≡ 0 → IsTrue true ↔ ((row : List ℕ) → Contains rows row → So row)
+none_are rows So empty = (λ _ row inside. let within = inside.1 in absurd (omega (arith, within, empty)), λ _. refl)
 
 -- what the frontier has is fixed
 pub shared_body : (body head : List (Fact Term)) (shared : List Term) → shared ≡ frontier body head → (term : Term) → Contains shared term → IsFixedBy body term

@@ -1,5 +1,5 @@
 //! Whether facts meet a rule, and where an equality rule is broken, a small part of them that has what breaks it.
-ghost use Rattle.std.specs.Prelude.{◌≡◌, ◌↔◌, ◌<◌, ◌∷◌, [], ◌++◌, List, ℕ, length, Contains, slice_index_or, IsTrue, IfOk, IfSome};
+ghost use Rattle.std.specs.Prelude.{◌≡◌, ◌↔◌, ◌<◌, ◌≤◌, ◌∷◌, [], ◌++◌, List, ℕ, length, Contains, slice_index_or, IsTrue, IfOk, IfSome};
 ghost use Rattle.esto_columns.specs.Interned.{Grows};
 ghost use Rattle.esto_constraint.specs.Constraints.{rule_of};
 ghost use Rattle.esto_relmodel.specs.Parts.{IsPartFor};
@@ -7,7 +7,9 @@ ghost use Rattle.esto_semantics.specs.Maps.{IsFixedBy};
 ghost use Rattle.esto_semantics.specs.Rules.{IsEqualityRule, IsMet, equality};
 ghost use Rattle.esto_semantics.specs.declared.fact.Fact.{Fact};
 ghost use Rattle.esto_term.specs.declared.term.Term.{Term};
-ghost use Rattle.esto_coded.specs.Coded.{StandFor, StandInOrder, arities_of};
+ghost use Rattle.esto_term.specs.declared.term.Term.TheVariants.{Const};
+ghost use Rattle.esto_coded.specs.Answered.{AreCodedAnswers};
+ghost use Rattle.esto_coded.specs.Coded.{AreTelling, Coded, StandFor, StandInOrder, arities_of};
 ghost use Rattle.esto_coded.specs.Met.{StaysFor, Judges};
 ghost use Rattle.esto_coded.specs.Mirrored.{IsMirrored};
 ghost use Rattle.esto_coded.specs.Verdict.{Tells, given_part};
@@ -43,6 +45,26 @@ fn agree(rows: &Rows) -> bool
 }
 
 impl CodedFacts {
+    /// The verdict on the equality rule of the body and two sides, by the rows that these stand for. The list has the
+    /// sides alone.
+    fn verdict_on_pairs(&self, alloc: Global, body: &[Atom], sides: &[Term], rows: &Rows) -> Verdict
+        requires two { rows.now.arity ≡ 2 }
+        requires fixed { (term : Term) → Contains sides.now term → IsFixedBy body.now term }
+        requires texts { AreTelling self.now.texts }
+        requires constants { (text : List ℕ) → Contains sides.now (Const text)
+            → Contains self.now.texts text }
+        requires rows { AreCodedAnswers self.now
+            (record { head = sides.now; body = body.now }) rows.now.rows }
+        ensures { (before : Coded) → StaysFor before self.now → (left right : Term)
+            → sides.now ≡ left ∷ right ∷ []
+            → Judges before (equality body.now left right) result }
+    {
+        if agree(rows) {
+            return Verdict::Met;
+        }
+        Verdict::Broken(self.sides_part(alloc, sides, body, rows))
+    }
+
     /// The verdict on the equality rule of the body and two sides, by all pairs of what these stand for. The list has
     /// the sides alone.
     fn judge_pairs(
@@ -58,10 +80,7 @@ impl CodedFacts {
             → Judges self.old (equality body.now left right) it) }
     {
         let rows = self.answers_by_indexes(alloc, sides, body)?;
-        if agree(&rows) {
-            return Ok(Verdict::Met);
-        }
-        Ok(Verdict::Broken(self.sides_part(alloc, sides, body, &rows)))
+        Ok(self.verdict_on_pairs(alloc, body, sides, &rows))
     }
 
     /// The verdict on the equality rule of the body and the two sides, by all pairs of what these stand for.
@@ -81,9 +100,38 @@ impl CodedFacts {
         self.judge_pairs(alloc, body, sides.items())
     }
 
+    /// The verdict on each equality rule of the body, which is mirrored and begins with this half, by the rows that the
+    /// head stands for in the half's matches. The head is the side, and then the shared terms.
+    fn verdict_on_half(
+        &self,
+        alloc: Global,
+        body: &[Atom],
+        first: &[Atom],
+        head: &[Term],
+        rows: &Rows,
+    ) -> Result<Verdict, OutOfMemory>
+        requires some { 0 < length head.now }
+        requires wide { length head.now ≤ rows.now.arity }
+        requires texts { AreTelling self.now.texts }
+        requires constants { (text : List ℕ) → Contains head.now (Const text)
+            → Contains self.now.texts text }
+        requires rows { AreCodedAnswers self.now
+            (record { head = head.now; body = first.now }) rows.now.rows }
+        ensures { IfOk result (λ it. (before : Coded) → StaysFor before self.now
+            → (second : List (Fact Term)) (left right : Term) (shared : List Term)
+            → head.now ≡ left ∷ shared → first.now ++ second ≡ body.now
+            → IsMirrored first.now second left right shared
+            → Judges before (equality body.now left right) it) }
+    {
+        if are_told(alloc, rows)? {
+            return Ok(Verdict::Met);
+        }
+        Ok(Verdict::Broken(self.mirrored_part(alloc, head, first, body, rows)))
+    }
+
     /// The verdict on each equality rule of the body, which is mirrored and begins with this half: it is met where those
     /// matches of the half that agree on the shared terms agree on the side. The head is the side, and then these.
-    fn judge_keyed(
+    fn judge_half(
         &mut self,
         alloc: Global,
         body: &[Atom],
@@ -99,10 +147,7 @@ impl CodedFacts {
             → Judges self.old (equality body.now left right) it) }
     {
         let rows = self.answers_by_indexes(alloc, head, first)?;
-        if are_told(alloc, &rows)? {
-            return Ok(Verdict::Met);
-        }
-        Ok(Verdict::Broken(self.mirrored_part(alloc, head, first, body, &rows)))
+        self.verdict_on_half(alloc, body, first, head, &rows)
     }
 
     /// The same, where the side and the shared terms are given.
@@ -121,7 +166,7 @@ impl CodedFacts {
             → Judges self.old (equality body.now left.now right) it) }
     {
         let head = with_first(alloc, left, shared)?;
-        self.judge_keyed(alloc, body, first, head.items())
+        self.judge_half(alloc, body, first, head.items())
     }
 
     /// The verdict on the equality rule of the body and the two sides. A mirrored body is asked for one half alone.

@@ -90,7 +90,7 @@ impl CodedFacts {
     }
 
     /// The same of the query over the atoms of the body and of the head together. Atoms of the head that share
-    /// variables with the body alone are linked by it.
+    /// variables with the body alone are linked by it. Nothing is asked of the head where there are no rows.
     fn go_on(
         &mut self,
         alloc: Global,
@@ -99,19 +99,23 @@ impl CodedFacts {
         head: &[Atom],
         rows: &Rows,
     ) -> Result<bool, OutOfMemory>
-        requires { (term : Term) → Contains shared.now term → IsFixedBy (body.now ++ head.now) term }
+        requires fixed { (term : Term) → Contains shared.now term
+            → IsFixedBy (body.now ++ head.now) term }
+        requires texts { AreTelling self.old.texts }
         ensures stays { StaysFor self.old self.new }
         ensures texts { IfOk result (λ _. AreTelling self.new.texts) }
         ensures each { IfOk result (λ it. (facts : List (Fact Term)) → StandFor self.new facts
             → IsTrue it ↔ ((row : List ℕ) → Contains rows.now.rows row
             → IsCodedAnswer self.new (record { head = shared.now; body = body.now ++ head.now }) facts row)) }
     {
+        if rows.len() == 0 {
+            return Ok(true);
+        }
         let both = joined(alloc, body, head)?;
         self.are_answers(alloc, shared, both.items(), rows)
     }
 
     /// Whether what the body gives of the terms that it shares with the head is given by body and head together too.
-    /// Nothing is asked of the head where the body gives nothing.
     fn meets_over(
         &mut self,
         alloc: Global,
@@ -125,9 +129,6 @@ impl CodedFacts {
         ensures met { IfOk result (AnswersWhether self.old (tuple body.now head.now)) }
     {
         let given = self.answers_by_indexes(alloc, shared, body)?;
-        if given.len() == 0 {
-            return Ok(true);
-        }
         self.go_on(alloc, shared, body, head, &given)
     }
 

@@ -1,5 +1,5 @@
 //! The steps of a query over relations that are asked as a whole.
-ghost use Rattle.std.specs.Prelude.{◌≡◌, ◌++◌, ◌∷◌, [], slice_get, Some, Contains, IfOk, OnOk, MatchOption};
+ghost use Rattle.std.specs.Prelude.{◌≡◌, ◌++◌, ◌∷◌, [], Some, Contains, IfOk, OnOk, MatchOption};
 ghost use Rattle.std.specs.List.{AllZip};
 ghost use Rattle.esto_columns.specs.Interned.{Grows};
 ghost use Rattle.esto_steps.specs.Planned.{IsSource, IsNew, IsKnown};
@@ -158,6 +158,25 @@ fn head_of(
     Ok(sources)
 }
 
+/// The steps of the query of that head and body, whose terms are put into the list, which is empty.
+fn steps_with(
+    alloc: Global,
+    head: &[Term],
+    body: &[Atom],
+    bound: &mut Terms,
+    codes: &mut Codes,
+) -> Result<Steps, OutOfMemory>
+    requires none { bound.old ≡ [] }
+    requires fixed { (term : Term) → Contains head.now term → IsFixedBy body.now term }
+    ensures steps { IfOk result (AreWholeSteps codes.new
+        (record { head = head.now; body = body.now })) }
+    ensures grown { Grows codes.old codes.new }
+{
+    let gets = gets_of(alloc, body, bound, codes)?;
+    let head = head_of(alloc, head, bound.items(), codes)?;
+    Ok(Steps { gets, head })
+}
+
 /// The steps of the query of that head and body: for each atom a get of all rows of its relation, which are filtered
 /// where a term is a constant or stands earlier, and the sources of the head. Constants get codes.
 pub(crate) fn steps_of(
@@ -172,7 +191,5 @@ pub(crate) fn steps_of(
     ensures grown { Grows codes.old codes.new }
 {
     let mut bound = List::new(alloc);
-    let gets = gets_of(alloc, body, &mut bound, codes)?;
-    let head = head_of(alloc, head, bound.items(), codes)?;
-    Ok(Steps { gets, head })
+    steps_with(alloc, head, body, &mut bound, codes)
 }

@@ -1,6 +1,6 @@
 -- The rows of documents, and those of written ones.
 use Rattle.std.proofs.Common.{◌≡◌, ◌<◌, ◌⊎◌, ◌↔◌, ◌∙◌, ◌++◌, ◌∷◌, [], ℕ, List, Some, length, map, get_or, true, false, inl, inr, refl, sym, ap, subst, arith}
-use Rattle.std.specs.Prelude.{Contains, All}
+use Rattle.std.specs.Prelude.{Contains, All, Result, Ok, Err, IfOk, MatchResult}
 use Rattle.std.proofs.lemmas.List.{same_lists, get_or_default}
 use Rattle.std.proofs.lemmas.List.Elements.{All-contains, Contains-append_cases, Contains-append_left, Contains-append_right}
 use Rattle.esto_term.proofs.ListLemmas.{Contains-rest, Contains-cases, Contains-map, Contains-map_from}
@@ -99,6 +99,12 @@ line_value line d blank json = rw (blank, json) (refl, refl)
 
 pub blank_line : (line : List ℕ) → is_blank line ≡ true → (is_bad line ≡ false) × (trees_of_line line ≡ [])
 blank_line line blank = rw blank (refl, refl)
+
+-- What holds of what was made, and where memory is wanting, holds of the result that says the same.
+pub wanted : {T E F : Type 0} (made : Result T E) (result : Result T F) (want : F) (P : T → Type 0) (Q : Result T F → Type 0)
+    → MatchResult made (λ it. result ≡ Ok it) (λ _. result ≡ Err want) → IfOk made P → ((it : T) → P it → Q (Ok it)) → Q (Err want) → Q result
+wanted (Ok it) result want P Q is held good bad = subst Q (sym is) (good it held)
+wanted (Err error) result want P Q is held good bad = subst Q (sym is) bad
 
 -- ---- the rows of written documents
 

@@ -8,7 +8,7 @@ ghost use Rattle.esto_docs.specs.Rows.{text_in};
 ghost use Rattle.esto_docs.specs.Documents.{path_data, begins_with_field, first_name, later_steps, document, members, first_data, step_data};
 
 use esto_docmodel::{Entry, Step, path_of};
-use esto_term::{OutOfMemory, Term, Text};
+use esto_term::{OutOfMemory, Term, Text, push};
 use serde_json::{Map, Value};
 use std::alloc::Global;
 
@@ -58,13 +58,26 @@ fn put_member(
     }
 }
 
+// The same, where the name is copied.
+fn put_named(
+    alloc: Global,
+    members: &mut Map<String, Value>,
+    name: &str,
+    value: Value,
+) -> Result<(), OutOfMemory>
+    ensures { OnOk result (members_view members.new.entries
+        ≡ put name.now (view value) (members_view members.old.entries)) }
+{
+    let own = string_of(alloc, name)?;
+    put_member(members, own, value)
+}
+
 // The object of one field.
 fn object_of(alloc: Global, name: &Text, value: Value) -> Result<Value, OutOfMemory>
     ensures { IfOk result (λ it. view it ≡ step_data (step.Name name.now) (view value)) }
 {
-    let name = string_of(alloc, name.as_str())?;
     let mut members = Map::new(alloc);
-    put_member(&mut members, name, value)?;
+    put_named(alloc, &mut members, name.as_str(), value)?;
     Ok(Value::Object(members))
 }
 
@@ -73,10 +86,8 @@ fn array_of(alloc: Global, value: Value) -> Result<Value, OutOfMemory>
     ensures { IfOk result (λ it. view it ≡ step_data step.Item (view value)) }
 {
     let mut items = Vec::new(alloc);
-    match items.push(value) {
-        Ok(()) => Ok(Value::Array(items)),
-        Err(_) => Err(OutOfMemory),
-    }
+    push(&mut items, value)?;
+    Ok(Value::Array(items))
 }
 
 // What a step writes round a value.
@@ -114,12 +125,12 @@ fn begins_with_field(path: &[Step]) -> bool
 }
 
 // The name of the field with which a path begins, or no text.
-fn first_name(alloc: Global, path: &[Step]) -> Result<String, OutOfMemory>
-    ensures { IfOk result (λ name. string_bytes name ≡ first_name path.now) }
+fn first_name(path: &[Step]) -> &str
+    ensures { result.now ≡ first_name path.now }
 {
     match path.first() {
-        Some(Step::Name(name)) => string_of(alloc, name.as_str()),
-        _ => string_of(alloc, ""),
+        Some(Step::Name(name)) => name.as_str(),
+        _ => "",
     }
 }
 
@@ -131,20 +142,6 @@ fn later_steps(path: &[Step]) -> &[Step]
         Some((_, rest)) => rest,
         None => path,
     }
-}
-
-// Puts a value as the member of the name with which a path begins, in place of what that name had.
-fn put_first(
-    alloc: Global,
-    members: &mut Map<String, Value>,
-    path: &[Step],
-    value: Value,
-) -> Result<(), OutOfMemory>
-    ensures { OnOk result (members_view members.new.entries
-        ≡ put (first_name path.now) (view value) (members_view members.old.entries)) }
-{
-    let name = first_name(alloc, path)?;
-    put_member(members, name, value)
 }
 
 // What an entry writes after its first step.
@@ -181,7 +178,7 @@ fn members_of(
         left -= 1;
         let entry = &entries[left];
         let value = entry_value(alloc, entry, row)?;
-        put_first(alloc, &mut members, path_of(entry), value)?;
+        put_named(alloc, &mut members, first_name(path_of(entry)), value)?;
     }
     Ok(members)
 }

@@ -9,7 +9,7 @@ ghost use Rattle.esto_docs.specs.Files.{json_of, lines_fault, trees_of_lines, ar
 ghost use Rattle.esto_docs.specs.Trees.{trees_of};
 
 use crate::facts::put_document;
-use crate::parse::{ParseError, is_blank, parse, parse_array};
+use crate::parse::{ParseError, is_blank, or_file_error, or_parse_error, parse, parse_array};
 use esto_docmodel::{Encoded, FactSink, Kept, Layout};
 use esto_ports::{FileError, FileKind, cut_line, fault};
 use esto_term::{List, OutOfMemory};
@@ -31,10 +31,7 @@ fn encode_line<S: FactSink>(
         return Ok(first);
     }
     let value = parse(alloc, line)?;
-    match put_document(alloc, sink, relations, &value, first) {
-        Ok(next) => Ok(next),
-        Err(_) => Err(ParseError::OutOfMemory),
-    }
+    or_parse_error(put_document(alloc, sink, relations, &value, first))
 }
 
 // Puts the facts of a file of lines. A line's value is let go once its facts are put.
@@ -99,10 +96,7 @@ fn encode_array<S: FactSink>(
         (array_fault value) sink.old sink.new result }
 {
     let items = parse_array(alloc, bytes)?;
-    match encode_items(alloc, &items, relations, sink, first) {
-        Ok(next) => Ok(next),
-        Err(_) => Err(FileError::OutOfMemory),
-    }
+    or_file_error(encode_items(alloc, &items, relations, sink, first))
 }
 
 /// Puts the facts of the documents of a JSON file into the sink, as far as they are kept. Nodes are numbered from `first`

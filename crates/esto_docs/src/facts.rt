@@ -238,8 +238,8 @@ fn put_whole<S: FactSink>(
     ensures { IfOk result (λ next. PutsDocuments S.Holds S.arities relations.now
         (tree_of (view value.now) ∷ []) first next sink.old sink.new) }
 {
-    let mut above = Values::new(alloc);
     put_root(alloc, sink, relations, first)?;
+    let mut above = Values::new(alloc);
     put_node(alloc, sink, relations, value, &mut above, first)
 }
 

@@ -1,9 +1,12 @@
 //! Bytes as JSON values.
-ghost use Rattle.std.specs.Prelude.{◌≡◌};
+ghost use Rattle.std.specs.Prelude.{◌≡◌, Ok, Err, MatchResult};
+ghost use Rattle.esto_ports.specs.declared.file_fault.FileError.TheVariants as file;
 ghost use Rattle.esto_docs.specs.Parsing.{Parses, ParsesArray};
 ghost use Rattle.esto_docs.specs.Files.{is_blank};
+ghost use Rattle.esto_docs.specs.declared.parse.ParseError.TheVariants as errors;
 
 use esto_ports::{FileError, FileKind, fault};
+use esto_term::OutOfMemory;
 use serde_json::Value;
 use std::alloc::Global;
 
@@ -14,6 +17,26 @@ pub enum ParseError {
     BadJson,
     /// Memory is wanting.
     OutOfMemory,
+}
+
+/// What was made, or want of memory as an error of parsing.
+pub fn or_parse_error<T>(made: Result<T, OutOfMemory>) -> Result<T, ParseError>
+    ensures { MatchResult made (λ it. result ≡ Ok it) (λ _. result ≡ Err errors.OutOfMemory) }
+{
+    match made {
+        Ok(it) => Ok(it),
+        Err(_) => Err(ParseError::OutOfMemory),
+    }
+}
+
+/// What was made, or want of memory as an error of a file.
+pub fn or_file_error<T>(made: Result<T, OutOfMemory>) -> Result<T, FileError>
+    ensures { MatchResult made (λ it. result ≡ Ok it) (λ _. result ≡ Err file.OutOfMemory) }
+{
+    match made {
+        Ok(it) => Ok(it),
+        Err(_) => Err(FileError::OutOfMemory),
+    }
 }
 
 /// The JSON value that bytes are.

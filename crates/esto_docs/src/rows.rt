@@ -9,7 +9,7 @@ ghost use Rattle.esto_docs.specs.Rows.{Row, IsRowOf, GivesRows, OpensLine};
 ghost use Rattle.esto_docs.specs.Trees.{trees_of};
 
 use crate::filling::put_rows;
-use crate::parse::{ParseError, is_blank, parse, parse_array};
+use crate::parse::{ParseError, is_blank, or_file_error, or_parse_error, parse, parse_array};
 use esto_docmodel::{Layout, Pattern};
 use esto_ports::{FileError, FileKind, cut_line, fault};
 use esto_term::{List, OutOfMemory, TextRows};
@@ -32,10 +32,7 @@ fn open_line(
         return Ok(());
     }
     let value = parse(alloc, line)?;
-    match put_rows(alloc, &value, pattern, columns, rows) {
-        Ok(()) => Ok(()),
-        Err(_) => Err(ParseError::OutOfMemory),
-    }
+    or_parse_error(put_rows(alloc, &value, pattern, columns, rows))
 }
 
 // The rows of a file of lines. A line's value is let go once its rows are put.
@@ -98,10 +95,7 @@ fn open_array(
         (array_fault value) result }
 {
     let items = parse_array(alloc, bytes)?;
-    match open_items(alloc, &items, pattern, columns) {
-        Ok(rows) => Ok(rows),
-        Err(_) => Err(FileError::OutOfMemory),
-    }
+    or_file_error(open_items(alloc, &items, pattern, columns))
 }
 
 /// The rows of a JSON file by a layout of so many columns, or the file's first fault, as `read_trees` has it. They are

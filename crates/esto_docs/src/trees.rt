@@ -5,7 +5,7 @@ ghost use Rattle.esto_docs.specs.Files.{json_of, lines_fault, trees_of_lines, ar
 ghost use Rattle.esto_docs.specs.Parsing.{ParsesTree, PutsLine};
 
 use crate::from_json::{tree_of, trees_of};
-use crate::parse::{ParseError, is_blank, parse, parse_array};
+use crate::parse::{ParseError, is_blank, or_file_error, or_parse_error, parse, parse_array};
 use esto_docmodel::{Layout, Tree, Trees};
 use esto_ports::{FileError, FileKind, cut_line, fault};
 use esto_term::List;
@@ -16,10 +16,7 @@ pub fn parse_tree(alloc: Global, bytes: &[u8]) -> Result<Tree, ParseError>
     ensures { ParsesTree bytes.now result }
 {
     let value = parse(alloc, bytes)?;
-    match tree_of(alloc, &value) {
-        Ok(tree) => Ok(tree),
-        Err(_) => Err(ParseError::OutOfMemory),
-    }
+    or_parse_error(tree_of(alloc, &value))
 }
 
 // Puts the document of a line at the end, unless the line is blank.
@@ -63,10 +60,7 @@ fn read_array(alloc: Global, bytes: &[u8]) -> Result<Trees, FileError>
         Gives (trees_of_array value) (array_fault value) result }
 {
     let items = parse_array(alloc, bytes)?;
-    match trees_of(alloc, &items) {
-        Ok(trees) => Ok(trees),
-        Err(_) => Err(FileError::OutOfMemory),
-    }
+    or_file_error(trees_of(alloc, &items))
 }
 
 /// The documents of a JSON file in that layout, or its first fault. In layout Lines the file is cut at each line feed, a

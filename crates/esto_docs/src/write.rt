@@ -1,8 +1,10 @@
 //! The text of JSON files.
-ghost use Rattle.std.specs.Prelude.{◌≡◌, ◌↔◌, ◌++◌, ◌∷◌, [], map, length, All, Contains, IfOk, OnOk, None, string_bytes};
-ghost use Rattle.serde_json.specs.View.{view};
+ghost use Rattle.std.specs.Prelude.{◌≡◌, ◌↔◌, ◌++◌, ◌∷◌, [], List, map, length, All, Contains, IfOk, OnOk, None, string_bytes};
+ghost use Rattle.serde_json.specs.Data.{array as array_data};
+ghost use Rattle.serde_json.specs.View.{view, items_of};
 ghost use Rattle.serde_json.specs.Written.{compact_text};
 ghost use Rattle.esto_docmodel.specs.Layouts.{IsLayout};
+ghost use Rattle.esto_docmodel.specs.Patterns.{Entries};
 ghost use Rattle.esto_docmodel.specs.Shapes.{entries_of};
 ghost use Rattle.esto_docs.specs.Documents.{document, document_line, documents_text};
 ghost use Rattle.esto_docs.specs.Files.{trees_fault, file_trees};
@@ -99,6 +101,19 @@ fn ended(line: String) -> Result<Bytes, OutOfMemory>
     Ok(text)
 }
 
+// The text of a file that is this one value.
+fn array_text(alloc: Global, array: &Value) -> Result<Bytes, OutOfMemory>
+    ensures { IfOk result (λ text. (es : Entries) (rows : List Row)
+        → ((row : Row) → IsPlain (document es row))
+        → view array.now ≡ array_data (items_of (map (document es) rows))
+        → HasWritten layouts.Array (map (document es) rows) text) }
+{
+    match array.to_string(alloc) {
+        Ok(line) => ended(line),
+        Err(_) => Err(OutOfMemory),
+    }
+}
+
 // The text of a file with all documents in one array.
 fn write_array(alloc: Global, rows: &TextRows, pattern: &Pattern) -> Result<Bytes, OutOfMemory>
     requires { (row : Row) → IsPlain (document (entries_of pattern.now.entries) row) }
@@ -106,10 +121,7 @@ fn write_array(alloc: Global, rows: &TextRows, pattern: &Pattern) -> Result<Byte
         (map (document (entries_of pattern.now.entries)) rows.now)) }
 {
     let array = Value::Array(documents_of(alloc, rows, pattern)?);
-    match array.to_string(alloc) {
-        Ok(line) => ended(line),
-        Err(_) => Err(OutOfMemory),
-    }
+    array_text(alloc, &array)
 }
 
 /// The text of a JSON file with these rows by a layout of so many columns: one document a row, in order, in compact form.

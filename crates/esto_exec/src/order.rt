@@ -101,6 +101,19 @@ fn reach_all(alloc: Global, steps: &Prepared, done: &mut Places) -> Result<(), O
     Ok(())
 }
 
+/// How many gets are done once the get of the number is put after those that are done, and after it all that links lead
+/// to.
+fn reach_from(
+    alloc: Global,
+    steps: &Prepared,
+    number: usize,
+    done: &mut Places,
+) -> Result<usize, OutOfMemory> {
+    done.push(number)?;
+    reach_all(alloc, steps, done)?;
+    Ok(done.len())
+}
+
 /// How many gets are done once the get of the number is, and after it all that links lead to.
 fn reach(
     alloc: Global,
@@ -109,9 +122,7 @@ fn reach(
     number: usize,
 ) -> Result<usize, OutOfMemory> {
     let mut reached = done.copy(alloc)?;
-    reached.push(number)?;
-    reach_all(alloc, steps, &mut reached)?;
-    Ok(reached.len())
+    reach_from(alloc, steps, number, &mut reached)
 }
 
 /// Those of the gets that lead to the most others.

@@ -5,10 +5,11 @@ ghost use Rattle.esto_steps.specs.Rows.{IsRowOf, held_by};
 ghost use Rattle.esto_steps.specs.Named.{NamesCodes};
 ghost use Rattle.esto_exec.specs.Runnable.{AreRunnable};
 ghost use Rattle.esto_exec.specs.Slots.{side_of, equations_from};
+ghost use Rattle.esto_exec.specs.SoFar.{IsSoFar};
 ghost use Rattle.esto_exec.specs.Turns.{source_in, AreArities};
 
 use crate::slots::{Equations, equations_of};
-use crate::turns::{Prepared, SoFar, head_in, joined_rows};
+use crate::turns::{Prepared, SoFar, head_in, nothing_done, take_all};
 use esto_columns::Rows;
 use esto_steps::{Sources, Steps, Whole, projected};
 use esto_term::{OutOfMemory, Places};
@@ -28,6 +29,29 @@ fn head_rows(
 {
     let sources = head_in(alloc, &so_far.places, arities, head)?;
     projected(alloc, &sources, &so_far.rows)
+}
+
+/// The head's codes in the rows that the gets give together, where some of them may have given the rows so far.
+fn rows_of_all<F: Whole>(
+    alloc: Global,
+    steps: &Prepared,
+    fragments: &[F],
+    so_far: &mut SoFar,
+) -> Result<Rows, OutOfMemory>
+    requires runnable { AreRunnable (map F.shape fragments.now) steps.now.gets.now }
+    requires arities { AreArities (IsRowOf (held_by (map F.rows fragments.now))) steps.now.gets.now
+        steps.now.arities.now }
+    requires equations { steps.now.equations.now
+        ≡ equations_from steps.now.arities.now 0 steps.now.gets.now }
+    requires under_way { IsSoFar (IsRowOf (held_by (map F.rows fragments.now)))
+        steps.now so_far.old }
+    ensures arity { IfOk result (λ it. it.arity ≡ length steps.now.head.now) }
+    ensures rows { IfOk result (λ it. (row : List ℕ) → Contains it.rows row
+        ↔ IsResult (IsRowOf (held_by (map F.rows fragments.now)))
+        (record { gets = steps.now.gets.now; head = steps.now.head.now }) row) }
+{
+    take_all(alloc, steps, fragments, so_far)?;
+    head_rows(alloc, steps.arities, steps.head, so_far)
 }
 
 /// The result of the steps, with what joins in any order rest on.
@@ -52,8 +76,8 @@ fn prepared_result<F: Whole>(
         arities,
         equations,
     };
-    let so_far = joined_rows(alloc, &prepared, fragments)?;
-    head_rows(alloc, arities, &steps.head, &so_far)
+    let mut so_far = nothing_done(alloc)?;
+    rows_of_all(alloc, &prepared, fragments, &mut so_far)
 }
 
 /// The result of the steps, where gets give rows of these arities.

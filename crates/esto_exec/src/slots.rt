@@ -212,6 +212,24 @@ fn push_head_slots(slots: &mut Slots, arities: &Places, head: &Sources) -> Resul
     Ok(())
 }
 
+/// Puts the slots that are needed where the gets of the numbers are done into the list, which is empty.
+fn put_needed(
+    arities: &Places,
+    gets: &Gets,
+    equations: &Equations,
+    head: &Sources,
+    done: &Places,
+    slots: &mut Slots,
+) -> Result<(), OutOfMemory>
+    requires { slots.old ≡ [] }
+    ensures { OnOk result (slots.new
+        ≡ needed_slots arities.now gets.now equations.now head.now done.now) }
+{
+    push_equation_slots(slots, done, equations)?;
+    push_input_slots(slots, arities, done, gets)?;
+    push_head_slots(slots, arities, head)
+}
+
 /// The slots that are needed where the gets of the numbers are done: those that inputs, equations or the head still name.
 pub(crate) fn needed_slots(
     alloc: Global,
@@ -225,9 +243,7 @@ pub(crate) fn needed_slots(
         it ≡ needed_slots arities.now gets.now equations.now head.now done.now) }
 {
     let mut slots = List::new(alloc);
-    push_equation_slots(&mut slots, done, equations)?;
-    push_input_slots(&mut slots, arities, done, gets)?;
-    push_head_slots(&mut slots, arities, head)?;
+    put_needed(arities, gets, equations, head, done, &mut slots)?;
     Ok(slots)
 }
 

@@ -264,7 +264,7 @@ pub(crate) struct SoFar {
 }
 
 /// Nothing done: one empty row.
-fn nothing_done(alloc: Global) -> Result<SoFar, OutOfMemory>
+pub(crate) fn nothing_done(alloc: Global) -> Result<SoFar, OutOfMemory>
     ensures { IfOk result (λ it. (it.done ≡ []) × (it.places ≡ []) × (it.rows.rows ≡ [] ∷ [])) }
 {
     let mut rows = Rows::new(alloc, 0)?;
@@ -468,7 +468,7 @@ fn take_next<F: Whole>(
 }
 
 /// Joins the gets, each time the one that seems best, and then all that are left in the stated order.
-fn take_all<F: Whole>(
+pub(crate) fn take_all<F: Whole>(
     alloc: Global,
     steps: &Prepared,
     fragments: &[F],
@@ -491,23 +491,4 @@ fn take_all<F: Whole>(
         take_next(alloc, steps, fragments, number, so_far)?;
     }
     Ok(())
-}
-
-/// The rows that the gets give together, in the slots that the head names.
-pub(crate) fn joined_rows<F: Whole>(
-    alloc: Global,
-    steps: &Prepared,
-    fragments: &[F],
-) -> Result<SoFar, OutOfMemory>
-    requires runnable { AreRunnable (map F.shape fragments.now) steps.now.gets.now }
-    requires arities { AreArities (IsRowOf (held_by (map F.rows fragments.now))) steps.now.gets.now
-        steps.now.arities.now }
-    ensures all { IfOk result (λ it. (number : ℕ)
-        → number < length steps.now.gets.now → Contains it.done number) }
-    ensures under_way { IfOk result (λ it. IsSoFar (IsRowOf (held_by (map F.rows fragments.now)))
-        steps.now it) }
-{
-    let mut so_far = nothing_done(alloc)?;
-    take_all(alloc, steps, fragments, &mut so_far)?;
-    Ok(so_far)
 }

@@ -27,7 +27,7 @@ use Rattle.esto_views.specs.Fragments.{views_of}
 use Rattle.esto_views.specs.declared.fragments.FragmentDef.{FragmentDef}
 use Rattle.esto_fill.specs.Databases.{value_of, database_of}
 use Rattle.esto_fill.specs.Differences.{AreOne, Audits, HoldViewRows, IsInOne, IsLeastApart, IsOfView, at}
-use Rattle.esto_fill.specs.Judging.{IsText, JudgesFragment, JudgesFragments, JudgesRules}
+use Rattle.esto_fill.specs.Judging.{IsText, JudgesFragment, JudgesFragments, JudgesRules, TellsApart}
 use Rattle.esto_fill.specs.Placing.{IsApart, IsApartAt, IsImageOf, text_of}
 use Rattle.esto_fill.specs.Texts.{AreTextViews, HaveTextsOnly}
 use Rattle.esto_fill.specs.declared.apart.Apart.TheVariants as apart
@@ -127,6 +127,18 @@ module _ (Rows : List Value → Type 0) (own : List (List Term)) (images : (valu
       subst (IsLeastApart (Contains rows) (IsText Rows)) (sym is)
       (least_texts (Contains rows) (IsText Rows) held own (in_file rows held same) (in_view Rows own images) row (map text_of row)
       (file_texts rows held same row (Contains-at held place row there)) (subst (IsApart held own) one is_apart))
+
+-- what tells the view's rows and those of the file apart judges the fragment
+module _ (Rows : List Value → Type 0) (own : List (List Term)) (images : (values : List Value) → IsImageOf own values ↔ Rows values)
+    (texts : HaveTextsOnly Rows) (rows : List Row) (held : List (List Term))
+    (same : (row : List Term) → Contains held row ↔ Contains (map (map Const) rows) row) (name : List ℕ) where
+  pub judged_apart : (outcome : Option Difference) → TellsApart name own held outcome → JudgesFragment name Rows rows outcome
+  judged_apart None told = same_sets (IsText Rows) (Contains rows) own held (in_view Rows own images) (in_file rows held same) told
+  judged_apart (Some (Missing its cells)) (is, place, row, are, there, apart_at) =
+      (is, missing_least Rows own images texts rows held same place row cells are there apart_at)
+  judged_apart (Some (Extra its cells)) (is, place, row, are, there, apart_at) =
+      (is, extra_least Rows own images texts rows held same place row cells are there apart_at)
+  judged_apart (Some (Broken number cells)) told = absurd told
 
 -- ---- sets that are the same
 

@@ -38,6 +38,13 @@ spread m one two three four =
     map-append m one (two ++ (three ++ four))
     ∙ ap (λ those. map m one ++ those) (map-append m two (three ++ four) ∙ ap (λ those. map m two ++ those) (map-append m three four))
 
+-- what stands in the database of some of the facts stands in that of all
+in_database : (some facts : List (Fact Term)) → ((fact : Fact Term) → Contains some fact → Contains facts fact) → (fact : Fact Value)
+    → Contains (database_of some) fact → Contains (database_of facts) fact
+in_database some facts within fact inside =
+    let from = Contains-map_from (image value_of) some fact inside in
+    subst (Contains (database_of facts)) from.2 (Contains-map (image value_of) facts from.0 (within from.0 from.1))
+
 -- ---- nodes under other numbers
 
 module _ (number : ℕ → ℕ) where
@@ -350,8 +357,7 @@ module _ (datasets : List Dataset) where
         let theirs = subst (λ (dataset : Dataset). AreFactsOf dataset it.0.bytes its.begin its.own) (sym same) its.are in
         let at_last = file_moved renumbered own.dataset.model own.dataset it.0.bytes own.begin its.begin own.own its.own own.are theirs
         (λ k less. own.goes (first_of 0 others) k less ∙ ap (λ n. n + k) its.first_is) fact it.2.1 in
-        let from = Contains-map_from (image value_of) its.own (image (moved renumbered) (image value_of fact)) at_last in
-        subst (Contains (database_of more)) from.2 (Contains-map (image value_of) more from.0 (its.within from.0 from.1))
+        in_database its.own more its.within (image (moved renumbered) (image value_of fact)) at_last
 
     -- an answer of a query whose relations go over is one there
     pub answers_go : (query : ConjunctiveQuery)

@@ -8,7 +8,7 @@ ghost use Rattle.esto_fill.specs.Placing.{IsApartAt};
 
 use esto_query::in_order;
 use esto_relmodel::constants;
-use esto_term::{OutOfMemory, TermRows, Terms, TextRow, TextRows, compare_terms};
+use esto_term::{OutOfMemory, TermRows, Terms, TextRow, TextRows, compare_terms, push};
 use std::alloc::Global;
 use std::cmp::Ordering;
 
@@ -28,9 +28,7 @@ fn constant_rows(alloc: Global, rows: &[TextRow]) -> Result<Vec<Terms>, OutOfMem
     let mut terms = Vec::new(alloc);
     'rows: for row in rows {
         let own = constants(alloc, row.items())?;
-        let Ok(()) = terms.push(own) else {
-            return Err(OutOfMemory);
-        };
+        push(&mut terms, own)?;
     }
     Ok(terms)
 }

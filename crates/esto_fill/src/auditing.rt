@@ -4,6 +4,7 @@ ghost use Rattle.esto_constraint.specs.Constraints.{rules_of};
 ghost use Rattle.esto_constraint.specs.EncodingRules.{written};
 ghost use Rattle.esto_steps.specs.Rows.{IsRowOf, held_by};
 ghost use Rattle.esto_query.specs.Making.{query_of};
+ghost use Rattle.esto_query.specs.Rows.{IsAscending};
 ghost use Rattle.esto_semantics.specs.Maps.{AreFlat};
 ghost use Rattle.esto_semantics.specs.Queries.{IsAnswer};
 ghost use Rattle.esto_semantics.specs.declared.fact.Fact.{Fact};
@@ -12,7 +13,7 @@ ghost use Rattle.esto_ports.specs.declared.difference.Difference.TheVariants as 
 ghost use Rattle.esto_views.specs.Fragments.{views_of};
 ghost use Rattle.esto_fill.specs.Databases.{database_of};
 ghost use Rattle.esto_fill.specs.Differences.{Audits};
-ghost use Rattle.esto_fill.specs.Judging.{JudgesRules, JudgesFragment, JudgesFragments};
+ghost use Rattle.esto_fill.specs.Judging.{JudgesRules, JudgesFragment, JudgesFragments, TellsApart};
 ghost use Rattle.esto_fill.specs.Placing.{text_of};
 ghost use Rattle.esto_fill.specs.Texts.{AreTextViews, HaveTextsOnly};
 ghost use Rattle.esto_fill.specs.Trials.{IsEnoughFor};
@@ -28,7 +29,7 @@ use esto_mapping::Catalogue;
 use esto_ports::Difference;
 use esto_query::{Columns, IndexedFacts, queries_are_sound};
 use esto_semantics::{Facts, databases_stand_for_facts};
-use esto_term::{List, OutOfMemory, Replicate, Term, Text, TextRows};
+use esto_term::{List, OutOfMemory, Replicate, Term, TermRows, Text, TextRows};
 use esto_views::{FragmentDef, FragmentDefs};
 use std::alloc::Global;
 
@@ -73,6 +74,25 @@ fn extra(alloc: Global, name: &Text, terms: &[Term]) -> Result<Option<Difference
     Ok(Some(Difference::Extra(name, row)))
 }
 
+// The least row that is in one of the two lists alone: the fragment of the name lacks it where the first list has
+// it, and else has it without a reason. None comes exactly where both have the same rows.
+fn apart_rows(
+    alloc: Global,
+    name: &Text,
+    own: &TermRows,
+    held: &TermRows,
+) -> Result<Option<Difference>, OutOfMemory>
+    requires own { IsAscending own.now }
+    requires held { IsAscending held.now }
+    ensures { IfOk result (TellsApart name.now own.now held.now) }
+{
+    match first_apart(own.items(), held.items()) {
+        Some(Apart::Missing(place)) => missing(alloc, name, own.item(place).items()),
+        Some(Apart::Extra(place)) => extra(alloc, name, held.item(place).items()),
+        None => Ok(None),
+    }
+}
+
 // The least row that is in the view's rows or in the fragment's and not in both. None comes exactly where they are the same.
 fn apart_of(
     alloc: Global,
@@ -90,11 +110,7 @@ fn apart_of(
     queries_are_sound();
     let own = facts.answers(alloc, &fragment.view)?;
     let held = ordered_rows(alloc, rows)?;
-    match first_apart(own.items(), held.items()) {
-        Some(Apart::Missing(place)) => missing(alloc, &fragment.name, own.item(place).items()),
-        Some(Apart::Extra(place)) => extra(alloc, &fragment.name, held.item(place).items()),
-        None => Ok(None),
-    }
+    apart_rows(alloc, &fragment.name, &own, &held)
 }
 
 // The first fragment whose rows are not its view's, with the least row that is in one of the two alone. None comes exactly

@@ -1,5 +1,5 @@
 //! A fragment's file, filled with the rows of its view.
-ghost use Rattle.std.specs.Prelude.{◌≡◌, ◌<◌, All, length, slice_get, IfOk, IfSome};
+ghost use Rattle.std.specs.Prelude.{◌≡◌, ◌++◌, ◌<◌, All, length, slice_get, IfOk, IfSome};
 ghost use Rattle.esto_docmodel.specs.Stores.{IsShapeFor};
 ghost use Rattle.esto_docmodel.specs.declared.file.Shape.TheVariants as shapes;
 ghost use Rattle.esto_query.specs.Making.{query_of};
@@ -7,6 +7,7 @@ ghost use Rattle.esto_semantics.specs.Queries.{IsAnswer};
 ghost use Rattle.esto_fill.specs.Databases.{database_of};
 ghost use Rattle.esto_fill.specs.Filled.{Fills, IsOpenedAs, SaysRows, with_mark};
 ghost use Rattle.esto_ports.specs.Marks.{without_mark};
+ghost use Rattle.esto_ports.specs.declared.mark.TheConstants.{MARK};
 ghost use Rattle.esto_fill.specs.Placing.{WritesRows};
 ghost use Rattle.esto_fill.specs.declared.filled.FillError.TheVariants as filled;
 
@@ -100,6 +101,15 @@ pub fn text_of(
     }
 }
 
+// The bytes, with a byte-order mark before them.
+fn after_mark(alloc: Global, bytes: &[u8]) -> Result<Bytes, OutOfMemory>
+    ensures { IfOk result (λ it. it ≡ MARK ++ bytes.now) }
+{
+    let mut marked = Bytes::from_slice(alloc, &MARK)?;
+    marked.append(bytes)?;
+    Ok(marked)
+}
+
 /// The text, with a byte-order mark once more before it where it begins with one.
 pub fn marked(alloc: Global, text: Bytes) -> Result<Bytes, OutOfMemory>
     ensures { IfOk result (λ it. it ≡ with_mark text) }
@@ -107,9 +117,7 @@ pub fn marked(alloc: Global, text: Bytes) -> Result<Bytes, OutOfMemory>
     if !text.bytes().starts_with(&MARK) {
         return Ok(text);
     }
-    let mut marked = Bytes::from_slice(alloc, &MARK)?;
-    marked.append(text.bytes())?;
-    Ok(marked)
+    after_mark(alloc, text.bytes())
 }
 
 /// The text of the fragment's file in the shape of its store, with the rows of its view over the database of the facts:

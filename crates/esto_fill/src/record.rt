@@ -132,9 +132,9 @@ fn one_at_least(alloc: Global, cells: TextRow) -> Result<TextRow, OutOfMemory>
     if !cells.is_empty() {
         return Ok(cells);
     }
-    let mut blank = List::new(alloc);
-    blank.push(Text::new(alloc))?;
-    Ok(blank)
+    let mut one = cells;
+    one.push(Text::new(alloc))?;
+    Ok(one)
 }
 
 /// The values that the valuation gives the variables of the rule's body that have a given name, in order of first

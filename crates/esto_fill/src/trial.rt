@@ -6,11 +6,10 @@ ghost use Rattle.esto_fill.specs.Trials.{AddsTried, IsTrialOf, IsWantedBut, part
 
 use crate::lawful::laws_of;
 use crate::tried::is_law;
-use crate::wanted::Wanted;
+use crate::wanted::{Bodies, Wanted, add_body};
 use esto_constraint::{Constraint, Rules};
 use esto_mapping::Catalogue;
-use esto_semantics::Atoms;
-use esto_term::{List, OutOfMemory, Replicate};
+use esto_term::{List, OutOfMemory};
 use esto_views::FragmentDef;
 use std::alloc::Global;
 
@@ -23,9 +22,6 @@ pub struct Trial {
     pub wanted: Wanted,
 }
 
-// Bodies of queries and parts of rules.
-type Bodies = List<Atoms>;
-
 // The bodies of the fragments' views.
 fn bodies_of(alloc: Global, fragments: &[FragmentDef]) -> Result<Bodies, OutOfMemory>
     ensures { IfOk result (λ it. it
@@ -33,18 +29,9 @@ fn bodies_of(alloc: Global, fragments: &[FragmentDef]) -> Result<Bodies, OutOfMe
 {
     let mut bodies = List::new(alloc);
     'fragments: for fragment in fragments {
-        let body = fragment.view.body.copy(alloc)?;
-        bodies.push(body)?;
+        add_body(alloc, &fragment.view.body, &mut bodies)?;
     }
     Ok(bodies)
-}
-
-// Puts the body at the end.
-fn add_body(alloc: Global, body: &Atoms, bodies: &mut Bodies) -> Result<(), OutOfMemory>
-    ensures { OnOk result (bodies.new ≡ bodies.old ++ body.now ∷ []) }
-{
-    let own = body.copy(alloc)?;
-    bodies.push(own)
 }
 
 // Puts the parts of the rule at the end.

@@ -1,5 +1,5 @@
 //! Which facts are wanted.
-ghost use Rattle.std.specs.Prelude.{◌≡◌, ◌==◌, [], ◌∷◌, true, false, map, IfOk};
+ghost use Rattle.std.specs.Prelude.{◌≡◌, ◌==◌, [], ◌∷◌, ◌++◌, true, false, map, IfOk, OnOk};
 ghost use Rattle.std.specs.List.{list_any};
 ghost use Rattle.esto_docmodel.specs.declared.kept.KeptTexts.TheVariants as texts;
 ghost use Rattle.esto_query.specs.Making.{query_of};
@@ -11,6 +11,9 @@ use esto_query::Query;
 use esto_semantics::{Atom, Atoms, Facts};
 use esto_term::{List, OutOfMemory, Replicate, Term, Text};
 use std::alloc::Global;
+
+/// Bodies of queries and parts of rules.
+pub type Bodies = List<Atoms>;
 
 /// Which facts are wanted.
 #[derive(Drop)]
@@ -57,13 +60,20 @@ impl Wanted {
     }
 }
 
+/// Puts the body at the end.
+pub fn add_body(alloc: Global, body: &Atoms, bodies: &mut Bodies) -> Result<(), OutOfMemory>
+    ensures { OnOk result (bodies.new ≡ bodies.old ++ body.now ∷ []) }
+{
+    let own = body.copy(alloc)?;
+    bodies.push(own)
+}
+
 /// Those to which an atom of the body can go.
 pub fn wanted_by_body(alloc: Global, body: &Atoms) -> Result<Wanted, OutOfMemory>
     ensures { IfOk result (λ it. it ≡ wanted.Asked (body.now ∷ [])) }
 {
-    let own = body.copy(alloc)?;
     let mut bodies = List::new(alloc);
-    bodies.push(own)?;
+    add_body(alloc, body, &mut bodies)?;
     Ok(Wanted::Asked(bodies))
 }
 
@@ -74,8 +84,7 @@ pub fn wanted_by_queries(alloc: Global, queries: &[Query]) -> Result<Wanted, Out
 {
     let mut bodies = List::new(alloc);
     'queries: for query in queries {
-        let body = query.body.copy(alloc)?;
-        bodies.push(body)?;
+        add_body(alloc, &query.body, &mut bodies)?;
     }
     Ok(Wanted::Asked(bodies))
 }

@@ -208,14 +208,16 @@ fn push_get(
     bound.append(terms)
 }
 
-/// The steps of the atoms of these numbers, in order.
+/// The steps of the atoms of these numbers, in order. Their terms are put into the list, which is empty.
 fn steps_of(
     alloc: Global,
     order: &Order,
     plan: &Plan,
     fragments: &FragmentDefs,
+    bound: &mut Terms,
     codes: &mut Codes,
 ) -> Result<Steps, OutOfMemory>
+    requires none { bound.old ≡ [] }
     requires named { (number : ℕ) → Contains order.now number → number < length plan.now.atoms }
     requires can { CanPlan (patterns_of fragments.now) []
         (atoms_of (plan_query plan.now).body order.now) }
@@ -225,12 +227,11 @@ fn steps_of(
         (ordered (plan_query plan.now) order.now)) }
     ensures grown { Grows codes.old codes.new }
 {
-    let mut bound: Terms = List::new(alloc);
     let mut gets = List::new(alloc);
     'atoms: for number in order.items() {
         let atom = plan.atoms.item(*number);
         let patterns = &fragments.item(atom.fragment).access;
-        push_get(alloc, atom, patterns, &mut gets, &mut bound, codes)?;
+        push_get(alloc, atom, patterns, &mut gets, bound, codes)?;
     }
     let head = head_of(alloc, &plan.head, bound.items(), codes)?;
     Ok(Steps { gets, head })
@@ -253,5 +254,6 @@ pub fn plan_of(
         (ordered (plan_query plan.now) order.now)) }
     ensures grown { Grows codes.old codes.new }
 {
-    steps_of(alloc, order, plan, fragments, codes)
+    let mut bound = List::new(alloc);
+    steps_of(alloc, order, plan, fragments, &mut bound, codes)
 }

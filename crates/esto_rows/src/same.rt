@@ -1,5 +1,5 @@
 //! Whether rows of codes are the same set.
-ghost use Rattle.std.specs.Prelude.{◌≡◌, ◌↔◌, ◌++◌, ◌∷◌, [], ◌<◌, ℕ, Bool, List, Some, false, length, slice_get, slice_index_or, IsTrue, Contains, IfOk};
+ghost use Rattle.std.specs.Prelude.{◌≡◌, ◌↔◌, ◌++◌, ◌∷◌, [], ◌<◌, ℕ, List, Some, false, length, slice_get, slice_index_or, IsTrue, Contains, IfOk};
 ghost use Rattle.esto_columns.specs.Indexed.{IsIndexOf};
 ghost use Rattle.esto_rows.specs.Same.{IsPart, AreMarked};
 
@@ -7,14 +7,18 @@ use esto_columns::{Index, Rows};
 use esto_term::{OutOfMemory, Values};
 use std::alloc::Global;
 
-/// Whether each row of the one is a row of the other, whose index this is.
-fn are_among(alloc: Global, one: &Rows, other: &Rows, index: &Index) -> Result<bool, OutOfMemory>
+/// Whether each row of the one is a row of the other, whose index this is. Rows are read into the list.
+fn are_among(
+    one: &Rows,
+    other: &Rows,
+    index: &Index,
+    row: &mut Values<u64>,
+) -> Result<bool, OutOfMemory>
     requires { IsIndexOf index.now other.now.rows }
     ensures { IfOk result (λ it. IsTrue it ↔ IsPart one.now.rows other.now.rows) }
 {
-    let mut row = Values::new(alloc);
     'rows: for at in 0..one.len() {
-        one.read_row(at, &mut row)?;
+        one.read_row(at, row)?;
         if other.find(index, row.items()).is_none() {
             return Ok(false);
         }
@@ -28,7 +32,8 @@ fn is_part_by_index(alloc: Global, one: &Rows, other: &Rows) -> Result<bool, Out
         ↔ ((row : List ℕ) → Contains one.now.rows row → Contains other.now.rows row)) }
 {
     let index = other.own_index(alloc, other.len())?;
-    are_among(alloc, one, other, &index)
+    let mut row = Values::new(alloc);
+    are_among(one, other, &index, &mut row)
 }
 
 /// So many places, none of which is marked.
@@ -61,12 +66,12 @@ fn mark(rows: &Rows, index: &Index, row: &[u64], marks: &mut Values<bool>) -> bo
 }
 
 /// Marks the last places where the others stand among the rows, whose index this is. Tells whether each of them is
-/// there.
+/// there. They are read into the list.
 fn mark_each(
-    alloc: Global,
     rows: &Rows,
     index: &Index,
     others: &Rows,
+    row: &mut Values<u64>,
     marks: &mut Values<bool>,
 ) -> Result<bool, OutOfMemory>
     requires own { IsIndexOf index.now rows.now.rows }
@@ -77,9 +82,8 @@ fn mark_each(
     ensures marked { IfOk result (λ it. IsTrue it
         → AreMarked rows.now.rows others.now.rows marks.new) }
 {
-    let mut row = Values::new(alloc);
     'rows: for at in 0..others.len() {
-        others.read_row(at, &mut row)?;
+        others.read_row(at, row)?;
         if !mark(rows, index, row.items(), marks) {
             return Ok(false);
         }
@@ -112,21 +116,20 @@ fn is_marked(
     }
 }
 
-/// Whether each of the rows is marked, or else the last place where it stands.
+/// Whether each of the rows is marked, or else the last place where it stands. Rows are read into the list.
 fn are_marked(
-    alloc: Global,
     rows: &Rows,
     index: &Index,
     marks: &Values<bool>,
+    row: &mut Values<u64>,
 ) -> Result<bool, OutOfMemory>
     requires own { IsIndexOf index.now rows.now.rows }
     requires long { length marks.now ≡ length rows.now.rows }
     ensures { IfOk result (λ it. (others : List (List ℕ))
         → AreMarked rows.now.rows others marks.now → IsTrue it ↔ IsPart rows.now.rows others) }
 {
-    let mut row = Values::new(alloc);
     'rows: for at in 0..rows.len() {
-        if !is_marked(rows, index, marks, at, &mut row)? {
+        if !is_marked(rows, index, marks, at, row)? {
             return Ok(false);
         }
     }
@@ -134,12 +137,12 @@ fn are_marked(
 }
 
 /// Whether each row of one of the two is a row of the other, by an index of the one and marks of its rows, none of
-/// which is marked before.
+/// which is marked before. Rows are read into the list.
 fn are_one_by(
-    alloc: Global,
     one: &Rows,
     other: &Rows,
     index: &Index,
+    row: &mut Values<u64>,
     marks: &mut Values<bool>,
 ) -> Result<bool, OutOfMemory>
     requires own { IsIndexOf index.now one.now.rows }
@@ -148,10 +151,10 @@ fn are_one_by(
     ensures { IfOk result (λ it. IsTrue it
         ↔ ((row : List ℕ) → Contains one.now.rows row ↔ Contains other.now.rows row)) }
 {
-    if !mark_each(alloc, one, index, other, marks)? {
+    if !mark_each(one, index, other, row, marks)? {
         return Ok(false);
     }
-    are_marked(alloc, one, index, marks)
+    are_marked(one, index, marks, row)
 }
 
 /// The same by an index of the one, where marks are made for it.
@@ -166,7 +169,8 @@ fn are_one_marked(
         ↔ ((row : List ℕ) → Contains one.now.rows row ↔ Contains other.now.rows row)) }
 {
     let mut marks = no_marks(alloc, one.len())?;
-    are_one_by(alloc, one, other, index, &mut marks)
+    let mut row = Values::new(alloc);
+    are_one_by(one, other, index, &mut row, &mut marks)
 }
 
 /// Whether each row of one of the two is a row of the other.
@@ -178,6 +182,20 @@ fn are_one_set(alloc: Global, one: &Rows, other: &Rows) -> Result<bool, OutOfMem
     are_one_marked(alloc, one, other, &index)
 }
 
+/// Whether both are the same list, where they are equally long. Rows of the one are read into the list of codes.
+fn stand_alike(one: &Rows, other: &Rows, row: &mut Values<u64>) -> Result<bool, OutOfMemory>
+    requires { length one.now.rows ≡ length other.now.rows }
+    ensures { IfOk result (λ it. IsTrue it → one.now.rows ≡ other.now.rows) }
+{
+    'rows: for at in 0..one.len() {
+        one.read_row(at, row)?;
+        if !other.is_at(at, row.items()) {
+            return Ok(false);
+        }
+    }
+    Ok(true)
+}
+
 /// Whether both are the same list. It needs no index, and ends at the first place where they differ.
 fn are_one_list(alloc: Global, one: &Rows, other: &Rows) -> Result<bool, OutOfMemory>
     ensures { IfOk result (λ it. IsTrue it → one.now.rows ≡ other.now.rows) }
@@ -186,13 +204,7 @@ fn are_one_list(alloc: Global, one: &Rows, other: &Rows) -> Result<bool, OutOfMe
         return Ok(false);
     }
     let mut row = Values::new(alloc);
-    'rows: for at in 0..one.len() {
-        one.read_row(at, &mut row)?;
-        if !other.is_at(at, row.items()) {
-            return Ok(false);
-        }
-    }
-    Ok(true)
+    stand_alike(one, other, &mut row)
 }
 
 /// Whether each row of one of the two is a row of the other. Files are often in the order in which rows are found, so

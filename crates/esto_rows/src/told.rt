@@ -90,15 +90,19 @@ fn is_apart(
     Ok(apart)
 }
 
-/// Whether in each of the rows the codes after the first tell the first. The index is empty before.
-fn are_told_by(alloc: Global, rows: &Rows, index: &mut Index) -> Result<bool, OutOfMemory>
+/// Whether in each of the rows the codes after the first tell the first. The index is empty before. Rows are read into
+/// the two lists.
+fn are_told_by(
+    rows: &Rows,
+    index: &mut Index,
+    row: &mut Values<u64>,
+    other: &mut Values<u64>,
+) -> Result<bool, OutOfMemory>
     requires { IsIndexOf index.old [] }
     ensures { IfOk result (λ it. IsTrue it ↔ AreTold rows.now.rows) }
 {
-    let mut row = Values::new(alloc);
-    let mut other = Values::new(alloc);
     'rows: for at in 0..rows.len() {
-        if is_apart(rows, at, index, &mut row, &mut other)? {
+        if is_apart(rows, at, index, row, other)? {
             return Ok(false);
         }
     }
@@ -110,5 +114,7 @@ pub fn are_told(alloc: Global, rows: &Rows) -> Result<bool, OutOfMemory>
     ensures { IfOk result (λ it. IsTrue it ↔ AreTold rows.now.rows) }
 {
     let mut index = Index::new(alloc, rows.len())?;
-    are_told_by(alloc, rows, &mut index)
+    let mut row = Values::new(alloc);
+    let mut other = Values::new(alloc);
+    are_told_by(rows, &mut index, &mut row, &mut other)
 }

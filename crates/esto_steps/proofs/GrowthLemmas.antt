@@ -1,5 +1,5 @@
 -- Steps of texts are those of longer lists of texts.
-use Rattle.std.proofs.Common.{◌≡◌, inl, inr, ℕ, Bool, List, [], ◌∷◌, ◌++◌, take, slice_get, sym, ap, ◌∙◌}
+use Rattle.std.proofs.Common.{inl, inr, ℕ, Bool, List, [], ◌∷◌, ◌++◌, take, slice_get, sym, ap, ◌∙◌}
 use Rattle.std.specs.List.{AllZip}
 use Rattle.std.proofs.lemmas.List.{append-nil}
 use Rattle.esto_term.specs.declared.term.Term.{Term}

@@ -199,6 +199,11 @@ module _ (texts : List (List ℕ)) (code : List ℕ → ℕ) (numbering : IsNumb
               met.2 ∙ ap Some same_code,
             )
 
+    -- the row that a fragment holds is what the map makes of the atom
+    held_as : (m : Term → ℕ) (atom : Fact Term) (fragment : ℕ) (row : List ℕ) → fragment ≡ atom.relation → map m atom.terms ≡ row
+        → Holds (record { relation = fragment; terms = row }) → Holds (image m atom)
+    held_as m atom fragment row named own holds = subst (λ (it : Fact ℕ). Holds it) (λ i. record { relation = named i; terms = sym own i }) holds
+
     pub results_answer : (bound : List Term) (atoms : List (Fact Term)) (gets : List Get) (m : Term → ℕ) (end : List ℕ) → Keeps code m
         → AreStepsAfter texts patterns head sources bound atoms gets
         → Fits atoms Holds → Leads Holds gets (map m bound) end
@@ -229,8 +234,7 @@ module _ (texts : List (List ℕ)) (code : List ℕ → ℕ) (numbering : IsNumb
           later.1,
           (λ term inside. later.2 term (Contains-append_left bound atom.terms term inside) ∙ next.2 term inside),
           (λ fact inside. elim (Contains-cases atom atoms fact inside) [
-            | inl is ↦ subst (λ it. Holds (image later.0 it)) is
-                (subst (λ (it : Fact ℕ). Holds it) (λ i. record { relation = (are.0).fragment i; terms = sym own i }) leads.1)
+            | inl is ↦ subst (λ it. Holds (image later.0 it)) is (held_as later.0 atom get.fragment row (are.0).fragment own leads.1)
             | inr rest ↦ later.3 fact rest
           ]),
           later.4,

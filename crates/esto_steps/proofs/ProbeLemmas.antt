@@ -1,6 +1,7 @@
 -- Rows that are found by the places that indexes give, and rows that are all looked at.
-use Rattle.std.proofs.Common.{◌≡◌, inl, inr, ℕ, ◌+◌, ◌<◌, ◌≤◌, true, List, [], ◌∷◌, map, length, take, get_or, Option, Some, None}
-use Rattle.std.proofs.Common.{Vec, Global, Contains, sym, ap, ◌∙◌, subst, arith}
+use Rattle.std.proofs.Common.{◌≡◌, inl, inr, ℕ, ◌+◌, ◌<◌, ◌≤◌, Bool, true, false, List, [], ◌∷◌, map, length, take, get_or, Option, Some, None}
+use Rattle.std.proofs.Common.{Vec, Global, Contains, IsTrue, refl, sym, ap, ◌∙◌, subst, arith}
+use Rattle.std.specs.Bool.{then_some}
 use Rattle.std.specs.Prelude.{MatchOption}
 use Rattle.std.proofs.lemmas.Bool.{cases_order}
 use Rattle.std.proofs.lemmas.Option.{same_Some, get_or_from_slice_get, slice_get_within}
@@ -33,6 +34,12 @@ pub met_found : (cells : List ℕ) (rows : List (List ℕ)) (link : Link) (code 
     → MatchOption found (Unit {0}) (λ it. HaveMet cells rows link it.items)
 met_found cells rows link code None named are = are
 met_found cells rows link code (Some places) named are = key_has_met cells rows link code places.items named are
+
+-- what holds of a thing where all was gone through holds of it where it comes
+pub come_through : {A : Type 0} (through : Bool) (it : A) (found : Option A) (P : A → Type 0) → found ≡ then_some through it → (IsTrue through → P it)
+    → MatchOption found (Unit {0}) P
+come_through true it found P is holds = subst (λ them. MatchOption them (Unit {0}) P) (sym is) (holds refl)
+come_through false it found P is holds = subst (λ them. MatchOption them (Unit {0}) P) (sym is) tt
 
 -- the places of one of the links serve for all of them
 pub one_has_met : (cells : List ℕ) (rows : List (List ℕ)) (links : List Link) (link : Link) (places : List ℕ) → Contains links link

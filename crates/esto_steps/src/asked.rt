@@ -92,13 +92,15 @@ fn ask<F: Fragment>(
     push_asked(alloc, get, fragment, key.items(), asked)
 }
 
-/// Asks the fragment for the rows that have the inputs of some row so far. Each list of inputs is asked once.
+/// Asks the fragment for the rows that have the inputs of some row so far. Each list of inputs is asked once. They are
+/// read into the list.
 fn ask_each<F: Fragment>(
     alloc: Global,
     get: &Get,
     fragment: &F,
     so_far: &Rows,
     sources: &Sources,
+    key: &mut Values<u64>,
     seen: &mut Seen,
     asked: &mut Rows,
 ) -> Result<(), OutOfMemory>
@@ -112,11 +114,8 @@ fn ask_each<F: Fragment>(
         → Contains so_far.now.rows cells → Contains (F.rows fragment.now) row
         → Follows get.now cells row → Contains asked.new.rows row) }
 {
-    let mut key = Values::new(alloc);
     'rows: for at in 0..so_far.len() {
-        ask(
-            alloc, get, fragment, so_far, at, sources, &mut key, seen, asked,
-        )?;
+        ask(alloc, get, fragment, so_far, at, sources, key, seen, asked)?;
     }
     Ok(())
 }
@@ -139,7 +138,10 @@ fn ask_all<F: Fragment>(
 {
     let sources = sources_of(alloc, &get.inputs)?;
     let mut seen = Seen::new(alloc, get.inputs.len(), so_far.len())?;
-    ask_each(alloc, get, fragment, so_far, &sources, &mut seen, asked)
+    let mut key = Values::new(alloc);
+    ask_each(
+        alloc, get, fragment, so_far, &sources, &mut key, &mut seen, asked,
+    )
 }
 
 /// The rows of the fragment that have the inputs of some row so far. Each list of inputs is asked once.

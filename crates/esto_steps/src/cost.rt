@@ -3,7 +3,7 @@ ghost use Rattle.std.specs.Prelude.{Contains, IfOk};
 ghost use Rattle.esto_steps.specs.declared.steps.Link.{Link};
 
 use crate::links::sources_of;
-use crate::probe::places_met;
+use crate::probe::{how_many, places_met};
 use crate::sample::{place_in, read_key, scaled};
 use crate::steps::{Link, Links, Sources};
 use esto_columns::{Index, Rows};
@@ -40,10 +40,8 @@ fn count_met(
         return Ok(0);
     }
     let cells = so_far.row(alloc, at)?;
-    match places_met(alloc, rows, cells.items(), link)? {
-        Some(places) => Ok(places.len()),
-        None => Ok(usize::MAX),
-    }
+    let places = places_met(alloc, rows, cells.items(), link)?;
+    Ok(how_many(places))
 }
 
 /// How many places the link gives for all rows so far, about, by a look at one of each stretch of them; no more than so
@@ -143,18 +141,17 @@ fn chain_at(
     Ok(chain_length(index, key.items(), most))
 }
 
-/// Whether no more places than the most are on the chains of all rows so far.
+/// Whether no more places than the most are on the chains of all rows so far, whose keys are read into the list.
 fn are_at_most(
-    alloc: Global,
     so_far: &Rows,
     sources: &Sources,
     index: &Index,
     most: usize,
+    key: &mut Values<u64>,
 ) -> Result<bool, OutOfMemory> {
-    let mut key = Values::new(alloc);
     let mut left = most;
     'rows: for at in 0..so_far.len() {
-        let count = chain_at(so_far, at, sources, index, left, &mut key)?;
+        let count = chain_at(so_far, at, sources, index, left, key)?;
         if count > left {
             return Ok(false);
         }
@@ -173,5 +170,6 @@ pub(crate) fn are_short(
     index: &Index,
 ) -> Result<bool, OutOfMemory> {
     let sources = sources_of(alloc, links)?;
-    are_at_most(alloc, so_far, &sources, index, most_cheap(so_far, rows))
+    let mut key = Values::new(alloc);
+    are_at_most(so_far, &sources, index, most_cheap(so_far, rows), &mut key)
 }

@@ -2,6 +2,7 @@
 ghost use Rattle.std.specs.Prelude.{◌<◌, length};
 
 use crate::links::columns_of;
+use crate::probe::how_many;
 use crate::sample::{place_in, read_key, scaled};
 use crate::seen::Seen;
 use crate::steps::{Links, Sources};
@@ -48,19 +49,19 @@ fn place_at(places: &[usize], at: usize) -> usize {
     }
 }
 
-/// How many of the rows have one of the keys in the columns, by a look at one of each stretch of them.
+/// How many of the rows have one of the keys in the columns, by a look at one of each stretch of them. Their keys are
+/// read into the list.
 fn count_some(
-    alloc: Global,
     rows: &Rows,
     columns: &Sources,
     keys: &Seen,
+    key: &mut Values<u64>,
 ) -> Result<usize, OutOfMemory> {
     let step = rows.len() / LOOKED + 1;
     let looked = rows.len() / step;
-    let mut key = Values::new(alloc);
     let mut count: usize = 0;
     'rows: for turn in 0..looked {
-        let named = read_key(rows, place_in(turn, step), columns, &mut key)?;
+        let named = read_key(rows, place_in(turn, step), columns, key)?;
         if named && keys.has(key.items()) {
             count = count.saturating_add(1);
         }
@@ -146,8 +147,26 @@ fn count_key_by(
     }
 }
 
-/// How many of the rows have one of the keys in the columns, by the index by the one of the number; none where it gives
-/// too many places.
+/// How many of the rows have one of the keys in the columns, by the index by the one of the number, where these counts
+/// are gone on with; none where it gives too many places.
+fn count_each_by(
+    alloc: Global,
+    rows: &Rows,
+    column: usize,
+    number: usize,
+    columns: &Sources,
+    keys: &Rows,
+    counts: &mut Counts,
+) -> Result<Option<usize>, OutOfMemory> {
+    'keys: for at in 0..keys.len() {
+        if !count_key_by(alloc, rows, column, number, columns, keys, at, counts)? {
+            return Ok(None);
+        }
+    }
+    Ok(Some(counts.rows))
+}
+
+/// The same, where nothing is counted at first.
 fn count_by(
     alloc: Global,
     rows: &Rows,
@@ -157,39 +176,39 @@ fn count_by(
     keys: &Rows,
 ) -> Result<Option<usize>, OutOfMemory> {
     let mut counts = Counts::new(alloc);
-    'keys: for at in 0..keys.len() {
-        if !count_key_by(alloc, rows, column, number, columns, keys, at, &mut counts)? {
-            return Ok(None);
-        }
-    }
-    Ok(Some(counts.rows))
+    count_each_by(alloc, rows, column, number, columns, keys, &mut counts)
 }
 
-/// How many places the index by the column gives for the first key; more than there are where there is no index.
+/// How many places the index by the column gives for the first key; more than there are where there is no index. The
+/// key is read into the list.
 fn first_count(
     alloc: Global,
     rows: &Rows,
     column: usize,
     number: usize,
     keys: &Rows,
+    key: &mut Values<u64>,
 ) -> Result<usize, OutOfMemory> {
     if keys.len() == 0 {
         return Ok(0);
     }
-    let mut key = Values::new(alloc);
-    match places_of(alloc, rows, column, number, keys, 0, &mut key)? {
-        Some(places) => Ok(places.len()),
-        None => Ok(usize::MAX),
-    }
+    let places = places_of(alloc, rows, column, number, keys, 0, key)?;
+    Ok(how_many(places))
 }
 
 /// The number of the link whose index gives the fewest places for the first key, or how many links there are where no
-/// index serves.
-fn best_link(alloc: Global, links: &Links, rows: &Rows, keys: &Rows) -> Result<usize, OutOfMemory> {
+/// index serves. The key is read into the list.
+fn best_link(
+    alloc: Global,
+    links: &Links,
+    rows: &Rows,
+    keys: &Rows,
+    key: &mut Values<u64>,
+) -> Result<usize, OutOfMemory> {
     let mut least = MOST;
     let mut best = links.len();
     'links: for number in 0..links.len() {
-        let count = first_count(alloc, rows, links.item(number).column, number, keys)?;
+        let count = first_count(alloc, rows, links.item(number).column, number, keys, key)?;
         if count < least {
             least = count;
             best = number;
@@ -198,22 +217,24 @@ fn best_link(alloc: Global, links: &Links, rows: &Rows, keys: &Rows) -> Result<u
     Ok(best)
 }
 
-/// How many of the table's rows have one of the keys in the columns, which are those of the links, about.
+/// How many of the table's rows have one of the keys in the columns, which are those of the links, about. Keys are read
+/// into the list.
 fn count_in(
     alloc: Global,
     links: &Links,
     table: &Rows,
     columns: &Sources,
     keys: &Seen,
+    key: &mut Values<u64>,
 ) -> Result<usize, OutOfMemory> {
-    let best = best_link(alloc, links, table, keys.rows())?;
+    let best = best_link(alloc, links, table, keys.rows(), key)?;
     if best < links.len() {
         let column = links.item(best).column;
         if let Some(count) = count_by(alloc, table, column, best, columns, keys.rows())? {
             return Ok(count);
         }
     }
-    count_some(alloc, table, columns, keys)
+    count_some(table, columns, keys, key)
 }
 
 /// How many of the table's rows have one of the keys in the columns of the links, about: by an index by one of these
@@ -225,5 +246,6 @@ pub(crate) fn count_found(
     keys: &Seen,
 ) -> Result<usize, OutOfMemory> {
     let columns = columns_of(alloc, links)?;
-    count_in(alloc, links, table, &columns, keys)
+    let mut key = Values::new(alloc);
+    count_in(alloc, links, table, &columns, keys, &mut key)
 }

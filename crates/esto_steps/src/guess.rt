@@ -27,6 +27,22 @@ fn put_key(
     keys.put_new(alloc, key.items())
 }
 
+/// Puts the codes that the sources name in some of the rows, which are spread evenly over all, after the keys. They are
+/// read into the list.
+fn put_each_key(
+    alloc: Global,
+    rows: &Rows,
+    sources: &Sources,
+    key: &mut Values<u64>,
+    keys: &mut Seen,
+) -> Result<(), OutOfMemory> {
+    let step = rows.len() / SAMPLE + 1;
+    'sample: for turn in 0..SAMPLE {
+        put_key(alloc, rows, step.saturating_mul(turn), sources, key, keys)?;
+    }
+    Ok(())
+}
+
 /// Puts the codes that the links name in some of the rows, which are spread evenly over all, after the keys.
 fn put_some_keys(
     alloc: Global,
@@ -34,40 +50,23 @@ fn put_some_keys(
     links: &Links,
     keys: &mut Seen,
 ) -> Result<(), OutOfMemory> {
-    let step = rows.len() / SAMPLE + 1;
     let sources = sources_of(alloc, links)?;
     let mut key = Values::new(alloc);
-    'sample: for turn in 0..SAMPLE {
-        put_key(
-            alloc,
-            rows,
-            step.saturating_mul(turn),
-            &sources,
-            &mut key,
-            keys,
-        )?;
-    }
-    Ok(())
+    put_each_key(alloc, rows, &sources, &mut key, keys)
 }
 
-/// The codes that the links name in some of the rows, each list of codes once.
-fn some_keys(alloc: Global, rows: &Rows, links: &Links) -> Result<Seen, OutOfMemory> {
-    let mut keys = Seen::new(alloc, links.len(), SAMPLE)?;
-    put_some_keys(alloc, rows, links, &mut keys)?;
-    Ok(keys)
-}
-
-/// How many rows there are about once the table's rows are joined by the links with so many rows, some of which have
-/// the keys.
+/// How many rows there are about once the table's rows are joined by the links with the rows so far. The keys of some
+/// of these are put after the keys, of which there are none.
 fn count_joined(
     alloc: Global,
     links: &Links,
     table: &Rows,
-    keys: &Seen,
-    many: usize,
+    so_far: &Rows,
+    keys: &mut Seen,
 ) -> Result<usize, OutOfMemory> {
+    put_some_keys(alloc, so_far, links, keys)?;
     let found = count_found(alloc, links, table, keys)?;
-    Ok(found.saturating_mul(many) / keys.len().max(1))
+    Ok(found.saturating_mul(so_far.len()) / keys.len().max(1))
 }
 
 /// How many rows there are about once the table's rows are joined by the links: each of the rows so far is taken to
@@ -82,6 +81,6 @@ pub fn guessed_count(
     if links.is_empty() {
         return Ok(so_far.len().saturating_mul(table.len()));
     }
-    let keys = some_keys(alloc, so_far, links)?;
-    count_joined(alloc, links, table, &keys, so_far.len())
+    let mut keys = Seen::new(alloc, links.len(), SAMPLE)?;
+    count_joined(alloc, links, table, so_far, &mut keys)
 }

@@ -25,14 +25,18 @@ fn index_row(
     index.add(key.items())
 }
 
-/// An index of the rows by the codes that the columns name in them.
-pub(crate) fn index_of(alloc: Global, rows: &Rows, columns: &Sources) -> Result<Index, OutOfMemory>
+/// An index of the rows by the codes that the columns name in them, which are read into the list.
+pub(crate) fn index_of(
+    alloc: Global,
+    rows: &Rows,
+    columns: &Sources,
+    key: &mut Values<u64>,
+) -> Result<Index, OutOfMemory>
     ensures { IfOk result (FindsRows rows.now.rows columns.now) }
 {
     let mut index = Index::new(alloc, rows.len())?;
-    let mut key = Values::new(alloc);
     'rows: for at in 0..rows.len() {
-        index_row(rows, columns, at, &mut key, &mut index)?;
+        index_row(rows, columns, at, key, &mut index)?;
     }
     Ok(index)
 }

@@ -148,6 +148,7 @@ fn push_each_joined(
     rows: &Rows,
     sources: &Sources,
     index: &Index,
+    buffers: &mut Buffers,
     into: &mut Seen,
 ) -> Result<(), OutOfMemory>
     requires none { into.old.rows ≡ [] }
@@ -158,19 +159,8 @@ fn push_each_joined(
     ensures { OnOk result ((row : List ℕ) → Contains into.new.rows row
         ↔ IsKept join.now.kept.now (IsJoin join.now.get.now so_far.now.rows rows.now.rows) row) }
 {
-    let mut buffers = Buffers::new(alloc);
     'rows: for at in 0..so_far.len() {
-        push_joined(
-            alloc,
-            join,
-            so_far,
-            at,
-            rows,
-            sources,
-            index,
-            &mut buffers,
-            into,
-        )?;
+        push_joined(alloc, join, so_far, at, rows, sources, index, buffers, into)?;
     }
     Ok(())
 }
@@ -181,7 +171,8 @@ pub(crate) fn index_by(alloc: Global, rows: &Rows, links: &Links) -> Result<Inde
         (FindsRows rows.now.rows (map (λ link. Cell link.column) links.now)) }
 {
     let columns = columns_of(alloc, links)?;
-    index_of(alloc, rows, &columns)
+    let mut key = Values::new(alloc);
+    index_of(alloc, rows, &columns, &mut key)
 }
 
 /// Puts what is kept of each of the rows so far with every one of the rows that follows it at the end, by an index of
@@ -205,7 +196,17 @@ fn push_by_index(
         ↔ IsKept join.now.kept.now (IsJoin join.now.get.now so_far.now.rows rows.now.rows) row) }
 {
     let sources = sources_of(alloc, links)?;
-    push_each_joined(alloc, join, so_far, rows, &sources, index, into)
+    let mut buffers = Buffers::new(alloc);
+    push_each_joined(
+        alloc,
+        join,
+        so_far,
+        rows,
+        &sources,
+        index,
+        &mut buffers,
+        into,
+    )
 }
 
 /// What is kept of the rows so far, each with every one of the rows that follows it after it, by an index of the rows

@@ -31,6 +31,14 @@ pub(crate) fn places_met(
     rows.places(alloc, &[link.column], &[code])
 }
 
+/// How many of these places there are; more than there can be where none are given.
+pub(crate) fn how_many(places: Option<Vec<usize>>) -> usize {
+    match places {
+        Some(places) => places.len(),
+        None => usize::MAX,
+    }
+}
+
 /// Places among which are those of all rows that meet the links with the cells, by the first link whose column has an
 /// index.
 fn places_by(
@@ -151,6 +159,36 @@ fn push_each_reached(
     rows: &Rows,
     links: &Links,
     most: usize,
+    buffers: &mut Buffers,
+    into: &mut Seen,
+) -> Result<bool, OutOfMemory>
+    requires none { into.old.rows ≡ [] }
+    requires arity { into.old.arity ≡ length join.now.kept.now }
+    requires early { (cells row : List ℕ) → Contains so_far.now.rows cells
+        → Follows join.now.get.now cells row
+        → (link : Link) → Contains links.now link → IsMet cells row link }
+    ensures { IfOk result (λ through. IsTrue through → (row : List ℕ) → Contains into.new.rows row
+        ↔ IsKept join.now.kept.now (IsJoin join.now.get.now so_far.now.rows rows.now.rows) row) }
+{
+    let mut looked: usize = 0;
+    'rows: for at in 0..so_far.len() {
+        if looked > most {
+            return Ok(false);
+        }
+        let more = push_reached(alloc, join, so_far, at, rows, links, buffers, into)?;
+        looked = looked.saturating_add(more);
+    }
+    Ok(true)
+}
+
+/// The same with lists of its own that are filled anew for each row.
+fn push_all_reached(
+    alloc: Global,
+    join: &Join,
+    so_far: &Rows,
+    rows: &Rows,
+    links: &Links,
+    most: usize,
     into: &mut Seen,
 ) -> Result<bool, OutOfMemory>
     requires none { into.old.rows ≡ [] }
@@ -162,15 +200,7 @@ fn push_each_reached(
         ↔ IsKept join.now.kept.now (IsJoin join.now.get.now so_far.now.rows rows.now.rows) row) }
 {
     let mut buffers = Buffers::new(alloc);
-    let mut looked: usize = 0;
-    'rows: for at in 0..so_far.len() {
-        if looked > most {
-            return Ok(false);
-        }
-        let more = push_reached(alloc, join, so_far, at, rows, links, &mut buffers, into)?;
-        looked = looked.saturating_add(more);
-    }
-    Ok(true)
+    push_each_reached(alloc, join, so_far, rows, links, most, &mut buffers, into)
 }
 
 /// What is kept of the rows so far, each with every one of the rows that follows it after it. The rows are found by the
@@ -191,8 +221,6 @@ pub(crate) fn joined_reached(
         ↔ IsKept join.now.kept.now (IsJoin join.now.get.now so_far.now.rows rows.now.rows) row)) }
 {
     let mut joined = Seen::new(alloc, join.kept.len(), so_far.len())?;
-    if !push_each_reached(alloc, join, so_far, rows, links, most, &mut joined)? {
-        return Ok(None);
-    }
-    Ok(Some(joined.into_rows()))
+    let through = push_all_reached(alloc, join, so_far, rows, links, most, &mut joined)?;
+    Ok(through.then_some(joined.into_rows()))
 }

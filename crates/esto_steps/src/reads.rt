@@ -72,14 +72,23 @@ fn push_kept(cells: &mut Sources, width: usize, kept: &Sources) -> Result<(), Ou
     Ok(())
 }
 
+/// Puts the cells of the fragment's row that the join reads, where rows so far have so many, into the list, which is
+/// empty.
+fn put_cells_read(cells: &mut Sources, join: &Join, width: usize) -> Result<(), OutOfMemory>
+    requires { cells.old ≡ [] }
+    ensures { OnOk result (cells.new ≡ read_cells width join.now.get.now join.now.kept.now) }
+{
+    push_columns(cells, &join.get.inputs)?;
+    push_filters(cells, width, &join.get.filters)?;
+    push_kept(cells, width, join.kept)
+}
+
 /// The cells of the fragment's row that the join reads, where rows so far have so many.
 fn cells_read(alloc: Global, join: &Join, width: usize) -> Result<Sources, OutOfMemory>
     ensures { IfOk result (λ it. it ≡ read_cells width join.now.get.now join.now.kept.now) }
 {
     let mut cells = List::new(alloc);
-    push_columns(&mut cells, &join.get.inputs)?;
-    push_filters(&mut cells, width, &join.get.filters)?;
-    push_kept(&mut cells, width, join.kept)?;
+    put_cells_read(&mut cells, join, width)?;
     Ok(cells)
 }
 
@@ -145,6 +154,7 @@ fn push_firsts(
     alloc: Global,
     rows: &Rows,
     cells: &Sources,
+    buffers: &mut Buffers,
     seen: &mut Seen,
     few: &mut Rows,
 ) -> Result<(), OutOfMemory>
@@ -152,12 +162,8 @@ fn push_firsts(
     requires unseen { seen.old ≡ record { arity = length cells.now; rows = [] } }
     ensures { OnOk result (StandFor cells.now rows.now.rows few.new.rows) }
 {
-    let mut buffers = Buffers {
-        row: Values::new(alloc),
-        key: Values::new(alloc),
-    };
     'rows: for at in 0..rows.len() {
-        push_first(alloc, rows, at, cells, &mut buffers, seen, few)?;
+        push_first(alloc, rows, at, cells, buffers, seen, few)?;
     }
     Ok(())
 }
@@ -168,7 +174,11 @@ fn push_few(alloc: Global, rows: &Rows, cells: &Sources, few: &mut Rows) -> Resu
     ensures { OnOk result (StandFor cells.now rows.now.rows few.new.rows) }
 {
     let mut seen = Seen::new(alloc, cells.len(), rows.len())?;
-    push_firsts(alloc, rows, cells, &mut seen, few)
+    let mut buffers = Buffers {
+        row: Values::new(alloc),
+        key: Values::new(alloc),
+    };
+    push_firsts(alloc, rows, cells, &mut buffers, &mut seen, few)
 }
 
 /// Some of the rows, which stand for all where only the cells are read.

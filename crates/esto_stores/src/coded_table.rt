@@ -56,12 +56,14 @@ fn add_record(
     put_codes(read, row.items(), coded)
 }
 
-// Puts the codes of the records that the reader has left into the rows of codes, up to the first fault.
+// Puts the codes of the records that the reader has left into the rows of codes, up to the first fault. Each record is
+// read into the cells, and coded into the row.
 fn add_records(
-    alloc: Global,
     reader: &mut Reader<&[u8]>,
     header: &Header,
+    cells: &mut ByteRecord,
     codes: &mut Codes,
+    row: &mut Values<u64>,
     coded: &mut Rows,
 ) -> Result<(), FileError>
     requires reads { Reads reader.old }
@@ -72,20 +74,21 @@ fn add_records(
         (length header.now.places) codes.new coded.new result }
     ensures grown { Grows codes.old codes.new }
 {
-    let mut cells = ByteRecord::new(alloc);
-    let mut row = Values::new(alloc);
-    'records: while read_next(reader, &mut cells)? {
-        add_record(&cells, header, codes, &mut row, coded)?;
+    'records: while read_next(reader, cells)? {
+        add_record(cells, header, codes, row, coded)?;
     }
     Ok(())
 }
 
-// The records that the reader has left under the header, as rows of codes.
+// The records that the reader has left under the header, as rows of codes. Each record is read into the cells, and
+// coded into the row.
 fn code_under(
     alloc: Global,
     reader: &mut Reader<&[u8]>,
     header: &Header,
+    cells: &mut ByteRecord,
     codes: &mut Codes,
+    row: &mut Values<u64>,
 ) -> Result<Rows, FileError>
     requires { Reads reader.old }
     ensures rows { let left = left_of reader.old in
@@ -95,7 +98,7 @@ fn code_under(
     ensures grown { Grows codes.old codes.new }
 {
     let mut coded = Rows::new(alloc, header.places.len())?;
-    add_records(alloc, reader, header, codes, &mut coded)?;
+    add_records(reader, header, cells, codes, row, &mut coded)?;
     Ok(coded)
 }
 
@@ -113,7 +116,9 @@ fn code_records(
     ensures grown { Grows codes.old codes.new }
 {
     let header = read_header(alloc, reader, columns)?;
-    code_under(alloc, reader, &header, codes)
+    let mut cells = ByteRecord::new(alloc);
+    let mut row = Values::new(alloc);
+    code_under(alloc, reader, &header, &mut cells, codes, &mut row)
 }
 
 /// The rows of a CSV file that declares these columns as rows of codes, or its first fault. Rows and fault are those of

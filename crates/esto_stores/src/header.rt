@@ -77,6 +77,25 @@ fn header_of(alloc: Global, cells: &ByteRecord, columns: &[Text]) -> Result<Head
     }
 }
 
+// The header, which is the first of the records that the reader has left, or its first fault. The record is read into
+// the cells.
+fn first_header(
+    alloc: Global,
+    reader: &mut Reader<&[u8]>,
+    cells: &mut ByteRecord,
+    columns: &[Text],
+) -> Result<Header, FileError>
+    requires { Reads reader.old }
+    ensures header { ReadsHeader columns.now (left_of reader.old) (left_of reader.new) result }
+    ensures reads { IfOk result (λ _. Reads reader.new) }
+{
+    match read_next(reader, cells) {
+        Ok(true) => header_of(alloc, cells, columns),
+        Ok(false) => Err(fault(FileKind::NoHeader, 0)),
+        Err(_) => Err(FileError::OutOfMemory),
+    }
+}
+
 /// The header, which is the first of the records that the reader has left, or its first fault.
 pub fn read_header(
     alloc: Global,
@@ -88,9 +107,5 @@ pub fn read_header(
     ensures reads { IfOk result (λ _. Reads reader.new) }
 {
     let mut cells = ByteRecord::new(alloc);
-    match read_next(reader, &mut cells) {
-        Ok(true) => header_of(alloc, &cells, columns),
-        Ok(false) => Err(fault(FileKind::NoHeader, 0)),
-        Err(_) => Err(FileError::OutOfMemory),
-    }
+    first_header(alloc, reader, &mut cells, columns)
 }

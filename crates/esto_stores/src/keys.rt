@@ -55,6 +55,28 @@ fn text_cells(alloc: Global, cells: &[&[u8]]) -> Result<TextRow, TextError>
     Ok(row)
 }
 
+// Puts these cells, which are to be so many, at the end of the rows as the one of this number, or finds its fault.
+fn add_cells(
+    alloc: Global,
+    found: &[&[u8]],
+    cells: usize,
+    number: u64,
+    rows: &mut TextRows,
+) -> Result<(), FileError>
+    requires { number ≡ length rows.old + 1 }
+    ensures { AddsTexts kinds.Cells cells (λ cells. cells) (map (λ cell. cell.now) found.now)
+        rows.old rows.new result }
+{
+    if found.len() != cells {
+        return Err(fault(FileKind::Cells, number));
+    }
+    match text_cells(alloc, found) {
+        Ok(row) => put_row(row, rows),
+        Err(TextError::NotUtf8) => Err(fault(FileKind::NotUtf8, number)),
+        Err(TextError::OutOfMemory) => Err(FileError::OutOfMemory),
+    }
+}
+
 // Puts the cells of the line of this number, which are to be so many, as a row after these, or finds its fault.
 fn add_line(
     alloc: Global,
@@ -68,15 +90,7 @@ fn add_line(
         (slice_split (λ b. b == tab) line.now) rows.old rows.new result }
 {
     let parts = split_cells(alloc, line)?;
-    let found = parts.as_slice();
-    if found.len() != cells {
-        return Err(fault(FileKind::Cells, number));
-    }
-    match text_cells(alloc, found) {
-        Ok(row) => put_row(row, rows),
-        Err(TextError::NotUtf8) => Err(fault(FileKind::NotUtf8, number)),
-        Err(TextError::OutOfMemory) => Err(FileError::OutOfMemory),
-    }
+    add_cells(alloc, parts.as_slice(), cells, number, rows)
 }
 
 /// The rows of a key file with that many columns, or its first fault. Each line, less one CR at its end, is a row of the

@@ -40,10 +40,11 @@ fn add_record(
     }
 }
 
-// The records that the reader has left, as rows of the cells at these places.
+// The records that the reader has left, as rows of the cells at these places. Each record is read into the cells.
 fn read_rows(
     alloc: Global,
     reader: &mut Reader<&[u8]>,
+    cells: &mut ByteRecord,
     width: usize,
     places: &[usize],
 ) -> Result<TextRows, FileError>
@@ -53,10 +54,9 @@ fn read_rows(
         Gives (map taken left) (first_fault kinds.Length width taken 1 left) result }
 {
     let mut rows: TextRows = List::new(alloc);
-    let mut cells = ByteRecord::new(alloc);
-    'records: while read_next(reader, &mut cells)? {
+    'records: while read_next(reader, cells)? {
         let number = rows.len() as u64 + 1;
-        add_record(alloc, &cells, width, places, number, &mut rows)?;
+        add_record(alloc, cells, width, places, number, &mut rows)?;
     }
     Ok(rows)
 }
@@ -72,7 +72,14 @@ fn open_records(
         Gives (rows_of_records columns.now records) (fault_of_records columns.now records) result }
 {
     let header = read_header(alloc, reader, columns)?;
-    read_rows(alloc, reader, header.width, header.places.items())
+    let mut cells = ByteRecord::new(alloc);
+    read_rows(
+        alloc,
+        reader,
+        &mut cells,
+        header.width,
+        header.places.items(),
+    )
 }
 
 /// The rows of a CSV file that declares these columns, or its first fault. Records are those that `csv` reads at its

@@ -21,7 +21,8 @@ members_of-entries-preserved t c =
     let held = c.entries.invariant in (
       omega (arith, held.0),
       members_go c.args.row.now c.args.entries.now c.entries.left c.index-entries-left.result c.index-entries-left.result _ _ _ _ c.entries-test.true held.0
-          c.index-entries-left.is held.1 (ap first_name c.path_of.ensures.first) c.in_ok-value.ensures c.in_ok-put_first.ensures,
+          c.index-entries-left.is held.1 (c.first_name.ensures ∙ ap first_name c.path_of.ensures.first) c.in_ok-value.ensures
+          c.in_ok-put_named.ensures,
     )
 
 pub entry_value-returns-in_ok-string_of-in-Value : goal.entry_value-returns-in_ok-string_of-in-Value

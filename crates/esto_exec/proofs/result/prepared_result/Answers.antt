@@ -1,18 +1,12 @@
-use Rattle.std.proofs.Common.{[], map, get_or, refl, subst}
-use Rattle.std.proofs.lemmas.Result.{IfOk-weaker}
+use Rattle.std.proofs.Common.{[], map, get_or}
 use Rattle.esto_steps.specs.Rows.{IsRowOf}
-use Rattle.esto_exec.specs.Turns.{IsUnderWay}
-use Rattle.esto_exec.proofs.UnderWayLemmas.{results_told}
+use Rattle.esto_exec.proofs.UnderWayLemmas.{under_way_at}
 use Rattle.esto_exec.proofs.result.prepared_result.Goals as goal
 
-pub returns-clause-rows : goal.returns-clause-rows
-returns-clause-rows g c =
-    IfOk-weaker c.head_rows.result _ _
-    (λ it. results_told (IsRowOf (λ number. get_or (map g.F.Fragment.rows c.args.fragments.now) number [])) c.args.steps.now c.args.arities.now
-    c.in_ok-so_far.so_far.done c.in_ok-so_far.so_far.places c.in_ok-so_far.so_far.rows.rows it.rows _ c.requires.arities
-    c.in_ok-so_far.ensures.all
-    (subst (λ equations. IsUnderWay (IsRowOf (λ number. get_or (map g.F.Fragment.rows c.args.fragments.now) number [])) c.args.arities.now
-    c.args.steps.now.gets equations c.args.steps.now.head c.in_ok-so_far.so_far.done c.in_ok-so_far.so_far.places c.in_ok-so_far.so_far.rows.rows)
-    c.requires.equations c.in_ok-so_far.ensures.under_way)
-    refl)
-    c.head_rows.ensures.rows
+pub rows_of_all-requires-clause-under_way : goal.rows_of_all-requires-clause-under_way
+rows_of_all-requires-clause-under_way g c =
+    under_way_at (IsRowOf (λ number. get_or (map g.F.Fragment.rows c.args.fragments.now) number [])) c.args.arities.now c.args.steps.now.gets
+    c.args.equations.now
+    c.args.steps.now.head c.in_ok-so_far.so_far.done c.in_ok-so_far.so_far.places c.in_ok-so_far.so_far.rows.rows c.in_ok-so_far.ensures.0
+    c.in_ok-so_far.ensures.1
+    c.in_ok-so_far.ensures.2

@@ -7,7 +7,7 @@ pub rows-preserved : goal.rows-preserved
 rows-preserved c =
     made_more (map Const) c.args.rows.now c.rows.row-index c.rows.terms.items (map (map Const) c.args.rows.now) c.rows.invariant
     c.row-item.result c.rows-test.true _
-    (c.in-Ok.ensures.items ∙ ap (λ it. c.rows.terms.items ++ it ∷ []) (c.in_ok-own.ensures ∙ ap (map Const) (c.items.ensures ∙ c.row-item.is)))
+    (c.in_ok-push.ensures ∙ ap (λ it. c.rows.terms.items ++ it ∷ []) (c.in_ok-own.ensures ∙ ap (map Const) (c.items.ensures ∙ c.row-item.is)))
 
 pub returns : goal.returns
 returns c =

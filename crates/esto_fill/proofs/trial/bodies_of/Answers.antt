@@ -9,8 +9,8 @@ fragments-preserved c =
     made_more (λ (fragment : FragmentDef). (query_of fragment.view).body) c.args.fragments.now c.fragments.fragment-index c.fragments.bodies
     (map (λ (fragment : FragmentDef). (query_of fragment.view).body) c.args.fragments.now) c.fragments.invariant
     c.fragment-item.result c.fragments-test.true _
-    (c.in_ok-push.ensures.ok ∙ ap (λ it. c.fragments.bodies ++ it ∷ [])
-    (c.in_ok-body.ensures ∙ ap (λ (fragment : FragmentDef). (query_of fragment.view).body) c.fragment-item.is))
+    (c.in_ok-add_body.ensures ∙ ap (λ it. c.fragments.bodies ++ it ∷ [])
+    (ap (λ (fragment : FragmentDef). (query_of fragment.view).body) c.fragment-item.is))
 
 pub returns : goal.returns
 returns c =

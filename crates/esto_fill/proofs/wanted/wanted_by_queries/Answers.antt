@@ -9,7 +9,7 @@ pub queries-preserved : goal.queries-preserved
 queries-preserved c =
     made_more (λ (query : Query). (query_of query).body) c.args.queries.now c.queries.query-index c.queries.bodies
     (map (λ (query : Query). (query_of query).body) c.args.queries.now) c.queries.invariant c.query-item.result c.queries-test.true _
-    (c.in_ok-push.ensures.ok ∙ ap (λ it. c.queries.bodies ++ it ∷ []) (c.in_ok-body.ensures ∙ ap (λ (query : Query). (query_of query).body) c.query-item.is))
+    (c.in_ok-add_body.ensures ∙ ap (λ it. c.queries.bodies ++ it ∷ []) (ap (λ (query : Query). (query_of query).body) c.query-item.is))
 
 pub returns : goal.returns
 returns c = ap Asked

@@ -93,8 +93,8 @@ atoms-init c =
     let atoms = map fact_of c.args.plan.now.atoms in
     let order = c.items-number-items.result.now in
     let codes = c.args.codes.now in
-    subst (IsPlannedBelow patterns atoms order 0 codes codes c.new-bound.result) (sym c.new-gets.ensures)
-    (subst (λ (them : List Term). IsPlannedBelow patterns atoms order 0 codes codes them []) (sym c.new-bound.ensures)
+    subst (IsPlannedBelow patterns atoms order 0 codes codes c.args.bound.now) (sym c.new-gets.ensures)
+    (subst (λ (them : List Term). IsPlannedBelow patterns atoms order 0 codes codes them []) (sym c.requires.none)
     (planned_start patterns atoms order codes
     (subst (λ (them : List ℕ). CanPlan patterns [] (atoms_of atoms them)) (sym c.items-number-items.ensures) c.requires.can)))
 

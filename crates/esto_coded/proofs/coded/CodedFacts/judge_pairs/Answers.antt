@@ -1,13 +1,20 @@
-use Rattle.esto_coded.proofs.VerdictLemmas.{sides_met, sides_broken}
+use Rattle.std.proofs.Common.{◌∙◌}
 use Rattle.esto_coded.proofs.coded.CodedFacts.judge_pairs.Goals as goal
 
-pub returns-then-agree-clause-judged : goal.returns-then-agree-clause-judged
-returns-then-agree-clause-judged c left right are =
-    sides_met c.args.self.now c.answers_by_indexes.new.self c.answers_by_indexes.ensures.stays c.in_ok-rows.ensures.texts c.args.body.now left right c.args.sides.now
-    c.requires.fixed are c.in_ok-rows.ensures.constants c.in_ok-rows.rows.rows c.in_ok-rows.ensures.rows c.agree.result c.agree.ensures c.if-agree.true
+pub verdict_on_pairs-requires-clause-two : goal.verdict_on_pairs-requires-clause-two
+verdict_on_pairs-requires-clause-two c = c.in_ok-rows.ensures.arity ∙ c.requires.two
 
 pub returns-clause-judged : goal.returns-clause-judged
-returns-clause-judged c left right are =
-    sides_broken c.args.self.now c.answers_by_indexes.new.self c.answers_by_indexes.ensures.stays c.in_ok-rows.ensures.texts c.args.body.now left right c.args.sides.now
-    c.requires.fixed are c.in_ok-rows.ensures.constants c.in_ok-rows.rows.rows c.in_ok-rows.ensures.rows c.agree.result c.agree.ensures c.if-agree.false
-    c.sides_part.result c.sides_part.ensures
+returns-clause-judged c = c.verdict_on_pairs.ensures c.args.self.now c.answers_by_indexes.ensures.stays
+
+pub verdict_on_pairs-requires-clause-fixed : goal.verdict_on_pairs-requires-clause-fixed
+verdict_on_pairs-requires-clause-fixed c = c.requires.fixed
+
+pub verdict_on_pairs-requires-clause-texts : goal.verdict_on_pairs-requires-clause-texts
+verdict_on_pairs-requires-clause-texts c = c.in_ok-rows.ensures.texts
+
+pub verdict_on_pairs-requires-clause-constants : goal.verdict_on_pairs-requires-clause-constants
+verdict_on_pairs-requires-clause-constants c = c.in_ok-rows.ensures.constants
+
+pub verdict_on_pairs-requires-clause-rows : goal.verdict_on_pairs-requires-clause-rows
+verdict_on_pairs-requires-clause-rows c = c.in_ok-rows.ensures.rows

@@ -2,7 +2,7 @@ use Rattle.std.proofs.Common.{sym, subst}
 use Rattle.esto_stores.specs.Header.{ReadsHeader}
 use Rattle.esto_stores.specs.Left.{left_of}
 use Rattle.esto_stores.proofs.RowLemmas.{taken_some}
-use Rattle.esto_stores.proofs.header.read_header.Goals as goal
+use Rattle.esto_stores.proofs.header.first_header.Goals as goal
 
 pub returns-in-Ok-true-clause-header : goal.returns-in-Ok-true-clause-header
 returns-in-Ok-true-clause-header c =
