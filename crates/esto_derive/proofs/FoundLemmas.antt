@@ -1,28 +1,25 @@
--- Matches that are found atom by atom, and the equalities that they use.
-use Rattle.std.proofs.Common.{◌≡◌, ◌≢◌, ◌↔◌, inl, inr, ℕ, ◌+◌, ◌<◌, ◌≤◌, Bool, true, false, is_some, List, [], ◌∷◌, ◌++◌, length, map, slice_get, Option, Some}
-use Rattle.std.proofs.Common.{None, Contains, option_map, subst, refl, sym, ap, ◌∙◌, arith}
+-- Matches that are found atom by atom.
+use Rattle.std.proofs.Common.{◌≡◌, ◌↔◌, inl, inr, ℕ, ◌+◌, ◌<◌, ◌≤◌, Bool, true, false, is_some, List, [], ◌∷◌, ◌++◌, length, map, slice_get, Option, Some}
+use Rattle.std.proofs.Common.{None, Contains, option_map, subst, sym, ap, ◌∙◌, arith}
 use Rattle.std.specs.List.{AllZip}
-use Rattle.std.proofs.lemmas.List.Elements.{Contains-append_left, Contains-append_right, Contains-append_cases}
 use Rattle.std.proofs.lemmas.List.{append-nil, append_assoc, length-append, length-map}
-use Rattle.esto_term.proofs.ListLemmas.{Contains-nil, Contains-at, Contains-cases, Contains-head}
+use Rattle.esto_term.proofs.ListLemmas.{Contains-at}
 use Rattle.esto_term.proofs.ZipLemmas.{zip_both, zip_by_places, zip_length}
 use Rattle.esto_term.specs.declared.term.Term.{Term}
 use Rattle.esto_semantics.specs.Facts.{terms_of}
 use Rattle.esto_term.specs.Sets.{Within}
 use Rattle.esto_semantics.specs.declared.fact.Fact.{Fact}
-use Rattle.esto_chase_laws.proofs.ClosedLemmas.{touching}
-use Rattle.esto_chase_laws.proofs.LinkLemmas.{Linked-more, Linked-touching}
+use Rattle.esto_chase_laws.proofs.LinkLemmas.{Linked-more}
 use Rattle.esto_chase_laws.proofs.TakenLemmas.{Fits-split, Fits-join}
 use Rattle.esto_chase_laws.specs.Derived.{IsNamed}
-use Rattle.esto_chase_laws.specs.WorldMatches.{taken, Fits, Touching}
-use Rattle.esto_chase_laws.specs.WorldSteps.{AreJoined}
-use Rattle.esto_chase_laws.specs.Worlds.{InWorld, SaysOne, Linked, here}
+use Rattle.esto_chase_laws.specs.WorldMatches.{taken, Fits}
+use Rattle.esto_chase_laws.specs.Worlds.{InWorld, Linked}
 use Rattle.esto_chase_laws.specs.declared.entry.Claim.{Claim}
 use Rattle.esto_chase_laws.specs.declared.entry.Claim.TheVariants.{Fact as Stated, Same}
 use Rattle.esto_chase_laws.specs.declared.entry.Entry.{Entry}
 use Rattle.std.proofs.lemmas.Option.{same_Some, slice_get_within}
 use Rattle.esto_derive.proofs.MarkLemmas.{same_or_later}
-use Rattle.esto_derive.specs.Searching.{ClaimsIn, IsLink, GoesOn, IsFound, IsFoundAfter, IsFoundBy, IsFoundIfOne, AddsLink}
+use Rattle.esto_derive.specs.Searching.{GoesOn, IsFound, IsFoundAfter, IsFoundBy, IsFoundIfOne}
 
 -- ---- going on
 
@@ -157,44 +154,6 @@ module _ (entries : List Entry) (set : List Bool) (from to : List Term) (lengths
   found_none none (fact ∷ chosen) goes =
       let holds : World (Stated fact) = goes.0.0.0 in none holds.0 holds.1 fact chosen holds.2 holds.3 goes
 
--- ---- equalities
-
-module _ (entries : List Entry) (set : List Bool) (term other : Term) where
-  pub said : (place : ℕ) (entry : Entry) → slice_get entries place ≡ Some entry → Within entry.product set → SaysOne entry.claim term other
-      → IsLink entries set term other (Some place)
-  said place entry at within says = (entry.claim, (entry, at, within, refl), says)
-
-  pub unsaid : ((entry : Entry) → Contains entries entry → Within entry.product set → ¬ (SaysOne entry.claim term other)) → IsLink entries set term other None
-  unsaid none claim (entry, inside, within, is) says = none entry inside within (subst (λ (it : Claim). SaysOne it term other) (sym is) says)
-
-  touches : (claim : Claim) → InWorld entries set claim → SaysOne claim term other → Touching (InWorld entries set) term other
-  touches claim holds (inl is) = inr (inl (subst (InWorld entries set) is holds))
-  touches claim holds (inr is) = inr (inr (subst (InWorld entries set) is holds))
-
-  in_world : (claim : Claim) (place : ℕ) → ClaimsIn entries set place claim → InWorld entries set claim
-  in_world claim place (entry, at, within, is) = (entry, Contains-at entries place entry at, within, is)
-
-  module _ (joined : AreJoined entries entries) (apart : term ≢ other) where
-    -- linked terms that are not equal are said to be one
-    pub linked_said : IsLink entries set term other None → ¬ (Linked (InWorld entries set) term other)
-    linked_said none linked = elim (touching (joined set) term other linked) [
-      | inl same ↦ apart same
-      | inr (inl holds) ↦ none (Same term other) holds (inl refl)
-      | inr (inr holds) ↦ none (Same other term) holds (inr refl)
-    ]
-
-  pub said_linked : (place : ℕ) → IsLink entries set term other (Some place) → Linked (InWorld entries set) term other
-  said_linked place (claim, claims, says) = Linked-touching term other (touches claim (in_world claim place claims) says)
-
--- whether terms that are not equal are one
-pub told : (entries : List Entry) (set : List Bool) (term other : Term) → AreJoined entries entries → term ≢ other → (found : Option ℕ)
-    → IsLink entries set term other found → (answer : Bool) → answer ≡ is_some found → (answer ≡ true) ↔ Linked (InWorld entries set) term other
-told entries set term other joined apart None none answer is = (
-  (λ yes. let wrong : false ≡ true = sym is ∙ yes in cc),
-  (λ linked. absurd (linked_said entries set term other joined apart none linked)),
-)
-told entries set term other joined apart (Some place) link answer is = ((λ yes. said_linked entries set term other place link), (λ linked. is))
-
 -- ---- places one by one
 
 module _ {X Y : Type 0} (R : X → Y → Type 0) (xs : List X) (ys : List Y) where
@@ -226,40 +185,6 @@ module _ {X Y : Type 0} (R : X → Y → Type 0) (xs : List X) (ys : List Y) whe
 pub named_more : (entries : List Entry) (old new : List ℕ) → ((place : ℕ) → Contains old place → Contains new place) → (s t : Term)
     → Linked (IsNamed entries old) s t → Linked (IsNamed entries new) s t
 named_more entries old new keeps = Linked-more (λ claim (place, inside, claims). (place, keeps place inside, claims))
-
-module _ (entries : List Entry) (set : List Bool) (term other : Term) where
-  pub adds_none : (places : List ℕ) → term ≡ other → AddsLink entries set term other places places
-  adds_none places same = record {
-    keeps = λ place inside. inside;
-    are = λ links. links;
-    one = subst (Linked (IsNamed entries places) term) same here;
-  }
-
-  pub adds_one : (place : ℕ) (old new : List ℕ) → IsLink entries set term other (Some place) → new ≡ old ++ place ∷ [] → AddsLink entries set term other old new
-  adds_one place old new (claim, claims, says) is = record {
-    keeps = λ its inside. subst (λ (it : List ℕ). Contains it its) (sym is) (Contains-append_left old (place ∷ []) its inside);
-    are = λ links its inside. elim (Contains-append_cases old (place ∷ []) its (subst (λ (it : List ℕ). Contains it its) is inside)) [
-      | inl earlier ↦ links its earlier
-      | inr last ↦ elim (Contains-cases place [] its last) [
-        | inl same ↦ subst (λ (it : ℕ). (left : Term) × (right : Term) × ClaimsIn entries set it (Same left right)) same (elim says [
-          | inl on ↦ (term, other, subst (ClaimsIn entries set place) on claims)
-          | inr on ↦ (other, term, subst (ClaimsIn entries set place) on claims)
-        ])
-        | inr none ↦ absurd (Contains-nil its none)
-      ]
-    ];
-    one = Linked-touching term other (elim says [
-      | inl on ↦ inr (inl (named on))
-      | inr on ↦ inr (inr (named on))
-    ]);
-  }
-    where
-      named : {its : Claim} → claim ≡ its → IsNamed entries new its
-      named on = (
-        place,
-        subst (λ (it : List ℕ). Contains it place) (sym is) (Contains-append_right old (place ∷ []) place (Contains-head place [])),
-        (claims.0, claims.1, claims.3 ∙ on),
-      )
 
 -- ---- the row that is tested
 

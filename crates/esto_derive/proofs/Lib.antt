@@ -1,6 +1,7 @@
 mod TextLemmas
 mod LoopLemmas
 mod FoundLemmas
+mod ChainLemmas
 mod MarkLemmas
 mod PlaceLemmas
 mod PutLemmas

@@ -1,13 +1,13 @@
 -- Matches of a body in the world of a set, found atom by atom, and the equalities that they use.
-use Rattle.std.specs.Prelude.{◌≡◌, ◌⊎◌, ℕ, Bool, List, ◌∷◌, ◌++◌, map, Option, Some, None, slice_get, Contains}
+use Rattle.std.specs.Prelude.{◌≡◌, ◌⊎◌, ◌↔◌, ℕ, Bool, List, ◌∷◌, ◌++◌, map, Option, Some, None, slice_get, Contains}
 use Rattle.std.specs.List.{AllZip}
 use Rattle.esto_term.specs.declared.term.Term.{Term}
 use Rattle.esto_semantics.specs.Facts.{terms_of}
 use Rattle.esto_term.specs.Sets.{Within}
 use Rattle.esto_semantics.specs.declared.fact.Fact.{Fact}
-use Rattle.esto_chase_laws.specs.Derived.{IsNamed}
+use Rattle.esto_chase_laws.specs.Derived.{IsChain, IsNamed}
 use Rattle.esto_chase_laws.specs.WorldMatches.{AreChosen, Fits, taken}
-use Rattle.esto_chase_laws.specs.Worlds.{InWorld, SaysOne, Linked}
+use Rattle.esto_chase_laws.specs.Worlds.{InWorld, Linked}
 use Rattle.esto_chase_laws.specs.declared.entry.Claim.{Claim}
 use Rattle.esto_chase_laws.specs.declared.entry.Claim.TheVariants.{Fact as Stated, Same}
 use Rattle.esto_chase_laws.specs.declared.entry.Entry.{Entry}
@@ -16,10 +16,31 @@ use Rattle.esto_chase_laws.specs.declared.entry.Entry.{Entry}
 abbrev pub ClaimsIn : List Entry → List Bool → ℕ → Claim → Type 0
 ClaimsIn entries set place claim = (entry : Entry) × (slice_get entries place ≡ Some entry) × Within entry.product set × (entry.claim ≡ claim)
 
--- The entry at the place says in the world of the set that the two terms are one; where there is no place, no entry does.
-abbrev pub IsLink : List Entry → List Bool → Term → Term → Option ℕ → Type 0
-IsLink entries set term other None = (claim : Claim) → InWorld entries set claim → ¬ (SaysOne claim term other)
-IsLink entries set term other (Some place) = (claim : Claim) × ClaimsIn entries set place claim × SaysOne claim term other
+-- The entry at the place says in the world of the set that the two terms are one, in either order.
+abbrev pub SaysOneIn : List Entry → List Bool → ℕ → Term → Term → Type 0
+SaysOneIn entries set place term other = ClaimsIn entries set place (Same term other) ⊎ ClaimsIn entries set place (Same other term)
+
+-- The entry is in the world of the set, and says that two terms are one.
+abbrev pub IsEqualityIn : List Bool → Entry → Type 0
+IsEqualityIn set entry = (left : Term) × (right : Term) × Within entry.product set × (entry.claim ≡ Same left right)
+
+-- The entry at the place says in the world of the set that two terms are one.
+abbrev pub IsLink : List Entry → List Bool → ℕ → Type 0
+IsLink entries set place = (left : Term) × (right : Term) × ClaimsIn entries set place (Same left right)
+
+-- The entries at the places say in the world of the set that two terms are one.
+abbrev pub AreLinks : List Entry → List Bool → List ℕ → Type 0
+AreLinks entries set places = (place : ℕ) → Contains places place → IsLink entries set place
+
+-- The places are those of all equalities in the world of the set.
+abbrev pub AreAllLinks : List Entry → List Bool → List ℕ → Type 0
+AreAllLinks entries set places = (place : ℕ) → Contains places place ↔ IsLink entries set place
+
+-- The entries at the places are a chain of equalities of the world of the set from the one term to the other; where there are no places, the terms are not one
+-- in the world.
+abbrev pub IsChainIn : List Entry → List Bool → Term → Term → Option (List ℕ) → Type 0
+IsChainIn entries set term other None = ¬ (Linked (InWorld entries set) term other)
+IsChainIn entries set term other (Some places) = AreLinks entries set places × IsChain entries places term other
 
 -- The terms `from` have met the terms `to`. The chosen facts hold and go on with the body: each of their terms is one with what the body's term at its place
 -- meets first.
@@ -57,12 +78,8 @@ IsFoundIfOne entries set from to terms others body places =
     (AllZip (Linked (InWorld entries set)) others (map (taken from to) terms) × IsFound entries set from to body places)
     ⊎ (¬ (AllZip (Linked (InWorld entries set)) others (map (taken from to) terms)) × (places ≡ None))
 
--- The entries at the places say in the world of the set that two terms are one.
-abbrev pub AreLinks : List Entry → List Bool → List ℕ → Type 0
-AreLinks entries set places = (place : ℕ) → Contains places place → (left : Term) × (right : Term) × ClaimsIn entries set place (Same left right)
-
 -- The new places are the old ones, and such that the two terms are one by what they name.
-pub record AddsLink (entries : List Entry) (set : List Bool) (term other : Term) (old new : List ℕ) : Type 0 where
+pub record AddsChain (entries : List Entry) (set : List Bool) (term other : Term) (old new : List ℕ) : Type 0 where
   pub keeps : (place : ℕ) → Contains old place → Contains new place
   pub are : AreLinks entries set old → AreLinks entries set new
   pub one : Linked (IsNamed entries new) term other

@@ -7,12 +7,11 @@ ghost use Rattle.esto_semantics.specs.Facts.{terms_of};
 ghost use Rattle.esto_chase_laws.specs.Derived.{AreDerived, IsNamed};
 ghost use Rattle.esto_chase_laws.specs.WorldLaws.{AreReasoned, HasMatch};
 ghost use Rattle.esto_chase_laws.specs.WorldMatches.{Fits};
-ghost use Rattle.esto_chase_laws.specs.WorldSteps.{AreJoined};
 ghost use Rattle.esto_chase_laws.specs.Worlds.{AreOfCount, InWorld, Linked};
 ghost use Rattle.esto_derive.specs.Marking.{AreUsed};
 ghost use Rattle.esto_condchase.specs.Evidence.{AreEntriesOf};
 ghost use Rattle.esto_cert.specs.Judging.{DecidesFor};
-ghost use Rattle.esto_derive.specs.Searching.{AreLinks, IsFound};
+ghost use Rattle.esto_derive.specs.Searching.{AreAllLinks, AreLinks, IsFound};
 ghost use Rattle.esto_derive.specs.Writing.{terms_at, IsWrittenFor, IsWrittenOf, WritesMatch};
 ghost use Rattle.esto_semantics.specs.Containment.{IsSatisfiable};
 ghost use Rattle.esto_semantics.specs.Listed.{IsListed};
@@ -21,7 +20,7 @@ ghost use Rattle.esto_views.specs.Fragments.{views_of, patterns_of};
 ghost use Rattle.esto_views.specs.Plans.{plan_query};
 
 use crate::marking::close_with;
-use crate::searching::World;
+use crate::world::{World, all_links};
 use crate::writing::{Writer, terms_at};
 use esto_bits::RowBits;
 use esto_chase_laws::derived_entries_are_reasoned;
@@ -67,8 +66,7 @@ fn links_for(
     body: &[Atom],
     facts: &[usize],
 ) -> Result<List<usize>, OutOfMemory>
-    requires counts { AreOfCount (length world.now.set.now) world.now.entries.now }
-    requires joined { AreJoined world.now.entries.now world.now.entries.now }
+    requires links { AreAllLinks world.now.entries.now world.now.set.now world.now.links.now }
     requires there { (place : ℕ) → Contains facts.now place
         → place < length world.now.entries.now }
     requires fits { Fits (Linked (InWorld world.now.entries.now world.now.set.now))
@@ -121,7 +119,7 @@ fn write_found(
     facts: &[usize],
 ) -> Result<Bytes, OutOfMemory>
     requires counts { AreOfCount (length world.now.set.now) world.now.entries.now }
-    requires joined { AreJoined world.now.entries.now world.now.entries.now }
+    requires links { AreAllLinks world.now.entries.now world.now.set.now world.now.links.now }
     requires derived { (expanded : List ExpandedFact)
         × AreDerived expanded (rules_of rules.now) world.now.entries.now }
     requires lengths { length targets.now ≡ length query.now.head }
@@ -137,8 +135,32 @@ fn write_found(
     write_by(alloc, world.entries, rules, facts, links.items())
 }
 
-/// Writes a certificate of a match of the query in the set's world.
+/// Writes a certificate of a match of the query in the world.
 fn write_match(
+    alloc: Global,
+    world: &World,
+    targets: &Terms,
+    query: &Query,
+    rules: &[Constraint],
+) -> Result<Bytes, OutOfMemory>
+    requires counts { AreOfCount (length world.now.set.now) world.now.entries.now }
+    requires links { AreAllLinks world.now.entries.now world.now.set.now world.now.links.now }
+    requires derived { (expanded : List ExpandedFact)
+        × AreDerived expanded (rules_of rules.now) world.now.entries.now }
+    requires found { HasMatch (InWorld world.now.entries.now world.now.set.now) query.now.head
+        query.now.body targets.now }
+    ensures { IfOk result (IsWrittenOf world.now.set.now rules.now query.now targets.now
+        world.now.entries.now) }
+{
+    let body = query.body.items();
+    let Some(facts) = world.find(alloc, &query.head, targets, body)? else {
+        unreachable!()
+    };
+    write_found(alloc, world, targets, query, rules, facts.items())
+}
+
+/// Writes a certificate of a match of the query in the set's world.
+fn write_in(
     alloc: Global,
     set: &RowBits,
     targets: &Terms,
@@ -147,19 +169,19 @@ fn write_match(
     rules: &[Constraint],
 ) -> Result<Bytes, OutOfMemory>
     requires counts { AreOfCount (length set.now) entries.now }
-    requires joined { AreJoined entries.now entries.now }
     requires derived { (expanded : List ExpandedFact)
         × AreDerived expanded (rules_of rules.now) entries.now }
     requires found { HasMatch (InWorld entries.now set.now) query.now.head query.now.body
         targets.now }
     ensures { IfOk result (IsWrittenOf set.now rules.now query.now targets.now entries.now) }
 {
-    let world = World { entries, set };
-    let body = query.body.items();
-    let Some(facts) = world.find(alloc, &query.head, targets, body)? else {
-        unreachable!()
+    let links = all_links(alloc, entries, set)?;
+    let world = World {
+        entries,
+        set,
+        links: links.items(),
     };
-    write_found(alloc, &world, targets, query, rules, facts.items())
+    write_match(alloc, &world, targets, query, rules)
 }
 
 /// Writes a certificate that the set's candidate is contained in the query, from the entries of the conditional chase of the
@@ -182,7 +204,6 @@ pub fn write_certificate(
         (patterns_of catalogue.now.fragments) (query_of query.now) (plan_query plan.now) set.now }
     requires entries { AreEntriesOf catalogue.now.fragments catalogue.now.rules catalogue.now.ranks
         plan.now entries.now }
-    requires joined { AreJoined entries.now entries.now }
     ensures written { IfOk result
         (IsWrittenFor catalogue.now query.now plan.now set.now entries.now) }
     ensures accepted { IfOk result (λ bytes. DecidesFor plan.now catalogue.now.fragments set.now
@@ -192,5 +213,5 @@ pub fn write_certificate(
     queries_are_sound();
     entries_decide_answers();
     let rules = catalogue.rules.items();
-    write_match(alloc, set, &plan.head, query, entries.items(), rules)
+    write_in(alloc, set, &plan.head, query, entries.items(), rules)
 }

@@ -3,11 +3,13 @@
 #![tactic(auto)]
 
 mod certificate;
+mod chains;
 mod lines;
 mod marking;
 mod placing;
 mod printing;
 mod searching;
+mod world;
 mod writing;
 
 pub use certificate::write_certificate;

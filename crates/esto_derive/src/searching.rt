@@ -5,22 +5,14 @@ ghost use Rattle.esto_semantics.specs.declared.fact.Fact.{Fact};
 ghost use Rattle.esto_term.specs.declared.term.Term.{Term};
 ghost use Rattle.esto_chase_laws.specs.Derived.{IsNamed};
 ghost use Rattle.esto_chase_laws.specs.WorldMatches.{Fits, taken};
-ghost use Rattle.esto_chase_laws.specs.WorldSteps.{AreJoined};
 ghost use Rattle.esto_chase_laws.specs.Worlds.{AreOfCount, InWorld, Linked};
-ghost use Rattle.esto_derive.specs.Searching.{IsLink, IsFound, IsFoundAfter, IsFoundBy, IsFoundIfOne, AreLinks, AddsLink};
+ghost use Rattle.esto_derive.specs.Searching.{AddsChain, AreAllLinks, AreLinks, IsFound, IsFoundAfter, IsFoundBy, IsFoundIfOne};
 
-use esto_bits::RowBits;
+use crate::world::World;
 use esto_prov::{Claim, Entry, followed, taken_terms};
 use esto_semantics::Atom;
 use esto_term::{List, OutOfMemory, Term, Terms};
 use std::alloc::Global;
-
-/// The world of a set: what the entries claim whose products are within it.
-#[derive(Clone, Copy)]
-pub struct World<'a> {
-    pub entries: &'a [Entry],
-    pub set: &'a RowBits,
-}
 
 /// The places with one more before them, where there are places.
 fn with_first(place: usize, places: Option<List<usize>>) -> Result<Option<List<usize>>, OutOfMemory>
@@ -37,48 +29,21 @@ fn with_first(place: usize, places: Option<List<usize>>) -> Result<Option<List<u
 }
 
 impl World<'_> {
-    /// The first entry of the world that says that the terms are one.
-    fn link(&self, term: &Term, other: &Term) -> Option<usize>
-        requires counts { AreOfCount (length self.now.set.now) self.now.entries.now }
-        ensures { IsLink self.now.entries.now self.now.set.now term.now other.now result }
-    {
-        'entries: for (place, entry) in self.entries.iter().enumerate() {
-            if entry.product.within(self.set) && entry.claim.says_one(term, other) {
-                return Some(place);
-            }
-        }
-        None
-    }
-
-    /// Whether the terms are one in the world.
-    fn is_one(&self, term: &Term, other: &Term) -> bool
-        requires counts { AreOfCount (length self.now.set.now) self.now.entries.now }
-        requires joined { AreJoined self.now.entries.now self.now.entries.now }
-        ensures { IsTrue result
-            ↔ Linked (InWorld self.now.entries.now self.now.set.now) term.now other.now }
-    {
-        if term.equal(other) {
-            return true;
-        }
-        self.link(term, other).is_some()
-    }
-
     /// Whether the terms are one in the world, place by place.
-    fn are_one(&self, terms: &[Term], others: &[Term]) -> bool
-        requires counts { AreOfCount (length self.now.set.now) self.now.entries.now }
-        requires joined { AreJoined self.now.entries.now self.now.entries.now }
-        ensures { IsTrue result ↔ AllZip
-            (Linked (InWorld self.now.entries.now self.now.set.now)) terms.now others.now }
+    fn are_one(&self, alloc: Global, terms: &[Term], others: &[Term]) -> Result<bool, OutOfMemory>
+        requires { AreAllLinks self.now.entries.now self.now.set.now self.now.links.now }
+        ensures { IfOk result (λ answer. IsTrue answer ↔ AllZip
+            (Linked (InWorld self.now.entries.now self.now.set.now)) terms.now others.now) }
     {
         if terms.len() != others.len() {
-            return false;
+            return Ok(false);
         }
         'places: for place in 0..terms.len() {
-            if !self.is_one(&terms[place], &others[place]) {
-                return false;
+            if !self.is_one(alloc, &terms[place], &others[place])? {
+                return Ok(false);
             }
         }
-        true
+        Ok(true)
     }
 
     /// Entries of facts in the world that match the body, if there are any, where terms that have been met go on to meet
@@ -92,7 +57,7 @@ impl World<'_> {
         body: &[Atom],
     ) -> Result<Option<List<usize>>, OutOfMemory>
         requires counts { AreOfCount (length self.now.set.now) self.now.entries.now }
-        requires joined { AreJoined self.now.entries.now self.now.entries.now }
+        requires links { AreAllLinks self.now.entries.now self.now.set.now self.now.links.now }
         requires lengths { length from.now ≡ length to.now }
         requires fits { Fits (Linked (InWorld self.now.entries.now self.now.set.now))
             from.now to.now }
@@ -125,7 +90,7 @@ impl World<'_> {
         entry: &Entry,
     ) -> Result<Option<List<usize>>, OutOfMemory>
         requires counts { AreOfCount (length self.now.set.now) self.now.entries.now }
-        requires joined { AreJoined self.now.entries.now self.now.entries.now }
+        requires links { AreAllLinks self.now.entries.now self.now.set.now self.now.links.now }
         requires lengths { length from.now ≡ length to.now }
         requires fits { Fits (Linked (InWorld self.now.entries.now self.now.set.now))
             from.now to.now }
@@ -157,7 +122,7 @@ impl World<'_> {
         fact: &Atom,
     ) -> Result<Option<List<usize>>, OutOfMemory>
         requires counts { AreOfCount (length self.now.set.now) self.now.entries.now }
-        requires joined { AreJoined self.now.entries.now self.now.entries.now }
+        requires links { AreAllLinks self.now.entries.now self.now.set.now self.now.links.now }
         requires lengths { length from.now ≡ length to.now }
         requires fits { Fits (Linked (InWorld self.now.entries.now self.now.set.now))
             from.now to.now }
@@ -185,7 +150,7 @@ impl World<'_> {
         body: &[Atom],
     ) -> Result<Option<List<usize>>, OutOfMemory>
         requires counts { AreOfCount (length self.now.set.now) self.now.entries.now }
-        requires joined { AreJoined self.now.entries.now self.now.entries.now }
+        requires links { AreAllLinks self.now.entries.now self.now.set.now self.now.links.now }
         requires lengths { length from.now ≡ length to.now }
         requires fits { AllZip (Linked (InWorld self.now.entries.now self.now.set.now)) others.now
             (map (taken from.now to.now) terms.now)
@@ -194,32 +159,33 @@ impl World<'_> {
             terms.now others.now body.now) }
     {
         let met = taken_terms(alloc, from.items(), to.items(), terms.items())?;
-        if self.are_one(others.items(), met.items()) {
+        let fits = self.are_one(alloc, others.items(), met.items())?;
+        if fits {
             return self.find(alloc, from, to, body);
         }
         Ok(None)
     }
 
-    /// Adds an entry that says that the terms are one, unless they are equal.
-    fn put_link(
+    /// Adds the entries of a chain of equalities from the one term to the other.
+    fn put_chain(
         &self,
+        alloc: Global,
         term: &Term,
         other: &Term,
         links: &mut List<usize>,
     ) -> Result<(), OutOfMemory>
-        requires counts { AreOfCount (length self.now.set.now) self.now.entries.now }
-        requires joined { AreJoined self.now.entries.now self.now.entries.now }
+        requires links { AreAllLinks self.now.entries.now self.now.set.now self.now.links.now }
         requires one { Linked (InWorld self.now.entries.now self.now.set.now) term.now other.now }
-        ensures { OnOk result (AddsLink self.now.entries.now self.now.set.now term.now other.now
+        ensures { OnOk result (AddsChain self.now.entries.now self.now.set.now term.now other.now
             links.old links.new) }
     {
         if term.equal(other) {
             return Ok(());
         }
-        match self.link(term, other) {
-            Some(place) => links.push(place),
-            None => Ok(()),
-        }
+        let Some(chain) = self.chain(alloc, term, other)? else {
+            unreachable!()
+        };
+        links.append(chain)
     }
 
     /// Entries of equalities in the world by which each of the terms is one with what the term at its place meets first.
@@ -229,8 +195,7 @@ impl World<'_> {
         from: &[Term],
         to: &[Term],
     ) -> Result<List<usize>, OutOfMemory>
-        requires counts { AreOfCount (length self.now.set.now) self.now.entries.now }
-        requires joined { AreJoined self.now.entries.now self.now.entries.now }
+        requires links { AreAllLinks self.now.entries.now self.now.set.now self.now.links.now }
         requires fits { Fits (Linked (InWorld self.now.entries.now self.now.set.now))
             from.now to.now }
         ensures are { IfOk result (AreLinks self.now.entries.now self.now.set.now) }
@@ -248,8 +213,7 @@ impl World<'_> {
         terms: &[Term],
         others: &[Term],
     ) -> Result<List<usize>, OutOfMemory>
-        requires counts { AreOfCount (length self.now.set.now) self.now.entries.now }
-        requires joined { AreJoined self.now.entries.now self.now.entries.now }
+        requires links { AreAllLinks self.now.entries.now self.now.set.now self.now.links.now }
         requires one { AllZip (Linked (InWorld self.now.entries.now self.now.set.now))
             terms.now others.now }
         ensures are { IfOk result (AreLinks self.now.entries.now self.now.set.now) }
@@ -258,7 +222,7 @@ impl World<'_> {
     {
         let mut links = List::new(alloc);
         'places: for (place, term) in terms.iter().enumerate() {
-            self.put_link(term, &others[place], &mut links)?;
+            self.put_chain(alloc, term, &others[place], &mut links)?;
         }
         Ok(links)
     }

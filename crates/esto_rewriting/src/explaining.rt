@@ -1,6 +1,5 @@
 //! The command `explain`.
 ghost use Rattle.std.specs.Prelude.{IfOk, None};
-ghost use Rattle.esto_chase_laws.specs.WorldSteps.{AreJoined};
 ghost use Rattle.esto_condchase.specs.Evidence.{AreEntriesOf};
 ghost use Rattle.esto_status.specs.Answers.{Answers};
 ghost use Rattle.esto_rewriting.specs.Choice.{IsItemOf};
@@ -35,7 +34,6 @@ fn certificate_of(
     requires planned { IsPlanned catalogue.now query.now plan.now }
     requires entries { AreEntriesOf catalogue.now.fragments catalogue.now.rules catalogue.now.ranks
         plan.now entries.now }
-    requires joined { AreJoined entries.now entries.now }
     requires item { IsItemOf catalogue.now query.now plan.now item.now }
     ensures { IfOk result
         (λ bytes. HasVerdict catalogue.now query.now plan.now item.now.set bytes None) }

@@ -8,24 +8,28 @@ use Rattle.esto_derive.proofs.MatchLemmas.{head_fits}
 use Rattle.esto_derive.proofs.certificate.write_match.Goals as goal
 
 pub find-requires-clause-fits : goal.find-requires-clause-fits
-find-requires-clause-fits c = head_fits (InWorld c.args.entries.now c.args.set.now) c.args.query.now.head c.args.query.now.body c.args.targets.now
-    c.requires.found
+find-requires-clause-fits c =
+    let world = c.args.world.now in
+    head_fits (InWorld world.entries.now world.set.now) c.args.query.now.head c.args.query.now.body c.args.targets.now c.requires.found
 
 pub unreachable-requires : goal.unreachable-requires
 unreachable-requires c =
-    found_some c.args.entries.now c.args.set.now c.args.query.now.head c.args.targets.now c.args.query.now.body c.requires.found c.in_ok-facts.field-0
-    (subst (λ (it : List (Fact Term)). IsFound c.args.entries.now c.args.set.now c.args.query.now.head c.args.targets.now it c.in_ok-facts.field-0)
+    let world = c.args.world.now in
+    found_some world.entries.now world.set.now c.args.query.now.head c.args.targets.now c.args.query.now.body c.requires.found c.in_ok-facts.field-0
+    (subst (λ (it : List (Fact Term)). IsFound world.entries.now world.set.now c.args.query.now.head c.args.targets.now it c.in_ok-facts.field-0)
     c.items-body.ensures c.in_ok-facts.ensures)
     c.in_default.is
 
 pub write_found-requires-clause-lengths : goal.write_found-requires-clause-lengths
 write_found-requires-clause-lengths c =
-    head_lengths c.args.entries.now c.args.set.now c.args.query.now.head c.args.targets.now c.args.query.now.body c.requires.found
+    let world = c.args.world.now in
+    head_lengths world.entries.now world.set.now c.args.query.now.head c.args.targets.now c.args.query.now.body c.requires.found
 
 pub write_found-requires-clause-found : goal.write_found-requires-clause-found
 write_found-requires-clause-found c =
-    subst (λ (it : List ℕ). IsFound c.args.entries.now c.args.set.now c.args.query.now.head c.args.targets.now c.args.query.now.body (Some it))
+    let world = c.args.world.now in
+    subst (λ (it : List ℕ). IsFound world.entries.now world.set.now c.args.query.now.head c.args.targets.now c.args.query.now.body (Some it))
     (sym c.items.ensures)
-    (subst (λ (it : List (Fact Term)). IsFound c.args.entries.now c.args.set.now c.args.query.now.head c.args.targets.now it (Some c.in-Some.facts))
+    (subst (λ (it : List (Fact Term)). IsFound world.entries.now world.set.now c.args.query.now.head c.args.targets.now it (Some c.in-Some.facts))
     c.items-body.ensures
-    (subst (IsFound c.args.entries.now c.args.set.now c.args.query.now.head c.args.targets.now c.items-body.result.now) c.in-Some.is c.in_ok-facts.ensures))
+    (subst (IsFound world.entries.now world.set.now c.args.query.now.head c.args.targets.now c.items-body.result.now) c.in-Some.is c.in_ok-facts.ensures))

@@ -1,7 +1,7 @@
 use Rattle.std.proofs.Common.{refl, arith}
 use Rattle.esto_chase_laws.specs.Worlds.{InWorld, Linked}
 use Rattle.esto_derive.proofs.FoundLemmas.{related_all}
-use Rattle.esto_derive.proofs.searching.World.are_one.Goals as goal
+use Rattle.esto_derive.proofs.world.World.are_one.Goals as goal
 
 pub returns : goal.returns
 returns c = (

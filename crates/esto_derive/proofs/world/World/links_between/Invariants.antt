@@ -2,7 +2,7 @@ use Rattle.esto_chase_laws.specs.Derived.{IsNamed}
 use Rattle.esto_chase_laws.specs.Worlds.{Linked}
 use Rattle.esto_derive.specs.Searching.{AreLinks}
 use Rattle.esto_derive.proofs.FoundLemmas.{RelatedBelow}
-use Rattle.esto_derive.proofs.searching.World.links_between.Given as goal
+use Rattle.esto_derive.proofs.world.World.links_between.Given as goal
 
 abbrev pub invariant-places : goal.invariant-places
 invariant-places l = record {

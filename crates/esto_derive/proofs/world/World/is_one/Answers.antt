@@ -1,7 +1,7 @@
 use Rattle.std.proofs.Common.{refl, subst}
 use Rattle.esto_chase_laws.specs.Worlds.{InWorld, Linked, here}
-use Rattle.esto_derive.proofs.FoundLemmas.{told}
-use Rattle.esto_derive.proofs.searching.World.is_one.Goals as goal
+use Rattle.esto_derive.proofs.ChainLemmas.{told}
+use Rattle.esto_derive.proofs.world.World.is_one.Goals as goal
 
 pub returns-then-equal : goal.returns-then-equal
 returns-then-equal c = (
@@ -11,5 +11,5 @@ returns-then-equal c = (
 
 pub returns : goal.returns
 returns c =
-    told c.args.self.now.entries.now c.args.self.now.set.now c.args.term.now c.args.other.now c.requires.joined
-    (λ same. let equal = c.equal.ensures.1 same in let not_equal = c.if-equal.false in cc) c.link.result c.link.ensures c.is_some.result c.is_some.ensures
+    told c.args.self.now.entries.now c.args.self.now.set.now c.args.term.now c.args.other.now c.reach.new.reached c.in_ok-found.ensures.are c.in_ok-found.found
+    c.in_ok-found.ensures.found c.is_some.result c.is_some.ensures

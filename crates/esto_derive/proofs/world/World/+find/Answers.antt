@@ -8,7 +8,7 @@ use Rattle.esto_chase_laws.specs.Worlds.{InWorld}
 use Rattle.esto_chase_laws.specs.declared.entry.Entry.{Entry}
 use Rattle.esto_derive.specs.Searching.{IsFound, IsFoundBy}
 use Rattle.esto_derive.proofs.FoundLemmas.{fits_then, found_by, found_if_one, found_none, found_nothing, row_of}
-use Rattle.esto_derive.proofs.searching.World.+find.Goals as goal
+use Rattle.esto_derive.proofs.world.World.+find.Goals as goal
 
 pub find-entries-preserved : goal.find-entries-preserved
 find-entries-preserved t c =
@@ -44,7 +44,7 @@ find_after-find_if_one-requires t c =
       (
         c.requires.counts,
         (
-          c.requires.joined,
+          c.requires.links,
           (
             lengths,
             fits_then (InWorld it.entries.now it.set.now) c.args.from.now c.args.to.now c.requires.lengths c.args.atom.now c.args.fact.now c.requires.fits
@@ -68,26 +68,26 @@ find_if_one-find-requires t c =
     let it = c.args.self.now in
     let row = (row_of (InWorld it.entries.now it.set.now) c.args.from.now c.args.to.now c.args.terms.now c.args.others.now c.items.result.now c.items-2.result.now
     c.items-3.result.now c.items-4.result.now c.in_ok-met.met c.items-5.result.now c.items.ensures c.items-2.ensures c.items-3.ensures c.items-4.ensures
-    c.in_ok-met.ensures c.items-5.ensures).0 (c.are_one.ensures.0 c.if-are_one.true) in (
+    c.in_ok-met.ensures c.items-5.ensures).0 (c.in_ok-fits.ensures.0 c.if-fits.true) in (
       omega (arith, c.decreases),
-      (c.requires.counts, (c.requires.joined, (c.requires.lengths, c.requires.fits row))),
+      (c.requires.counts, (c.requires.links, (c.requires.lengths, c.requires.fits row))),
     )
 
-pub find_if_one-returns-then-are_one : goal.find_if_one-returns-then-are_one
-find_if_one-returns-then-are_one t c =
+pub find_if_one-returns-then-fits : goal.find_if_one-returns-then-fits
+find_if_one-returns-then-fits t c =
     let it = c.args.self.now in
     let row = (row_of (InWorld it.entries.now it.set.now) c.args.from.now c.args.to.now c.args.terms.now c.args.others.now c.items.result.now c.items-2.result.now
     c.items-3.result.now c.items-4.result.now c.in_ok-met.met c.items-5.result.now c.items.ensures c.items-2.ensures c.items-3.ensures c.items-4.ensures
-    c.in_ok-met.ensures c.items-5.ensures).0 (c.are_one.ensures.0 c.if-are_one.true) in
+    c.in_ok-met.ensures c.items-5.ensures).0 (c.in_ok-fits.ensures.0 c.if-fits.true) in
     IfOk-weaker c.find.result _ _ (λ places found. inl (row, found)) c.find.ensures
 
 pub find_if_one-returns : goal.find_if_one-returns
 find_if_one-returns t c =
     let it = c.args.self.now in
     inr (
-      (λ row. let told = c.are_one.ensures.1 ((row_of (InWorld it.entries.now it.set.now) c.args.from.now c.args.to.now c.args.terms.now c.args.others.now c.items.result.now c.items-2.result.now
+      (λ row. let told = c.in_ok-fits.ensures.1 ((row_of (InWorld it.entries.now it.set.now) c.args.from.now c.args.to.now c.args.terms.now c.args.others.now c.items.result.now c.items-2.result.now
           c.items-3.result.now c.items-4.result.now c.in_ok-met.met c.items-5.result.now c.items.ensures c.items-2.ensures c.items-3.ensures c.items-4.ensures
-          c.in_ok-met.ensures c.items-5.ensures).1 row) in let not_told = c.if-are_one.false in cc),
+          c.in_ok-met.ensures c.items-5.ensures).1 row) in let not_told = c.if-fits.false in cc),
       refl,
     )
 

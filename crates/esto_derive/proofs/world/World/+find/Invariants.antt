@@ -1,7 +1,7 @@
 use Rattle.std.proofs.Common.{◌+◌, ◌*◌, length, Contains, None, take}
 use Rattle.esto_chase_laws.specs.declared.entry.Entry.{Entry}
 use Rattle.esto_derive.specs.Searching.{IsFoundBy}
-use Rattle.esto_derive.proofs.searching.World.+find.Given as goal
+use Rattle.esto_derive.proofs.world.World.+find.Given as goal
 
 abbrev pub decreases-find : goal.decreases-find
 decreases-find l = 4 * length l.body.now
