@@ -32,7 +32,7 @@ use Rattle.esto_cert.specs.declared.line.Line.{Line}
 use Rattle.esto_cert.specs.declared.line.Line.TheVariants.{Expanded, Step, Match}
 use Rattle.esto_cert.specs.declared.linking.Equality.{Equality}
 use Rattle.esto_cert.proofs.ShowLemmas.{equal_in, stated_in}
-use Rattle.esto_cert.proofs.WorldLemmas.{made_asked, match_holds, numbered_there}
+use Rattle.esto_cert.proofs.WorldLemmas.{equal_of, made_asked, match_holds, numbered_there}
 
 -- ---- leaves
 
@@ -60,9 +60,6 @@ leaf_of_chain parts leaf inside =
     (part.0, part.1, subst (λ (it : List ℕ). Contains it leaf) (sym part.2) found.2)
 
 -- ---- claim by claim
-
-equal_of : Equality → Claim
-equal_of it = Same it.left it.right
 
 module _ (expanded : List ExpandedFact) (rules : List Rule) (set : List Bool) where
   abbrev pub IsFrom : Claim → Type 0
@@ -109,12 +106,11 @@ module _ (expanded : List ExpandedFact) (rules : List Rule) (set : List Bool) wh
       (why.Expanded fact.atom fact.place, given fact inside, λ leaf own. subst (Has set) (leaf_of_expanded fact.atom fact.place leaf own) has)
 
   module _ (chosen : List (Fact Term)) (equalities : List Equality) (facts : (fact : Fact Term) → Contains chosen fact → IsFrom (Stated fact))
-      (links : (it : Equality) → Contains equalities it → IsFrom (Same it.left it.right)) where
+      (links : (it : Equality) → Contains equalities it → IsFrom (equal_of it)) where
     abbrev named : List Claim
     named = map Stated chosen ++ map equal_of equalities
 
     named_from : (claim : Claim) → Contains named claim → IsFrom claim
-    unfolding equal_of
     named_from claim inside = elim (Contains-append_cases (map Stated chosen) (map equal_of equalities) claim inside) [
       | inl early ↦ (let from = Contains-map_from Stated chosen claim early in subst IsFrom from.2 (facts from.0 from.1))
       | inr later ↦ (let from = Contains-map_from equal_of equalities claim later in subst IsFrom from.2 (links from.0 from.1))
@@ -122,7 +118,6 @@ module _ (expanded : List ExpandedFact) (rules : List Rule) (set : List Bool) wh
 
     step_from : (number place : ℕ) (rule : Rule) (claim : Claim) → slice_get rules number ≡ Some rule
         → IsMatch (IsAmong chosen equalities) (body_of rule) chosen → made_at place number rule (match_map (body_of rule) chosen) ≡ Some claim → IsFrom claim
-    unfolding equal_of
     step_from number place rule claim at matches made =
         let are = all_from named named_from in
         let follows : FollowsFrom number rule named claim = record {
@@ -132,8 +127,8 @@ module _ (expanded : List ExpandedFact) (rules : List Rule) (set : List Bool) wh
           equalities = λ link inside. let from = Contains-map_from equal_of equalities link inside in (from.0.left, from.0.right, sym from.2);
           matches = match_holds (Contains named) chosen equalities
               (λ fact inside. Contains-append_left (map Stated chosen) (map equal_of equalities) (Stated fact) (Contains-map Stated chosen fact inside))
-              (λ s t inside. along (Contains-append_right (map Stated chosen) (map equal_of equalities) (Same s t)
-              (Contains-map equal_of equalities (record { left = s; right = t }) inside)) here) (body_of rule) matches;
+              (λ it inside. Contains-append_right (map Stated chosen) (map equal_of equalities) (equal_of it) (Contains-map equal_of equalities it inside))
+              (body_of rule) matches;
           asked = made_asked place number rule (match_map (body_of rule) chosen) claim made;
         } in (
           why.Step number are.whys,

@@ -1,7 +1,7 @@
 -- What an accepted certificate shows: derived entries of its set, in whose world the query has a match.
 use Rattle.std.proofs.Common.{◌≡◌, ◌⊎◌, inl, inr, ℕ, ◌+◌, ◌-◌, List, [], ◌∷◌, ◌++◌, map, Option, Some, None, Contains, refl, sym, ap, subst}
 use Rattle.std.specs.List.{AllZip}
-use Rattle.std.proofs.lemmas.List.Elements.{Contains-append_cases}
+use Rattle.std.proofs.lemmas.List.Elements.{Contains-push_cases}
 use Rattle.std.proofs.lemmas.Option.{same_Some}
 use Rattle.esto_term.specs.declared.term.Term.{Term}
 use Rattle.esto_term.proofs.ListLemmas.{Contains-cases, Contains-nil}
@@ -9,14 +9,12 @@ use Rattle.esto_term.proofs.ZipLemmas.{zip_weaker}
 use Rattle.esto_semantics.specs.Facts.{terms_of}
 use Rattle.esto_semantics.specs.declared.fact.Fact.{Fact}
 use Rattle.esto_chase_laws.specs.Worlds.{InWorld, Linked}
-use Rattle.esto_chase_laws.specs.WorldMatches.{Touching, match_map}
-use Rattle.esto_chase_laws.specs.WorldSteps.{IsCovered}
+use Rattle.esto_chase_laws.specs.WorldMatches.{match_map}
 use Rattle.esto_chase_laws.specs.WorldLaws.{HasMatch}
 use Rattle.esto_chase_laws.specs.declared.entry.Claim.{Claim}
 use Rattle.esto_chase_laws.specs.declared.entry.Claim.TheVariants.{Fact as Stated, Same}
 use Rattle.esto_chase_laws.specs.declared.entry.Entry.{Entry}
-use Rattle.esto_chase_laws.proofs.GrowLemmas.{InWorld-more, IsCovered-more}
-use Rattle.esto_chase_laws.proofs.LinkLemmas.{Linked-touching}
+use Rattle.esto_chase_laws.proofs.GrowLemmas.{InWorld-more}
 use Rattle.esto_chase_laws.proofs.SoundLemmas.{rows_split}
 use Rattle.esto_chase_laws.proofs.TakenLemmas.{taken-Const}
 use Rattle.esto_cert.specs.Certificates.{Case, numbered, fact_of, equality_of, facts_at, equalities_at, Matches, MayClaim, MayEnd}
@@ -27,7 +25,7 @@ use Rattle.esto_cert.specs.declared.judging.Judged.TheVariants.{Claims, Ends}
 use Rattle.esto_cert.specs.declared.line.Line.{Line}
 use Rattle.esto_cert.specs.declared.line.Line.TheVariants.{Expanded, Step, Match}
 use Rattle.esto_cert.specs.declared.linking.Equality.{Equality}
-use Rattle.esto_cert.proofs.WorldLemmas.{AreOfSet, Grown, given, links_hold, match_holds, numbered_in, numbered_there, stepped}
+use Rattle.esto_cert.proofs.WorldLemmas.{AreOfSet, Grown, equal_of, given, links_hold, match_holds, numbered_in, numbered_there, stepped}
 
 -- ---- what numbers name is claimed
 
@@ -78,30 +76,27 @@ module _ (case : Case) where
   abbrev pub World : List Entry → Claim → Type 0
   World entries = InWorld entries case.set
 
-  -- derived entries of the set cover the claims
-  pub record AreCovered (entries : List Entry) (claims : List Claim) : Type 0 where
+  -- derived entries of the set make the claims
+  pub record AreClaimed (entries : List Entry) (claims : List Claim) : Type 0 where
     pub are : AreOfSet case.expanded case.rules case.set entries
-    pub covered : (claim : Claim) → Contains claims claim → IsCovered (World entries) claim
+    pub holds : (claim : Claim) → Contains claims claim → World entries claim
 
   abbrev pub IsMatched : List Entry → Type 0
   IsMatched entries = HasMatch (World entries) case.query.head case.query.body case.targets
 
-  module _ (entries : List Entry) (claims : List Claim) (world : AreCovered entries claims) where
+  module _ (entries : List Entry) (claims : List Claim) (world : AreClaimed entries claims) where
     module _ (body : List (Fact Term)) (facts links : List ℕ) (found : List (Fact Term)) (equalities : List Equality)
         (matches : Matches claims body facts links found equalities) where
       facts_there : (fact : Fact Term) → Contains found fact → World entries (Stated fact)
-      facts_there fact inside = world.covered (Stated fact) (stated_in claims facts found matches.stated fact inside)
+      facts_there fact inside = world.holds (Stated fact) (stated_in claims facts found matches.stated fact inside)
 
-      links_there : (it : Equality) → Contains equalities it → Touching (World entries) it.left it.right
-      links_there it inside = world.covered (Same it.left it.right) (equal_in claims links equalities matches.named it inside)
-
-      linked_there : (s t : Term) → Contains equalities (record { left = s; right = t }) → Linked (World entries) s t
-      linked_there s t inside = Linked-touching s t (links_there (record { left = s; right = t }) inside)
+      links_there : (it : Equality) → Contains equalities it → World entries (equal_of it)
+      links_there it inside = world.holds (equal_of it) (equal_in claims links equalities matches.named it inside)
 
       matched : (head targets : List Term) → AllZip (Linked (World entries)) targets (map (match_map body found) head)
           → HasMatch (World entries) head body targets
       matched head targets heads =
-          let held = match_holds (World entries) found equalities facts_there linked_there body matches.fits in (
+          let held = match_holds (World entries) found equalities facts_there links_there body matches.fits in (
             match_map body found,
             (λ text. taken-Const (terms_of body) (terms_of found) text),
             (λ atom inside.
@@ -127,17 +122,14 @@ module _ (case : Case) where
         matched case.query.body facts links found equalities matches case.query.head case.targets
         (zip_weaker (Linked (IsAmong found equalities)) (Linked (World entries)) case.targets _ (λ s t _ linked.
         links_hold (World entries) found equalities (facts_there _ facts links found equalities matches)
-        (linked_there _ facts links found equalities matches) s t linked) heads)
+        (links_there _ facts links found equalities matches) s t linked) heads)
 
-    one_more : (claim : Claim) → (grown : Grown case.expanded case.rules case.set entries claim) → AreCovered grown.later (claims ++ claim ∷ [])
+    one_more : (claim : Claim) → (grown : Grown case.expanded case.rules case.set entries claim) → AreClaimed grown.later (claims ++ claim ∷ [])
     one_more claim grown = record {
       are = grown.are;
-      covered = λ other inside. elim (Contains-append_cases claims (claim ∷ []) other inside) [
-        | inl old ↦ IsCovered-more (InWorld-more entries grown.later case.set grown.more) other (world.covered other old)
-        | inr last ↦ elim (Contains-cases claim [] other last) [
-          | inl is ↦ subst (IsCovered (World grown.later)) is grown.covered
-          | inr none ↦ absurd (Contains-nil other none)
-        ]
+      holds = λ other inside. elim (Contains-push_cases claims claim other inside) [
+        | inl old ↦ InWorld-more entries grown.later case.set grown.more other (world.holds other old)
+        | inr is ↦ subst (World grown.later) is grown.holds
       ];
     }
 
@@ -151,7 +143,7 @@ module _ (case : Case) where
     ends_text (Some line) may = ended line may
 
   -- an accepted file has derived entries of the set, in whose world the query has a match
-  pub walked : (parts : List (List ℕ)) (number : ℕ) (entries : List Entry) (claims : List Claim) → AreCovered entries claims
+  pub walked : (parts : List (List ℕ)) (number : ℕ) (entries : List Entry) (claims : List Claim) → AreClaimed entries claims
       → Verdict case claims number parts None → (later : List Entry) × AreOfSet case.expanded case.rules case.set later × IsMatched later
   walked [] number entries claims world wrong = absurd (cc)
   walked (part ∷ []) number entries claims world wrong = absurd (cc)
@@ -162,11 +154,11 @@ module _ (case : Case) where
       (entries, world.are, ends_text entries claims world (line_of part) judged)
   walked (part ∷ next ∷ rest) number entries claims world (inr (judged, wrong)) = absurd (cc)
 
-  pub nothing : AreCovered [] []
+  pub nothing : AreClaimed [] []
   nothing = record {
     are = record {
       derived = λ place entry wrong. absurd (cc);
       within = λ entry inside. absurd (Contains-nil entry inside);
     };
-    covered = λ claim inside. absurd (Contains-nil claim inside);
+    holds = λ claim inside. absurd (Contains-nil claim inside);
   }

@@ -1,57 +1,35 @@
--- Entries that rest on a set alone: what follows from them is covered by more of them.
-use Rattle.std.proofs.Common.{◌≡◌, ◌↔◌, inl, inr, zero, suc, ℕ, ◌==◌, ◌-◌, Bool, true, false, cond, List, [], ◌∷◌, ◌++◌, map, slice_get, option_map, Option}
+-- Entries that rest on a set alone: what follows from them is one more of them.
+use Rattle.std.proofs.Common.{◌≡◌, ◌↔◌, inl, inr, zero, suc, ℕ, ◌==◌, ◌-◌, Bool, true, false, cond, List, [], ◌∷◌, ◌++◌, slice_get, option_map, Option}
 use Rattle.std.proofs.Common.{Some, None, Contains, refl, sym, ap, subst, arith}
 use Rattle.std.specs.List.{AllZip}
 use Rattle.std.proofs.lemmas.Bool.{false≢true}
-use Rattle.std.proofs.lemmas.List.Elements.{Contains-append_left, Contains-append_right, Contains-append_cases}
+use Rattle.std.proofs.lemmas.List.Elements.{Contains-append_left, Contains-append_right, Contains-append_cases, Contains-push, Contains-push_cases}
 use Rattle.std.proofs.lemmas.Option.{slice_get_within}
 use Rattle.esto_term.specs.declared.term.Term.{Term}
-use Rattle.esto_term.proofs.ChoiceLemmas.{Decided, decided_as, decided_both, decided_either}
-use Rattle.esto_term.proofs.DistinctLemmas.{decided_contains}
-use Rattle.esto_term.proofs.ListLemmas.{Contains-at, Contains-cases, Contains-head, Contains-map, Contains-map_from, Contains-nil, Contains-rest}
-use Rattle.esto_term.proofs.ListLemmas.{place-from_Contains}
-use Rattle.esto_term.proofs.ZipLemmas.{zip_weaker}
+use Rattle.esto_term.proofs.ListLemmas.{Contains-at, Contains-cases, Contains-head, Contains-nil, Contains-rest, place-from_Contains}
+use Rattle.esto_term.proofs.ZipLemmas.{zip_left, zip_right, zip_weaker}
 use Rattle.esto_semantics.specs.Facts.{image}
 use Rattle.esto_semantics.specs.Rules.{Rule, tuple, equality, denial, body_of}
 use Rattle.esto_term.specs.Sets.{Has, Within, united}
 use Rattle.esto_semantics.specs.declared.fact.Fact.{Fact}
 use Rattle.esto_term.proofs.SetLemmas.{has_united}
-use Rattle.esto_semantics.proofs.TermLemmas.{decided_term}
-use Rattle.esto_semantics.proofs.FactLemmas.{decided_fact}
 use Rattle.esto_chase_laws.specs.Making.{extended}
 use Rattle.esto_semantics.specs.declared.expanded.ExpandedFact.{ExpandedFact}
 use Rattle.esto_chase_laws.specs.Worlds.{InWorld, Linked}
-use Rattle.esto_chase_laws.specs.WorldMatches.{Touching, match_map, IsMatch}
-use Rattle.esto_chase_laws.specs.WorldSteps.{IsAsked, IsCovered}
-use Rattle.esto_chase_laws.specs.Derived.{Claims, IsNamed, IsUnion, IsEquality, FollowsBy, Follows, AreDerived}
+use Rattle.esto_chase_laws.specs.WorldMatches.{match_map, IsMatch}
+use Rattle.esto_chase_laws.specs.WorldSteps.{IsAsked}
+use Rattle.esto_chase_laws.specs.Derived.{Claims, IsNamed, IsUnion, FollowsBy, Follows, AreDerived}
 use Rattle.esto_chase_laws.specs.declared.entry.Claim.{Claim}
 use Rattle.esto_chase_laws.specs.declared.entry.Claim.TheVariants.{Fact as Stated, Same}
 use Rattle.esto_chase_laws.specs.declared.entry.Reason.{Reason}
 use Rattle.esto_chase_laws.specs.declared.entry.Reason.TheVariants.{Expanded, Step}
 use Rattle.esto_chase_laws.specs.declared.entry.Entry.{Entry}
-use Rattle.esto_chase_laws.proofs.GrowLemmas.{AreDerived-push, InWorld-within, IsCovered-more}
-use Rattle.esto_chase_laws.proofs.LinkLemmas.{Linked-touching, Touching-more}
+use Rattle.esto_chase_laws.proofs.GrowLemmas.{AreDerived-push}
 use Rattle.esto_cert.specs.Certificates.{numbered, made_at}
 use Rattle.esto_cert.specs.Linking.{IsAmong}
 use Rattle.esto_cert.specs.declared.linking.Equality.{Equality}
 use Rattle.esto_cert.proofs.MatchLemmas.{are_chosen, are_like}
-use Rattle.esto_cert.proofs.LinkLemmas.{Linked-through}
-
--- ---- which claims there are is decided
-
-stated_one : (fact other : Fact Term) → Stated fact ≡ Stated other → fact ≡ other
-stated_one fact other same = cc
-
-same_ones : (left right other_left other_right : Term) → Same left right ≡ Same other_left other_right → (left ≡ other_left) × (right ≡ other_right)
-same_ones left right other_left other_right same = (cc, cc)
-
-decided_claim : (claim other : Claim) → Decided (claim ≡ other)
-decided_claim (Stated fact) (Stated other) = decided_as (ap Stated, stated_one fact other) (decided_fact decided_term fact other)
-decided_claim (Stated fact) (Same left right) = inr (λ is. cc)
-decided_claim (Same left right) (Stated fact) = inr (λ is. cc)
-decided_claim (Same left right) (Same other_left other_right) =
-    decided_as ((λ both i. Same (both.0 i) (both.1 i)), same_ones left right other_left other_right)
-    (decided_both (decided_term left other_left) (decided_term right other_right))
+use Rattle.esto_cert.proofs.LinkLemmas.{Linked-said}
 
 -- ---- products
 
@@ -116,11 +94,13 @@ module _ (entries : List Entry) where
 
 -- ---- what chosen facts and equalities say
 
+abbrev pub equal_of : Equality → Claim
+equal_of it = Same it.left it.right
+
 module _ (Holds : Claim → Type 0) (chosen : List (Fact Term)) (equalities : List Equality)
-    (facts : (fact : Fact Term) → Contains chosen fact → Holds (Stated fact))
-    (links : (s t : Term) → Contains equalities (record { left = s; right = t }) → Linked Holds s t) where
+    (facts : (fact : Fact Term) → Contains chosen fact → Holds (Stated fact)) (links : (it : Equality) → Contains equalities it → Holds (equal_of it)) where
   pub links_hold : (s t : Term) → Linked (IsAmong chosen equalities) s t → Linked Holds s t
-  links_hold s t linked = Linked-through links s t linked
+  links_hold s t linked = Linked-said (λ left right. links (record { left = left; right = right })) s t linked
 
   pub match_holds : (body : List (Fact Term)) → IsMatch (IsAmong chosen equalities) body chosen → IsMatch Holds body chosen
   match_holds body matches = (
@@ -163,62 +143,32 @@ module _ (expanded : List ExpandedFact) (rules : List Rule) (set : List Bool) wh
     pub derived : AreDerived expanded rules entries
     pub within : (entry : Entry) → Contains entries entry → Within entry.product set
 
-  -- more such entries, which cover the claim
+  -- more such entries, which claim this too
   pub record Grown (entries : List Entry) (claim : Claim) : Type 0 where
     pub later : List Entry
     pub are : AreOfSet later
     pub more : (entry : Entry) → Contains entries entry → Contains later entry
-    pub covered : IsCovered (InWorld later set) claim
+    pub holds : InWorld later set claim
 
   module _ (entries : List Entry) (are : AreOfSet entries) where
-    in_world : (claim : Claim) → Contains (map (λ (it : Entry). it.claim) entries) claim ↔ InWorld entries set claim
-    in_world claim = (
-      λ inside. let from = Contains-map_from (λ (it : Entry). it.claim) entries claim inside in (from.0, from.1, are.within from.0 from.1, from.2),
-      λ (entry, inside, within, is).
-          subst (Contains (map (λ (it : Entry). it.claim) entries)) is (Contains-map (λ (it : Entry). it.claim) entries entry inside),
-    )
-
-    decided_world : (claim : Claim) → Decided (InWorld entries set claim)
-    decided_world claim = decided_as (in_world claim) (decided_contains decided_claim (map (λ (it : Entry). it.claim) entries) claim)
-
-    decided_covered : (claim : Claim) → Decided (IsCovered (InWorld entries set) claim)
-    decided_covered (Stated fact) = decided_world (Stated fact)
-    decided_covered (Same s t) = decided_either (decided_term s t) (decided_either (decided_world (Same s t)) (decided_world (Same t s)))
-
-    covers : (later : List Entry) (claim : Claim) → InWorld later set claim → IsCovered (InWorld later set) claim
-    covers later (Stated fact) holds = holds
-    covers later (Same s t) holds = inr (inl holds)
-
-    -- what follows from the entries is covered already, or it is one entry more
+    -- what follows from the entries is one entry more
     grown : (claim : Claim) (product : List Bool) (reason : Reason) → Follows expanded rules entries claim product reason → Within product set
         → Grown entries claim
-    grown claim product reason follows within = elim (decided_covered claim) [ inl covered ↦ as_before covered | inr uncovered ↦ pushed uncovered ]
+    grown claim product reason follows within = record {
+      later = entries ++ new ∷ [];
+      are = record {
+        derived = AreDerived-push expanded rules entries new are.derived follows;
+        within = λ entry inside. elim (Contains-push_cases entries new entry inside) [
+          | inl old ↦ are.within entry old
+          | inr is ↦ subst (λ (it : Entry). Within it.product set) is within
+        ];
+      };
+      more = λ entry inside. Contains-append_left entries (new ∷ []) entry inside;
+      holds = (new, Contains-push entries new, within, refl);
+    }
       where
-        as_before : IsCovered (InWorld entries set) claim → Grown entries claim
-        as_before covered = record { later = entries; are = are; more = λ entry inside. inside; covered = covered }
-
         new : Entry
         new = record { claim = claim; product = product; reason = reason }
-
-        pushed : (IsCovered (InWorld entries set) claim → ⊥) → Grown entries claim
-        pushed uncovered = record {
-          later = entries ++ new ∷ [];
-          are = record {
-            derived = AreDerived-push expanded rules entries new are.derived (record {
-              follows = follows;
-              uncovered = λ covered. uncovered (IsCovered-more (InWorld-within entries product set within) claim covered);
-            });
-            within = λ entry inside. elim (Contains-append_cases entries (new ∷ []) entry inside) [
-              | inl old ↦ are.within entry old
-              | inr last ↦ elim (Contains-cases new [] entry last) [
-                | inl is ↦ subst (λ (it : Entry). Within it.product set) is within
-                | inr none ↦ absurd (Contains-nil entry none)
-              ]
-            ];
-          };
-          more = λ entry inside. Contains-append_left entries (new ∷ []) entry inside;
-          covered = covers (entries ++ new ∷ []) claim (new, Contains-append_right entries (new ∷ []) new (Contains-head new []), within, refl);
-        }
 
     -- ---- an expanded fact
 
@@ -229,122 +179,50 @@ module _ (expanded : List ExpandedFact) (rules : List Rule) (set : List Bool) wh
 
     -- ---- a step
 
-    named_more : (places more : List ℕ) → ((place : ℕ) → Contains places place → Contains more place) → (claim : Claim) → IsNamed entries places claim
-        → IsNamed entries more claim
-    named_more places more among claim (place, inside, claims) = (place, among place inside, claims)
+    -- the entry at the place makes the claim that the thing is
+    abbrev ClaimedBy : {X : Type 0} → (X → Claim) → ℕ → X → Type 0
+    ClaimedBy claim_of place thing = Claims entries place (claim_of thing)
 
-    -- the places of facts
-    record AreAt (chosen : List (Fact Term)) : Type 0 where
-      pub places : List ℕ
-      pub stated : AllZip (λ (place : ℕ) (fact : Fact Term). Claims entries place (Stated fact)) places chosen
-      pub each : (place : ℕ) → Contains places place → (claim : Claim) × Claims entries place claim
-      pub named : (fact : Fact Term) → Contains chosen fact → IsNamed entries places (Stated fact)
-
-    facts_at_places : (chosen : List (Fact Term)) → ((fact : Fact Term) → Contains chosen fact → InWorld entries set (Stated fact)) → AreAt chosen
-    facts_at_places [] all = record {
-      places = [];
-      stated = tt;
-      each = λ place inside. absurd (Contains-nil place inside);
-      named = λ fact inside. absurd (Contains-nil fact inside);
-    }
-    facts_at_places (fact ∷ chosen) all =
-        let own = all fact (Contains-head fact chosen) in
+    -- what holds is claimed at places
+    claimed_at : {X : Type 0} (claim_of : X → Claim) (things : List X) → ((thing : X) → Contains things thing → InWorld entries set (claim_of thing))
+        → (places : List ℕ) × AllZip (ClaimedBy claim_of) places things
+    claimed_at claim_of [] all = ([], tt)
+    claimed_at claim_of (thing ∷ things) all =
+        let own = all thing (Contains-head thing things) in
         let at = place-from_Contains entries own.0 own.1 in
-        let rest = facts_at_places chosen (λ other inside. all other (Contains-rest fact chosen other inside)) in record {
-          places = at.0 ∷ rest.places;
-          stated = ((own.0, at.1, own.3), rest.stated);
-          each = λ place inside. elim (Contains-cases at.0 rest.places place inside) [
-            | inl is ↦ (Stated fact, subst (λ (it : ℕ). Claims entries it (Stated fact)) is (own.0, at.1, own.3))
-            | inr later ↦ rest.each place later
-          ];
-          named = λ other inside. elim (Contains-cases fact chosen other inside) [
-            | inl is ↦ (at.0, Contains-head at.0 rest.places, subst (λ (it : Fact Term). Claims entries at.0 (Stated it)) is (own.0, at.1, own.3))
-            | inr later ↦ named_more rest.places (at.0 ∷ rest.places) (λ place own. Contains-rest at.0 rest.places place own) (Stated other)
-                (rest.named other later)
-          ];
-        }
+        let rest = claimed_at claim_of things (λ other inside. all other (Contains-rest thing things other inside)) in
+        (at.0 ∷ rest.0, ((own.0, at.1, own.3), rest.1))
 
-    -- the places of equalities, but for those of a term with itself
-    record AreLinkedAt (equalities : List Equality) : Type 0 where
-      pub places : List ℕ
-      pub each : (place : ℕ) → Contains places place → IsEquality entries place
-      pub touching : (it : Equality) → Contains equalities it → Touching (IsNamed entries places) it.left it.right
-
-    module _ (first : Equality) (rest : List Equality) (are_rest : AreLinkedAt rest) where
-      alone : first.left ≡ first.right → AreLinkedAt (first ∷ rest)
-      alone same = record {
-        places = are_rest.places;
-        each = are_rest.each;
-        touching = λ it inside. elim (Contains-cases first rest it inside) [
-          | inl is ↦ inl (subst (λ (its : Equality). its.left ≡ its.right) is same)
-          | inr later ↦ are_rest.touching it later
-        ];
-      }
-
-      module _ (place : ℕ) (left right : Term) (claims : Claims entries place (Same left right))
-          (touching : Touching (IsNamed entries (place ∷ are_rest.places)) first.left first.right) where
-        with_place : AreLinkedAt (first ∷ rest)
-        with_place = record {
-          places = place ∷ are_rest.places;
-          each = λ other inside. elim (Contains-cases place are_rest.places other inside) [
-            | inl is ↦ subst (IsEquality entries) is (left, right, claims)
-            | inr later ↦ are_rest.each other later
-          ];
-          touching = λ it inside. elim (Contains-cases first rest it inside) [
-            | inl is ↦ subst (λ (its : Equality). Touching (IsNamed entries (place ∷ are_rest.places)) its.left its.right) is touching
-            | inr later ↦ Touching-more
-                (named_more are_rest.places (place ∷ are_rest.places) (λ other own. Contains-rest place are_rest.places other own)) it.left it.right
-                (are_rest.touching it later)
-          ];
-        }
-
-      linked_more : Touching (InWorld entries set) first.left first.right → AreLinkedAt (first ∷ rest)
-      linked_more (inl same) = alone same
-      linked_more (inr (inl (entry, inside, within, is))) =
-          let at = place-from_Contains entries entry inside in
-          with_place at.0 first.left first.right (entry, at.1, is) (inr (inl (at.0, Contains-head at.0 are_rest.places, (entry, at.1, is))))
-      linked_more (inr (inr (entry, inside, within, is))) =
-          let at = place-from_Contains entries entry inside in
-          with_place at.0 first.right first.left (entry, at.1, is) (inr (inr (at.0, Contains-head at.0 are_rest.places, (entry, at.1, is))))
-
-    links_at_places : (equalities : List Equality) → ((it : Equality) → Contains equalities it → Touching (InWorld entries set) it.left it.right)
-        → AreLinkedAt equalities
-    links_at_places [] all = record {
-      places = [];
-      each = λ place inside. absurd (Contains-nil place inside);
-      touching = λ it inside. absurd (Contains-nil it inside);
-    }
-    links_at_places (first ∷ rest) all =
-        linked_more first rest (links_at_places rest (λ it inside. all it (Contains-rest first rest it inside))) (all first (Contains-head first rest))
-
-    -- a rule's step at a match among what is covered
+    -- a rule's step at a match among what holds
     pub stepped : (number place : ℕ) (rule : Rule) (chosen : List (Fact Term)) (equalities : List Equality) (claim : Claim)
         → slice_get rules number ≡ Some rule → ((fact : Fact Term) → Contains chosen fact → InWorld entries set (Stated fact))
-        → ((it : Equality) → Contains equalities it → Touching (InWorld entries set) it.left it.right)
+        → ((it : Equality) → Contains equalities it → InWorld entries set (equal_of it))
         → IsMatch (IsAmong chosen equalities) (body_of rule) chosen → made_at place number rule (match_map (body_of rule) chosen) ≡ Some claim
         → Grown entries claim
     stepped number place rule chosen equalities claim at facts links matches made =
-        let own = facts_at_places chosen facts in
-        let joined = links_at_places equalities links in
-        let places : List ℕ = own.places ++ joined.places in
+        let own = claimed_at Stated chosen facts in
+        let joined = claimed_at equal_of equalities links in
+        let places : List ℕ = own.0 ++ joined.0 in
         let union : IsUnion entries places (union_of entries places) = union_is entries places (λ it inside.
-        elim (Contains-append_cases own.places joined.places it inside) [
-          | inl early ↦ own.each it early
-          | inr later ↦ (let equal = joined.each it later in (Same equal.0 equal.1, equal.2))
+        elim (Contains-append_cases own.0 joined.0 it inside) [
+          | inl early ↦ (let found = zip_left (ClaimedBy Stated) own.0 chosen own.1 it early in (Stated found.0, found.2))
+          | inr later ↦ (let found = zip_left (ClaimedBy equal_of) joined.0 equalities joined.1 it later in (equal_of found.0, found.2))
         ]) in
         let follows : FollowsBy entries number rule places claim = record {
-          facts = own.places;
-          links = joined.places;
+          facts = own.0;
+          links = joined.0;
           in_order = refl;
           chosen = chosen;
-          stated = own.stated;
-          equalities = joined.each;
+          stated = own.1;
+          equalities = λ it inside.
+              let found = zip_left (ClaimedBy equal_of) joined.0 equalities joined.1 it inside in (found.0.left, found.0.right, found.2);
           matches = match_holds (IsNamed entries places) chosen equalities
-              (λ fact inside. named_more own.places places (λ it early. Contains-append_left own.places joined.places it early) (Stated fact)
-              (own.named fact inside))
-              (λ s t inside. Linked-touching s t
-              (Touching-more (named_more joined.places places (λ it later. Contains-append_right own.places joined.places it later)) s t
-              (joined.touching (record { left = s; right = t }) inside))) (body_of rule) matches;
+              (λ fact inside.
+              let found = zip_right (ClaimedBy Stated) own.0 chosen own.1 fact inside in
+              (found.0, Contains-append_left own.0 joined.0 found.0 found.1, found.2))
+              (λ it inside.
+              let found = zip_right (ClaimedBy equal_of) joined.0 equalities joined.1 it inside in
+              (found.0, Contains-append_right own.0 joined.0 found.0 found.1, found.2)) (body_of rule) matches;
           asked = made_asked place number rule (match_map (body_of rule) chosen) claim made;
         } in
         grown claim (union_of entries places) (Step number places) (rule, at, follows, union)

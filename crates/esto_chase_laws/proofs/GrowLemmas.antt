@@ -1,4 +1,4 @@
--- Entries that grow: what was named, covered or derived stays so.
+-- Entries that grow: what was named, covered, derived or new stays so.
 use Rattle.std.proofs.Common.{◌≡◌, ◌⊎◌, ◌<◌, inl, inr, ℕ, Bool, List, [], ◌∷◌, ◌++◌, length, map, take, slice_get, Contains, Some, sym, ap, ◌∙◌, subst, arith}
 use Rattle.std.proofs.Common.{length-append}
 use Rattle.std.proofs.lemmas.List.{take-append-le, take_at}
@@ -15,7 +15,7 @@ use Rattle.esto_term.proofs.ZipLemmas.{zip_weaker}
 use Rattle.esto_chase_laws.specs.Worlds.{InWorld, Linked}
 use Rattle.esto_chase_laws.specs.WorldMatches.{Touching, match_map, IsMatch, IsDirectMatch}
 use Rattle.esto_chase_laws.specs.WorldSteps.{IsCovered}
-use Rattle.esto_chase_laws.specs.Derived.{Claims, IsNamed, IsUnion, IsChain, FollowsBy, Follows, IsNew, AreDerived}
+use Rattle.esto_chase_laws.specs.Derived.{Claims, IsNamed, IsUnion, IsChain, FollowsBy, Follows, AreDerived, AreNew}
 use Rattle.esto_chase_laws.specs.declared.entry.Claim.{Claim}
 use Rattle.esto_chase_laws.specs.declared.entry.Claim.TheVariants.{Fact as Stated, Same}
 use Rattle.esto_chase_laws.specs.declared.entry.Reason.{Reason}
@@ -118,8 +118,17 @@ push_cases xs y place x at = elim (at_pushed xs y place x at) [
 ]
 
 pub AreDerived-push : (expanded : List ExpandedFact) (rules : List Rule) (entries : List Entry) (entry : Entry) → AreDerived expanded rules entries
-    → IsNew expanded rules entries entry → AreDerived expanded rules (entries ++ entry ∷ [])
-AreDerived-push expanded rules entries entry derived new place other at = elim (push_cases entries entry place other at) [
-  | inl both ↦ subst (λ it. IsNew expanded rules it other) (sym both.1) (derived place other both.0)
-  | inr both ↦ subst (λ it. IsNew expanded rules it other) (sym both.1) (subst (IsNew expanded rules entries) both.0 new)
+    → Follows expanded rules entries entry.claim entry.product entry.reason → AreDerived expanded rules (entries ++ entry ∷ [])
+AreDerived-push expanded rules entries entry derived follows place other at = elim (push_cases entries entry place other at) [
+  | inl both ↦ subst (λ its. Follows expanded rules its other.claim other.product other.reason) (sym both.1) (derived place other both.0)
+  | inr both ↦ subst (λ its. Follows expanded rules its other.claim other.product other.reason) (sym both.1)
+      (subst (λ (it : Entry). Follows expanded rules entries it.claim it.product it.reason) both.0 follows)
+]
+
+pub AreNew-push : (entries : List Entry) (entry : Entry) → AreNew entries → ¬ (IsCovered (InWorld entries entry.product) entry.claim)
+    → AreNew (entries ++ entry ∷ [])
+AreNew-push entries entry new uncovered place other at = elim (push_cases entries entry place other at) [
+  | inl both ↦ subst (λ its. ¬ (IsCovered (InWorld its other.product) other.claim)) (sym both.1) (new place other both.0)
+  | inr both ↦ subst (λ its. ¬ (IsCovered (InWorld its other.product) other.claim)) (sym both.1)
+      (subst (λ (it : Entry). ¬ (IsCovered (InWorld entries it.product) it.claim)) both.0 uncovered)
 ]

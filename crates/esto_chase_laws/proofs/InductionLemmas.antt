@@ -21,7 +21,7 @@ module _ (P : Claim → List Bool → Type 0) (expanded : List ExpandedFact) (ru
     upto (suc bound) place it below at =
         step (take place entries) it.claim it.product it.reason
         (λ other among. let found = Contains-take_from entries place other among in upto bound found.0 other (omega (arith, below, found.1)) found.2)
-        (derived place it at).follows
+        (derived place it at)
 
     pub all_derived : (entry : Entry) → Contains entries entry → P entry.claim entry.product
     all_derived entry inside = let at = place-from_Contains entries entry inside in upto (suc at.0) at.0 entry (omega arith) at.1

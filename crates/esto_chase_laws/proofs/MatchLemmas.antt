@@ -65,6 +65,6 @@ reasoned expanded rules entries claim product (Equal places) (some, term, other,
 
 pub are_reasoned : DerivedEntriesAreReasoned
 are_reasoned expanded rules entries count derived counted = record {
-  reasoned = λ place entry at. reasoned expanded rules (take place entries) entry.claim entry.product entry.reason (derived place entry at).follows;
+  reasoned = λ place entry at. reasoned expanded rules (take place entries) entry.claim entry.product entry.reason (derived place entry at);
   counted = λ entry other inside other_inside. counted entry inside ∙ sym (counted other other_inside);
 }

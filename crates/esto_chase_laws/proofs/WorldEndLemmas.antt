@@ -1,4 +1,4 @@
--- Derived entries are no more than the pairs of a claim that may be made and a set of atoms.
+-- Derived entries that are new are no more than the pairs of a claim that may be made and a set of atoms.
 use Rattle.std.proofs.Common.{◌≡◌, ◌<◌, ◌≤◌, suc, ℕ, Bool, List, [], ◌∷◌, length, map, take, slice_get, Contains, Some, refl, sym, ap, subst, arith, inl, inr}
 use Rattle.std.specs.List.{flat_map}
 use Rattle.std.proofs.lemmas.List.{length-map}
@@ -17,11 +17,10 @@ use Rattle.esto_term.proofs.SetLemmas.{within_refl, all_sets_are_listed}
 use Rattle.esto_chase_laws.specs.Bounds.{width_of, run_terms}
 use Rattle.esto_chase_laws.proofs.LowLemmas.{IsLow}
 use Rattle.esto_semantics.specs.Expanded.{facts_of}
-use Rattle.esto_semantics.specs.declared.expanded.ExpandedFact.{ExpandedFact}
 use Rattle.esto_chase_laws.specs.WorldBounds.{start_from, claimed_relations, rows_over, pairs_over, most_claims, claimed_sets}
 use Rattle.esto_chase_laws.specs.Worlds.{InWorld}
 use Rattle.esto_chase_laws.specs.WorldSteps.{IsCovered}
-use Rattle.esto_chase_laws.specs.Derived.{AreDerived}
+use Rattle.esto_chase_laws.specs.Derived.{AreNew}
 use Rattle.esto_chase_laws.specs.WorldLaws.{DerivedFactsNestWithinRanks, DerivedEntriesAreFew}
 use Rattle.esto_chase_laws.specs.declared.entry.Claim.{Claim}
 use Rattle.esto_chase_laws.specs.declared.entry.Claim.TheVariants.{Fact as Stated, Same}
@@ -38,11 +37,11 @@ itself_covered : (before : List Entry) (entry : Entry) (product : List Bool) →
 itself_covered before entry product inside within (Stated fact) is = (entry, inside, within, is)
 itself_covered before entry product inside within (Same left right) is = inr (inl (entry, inside, within, is))
 
-apart : (expanded : List ExpandedFact) (rules : List Rule) (entries : List Entry) → AreDerived expanded rules entries
-    → (i j : ℕ) (x y : Entry) → i < j → slice_get entries i ≡ Some x → slice_get entries j ≡ Some y → pair_of x ≡ pair_of y → ⊥
-apart expanded rules entries derived i j x y below at at_later is =
+apart : (entries : List Entry) → AreNew entries → (i j : ℕ) (x y : Entry) → i < j → slice_get entries i ≡ Some x → slice_get entries j ≡ Some y
+    → pair_of x ≡ pair_of y → ⊥
+apart entries new i j x y below at at_later is =
     let products : x.product ≡ y.product = ap (λ (it : Claim × List Bool). it.1) is in
-    (derived j y at_later).uncovered (itself_covered (take j entries) x y.product (Contains-take entries j i x below at)
+    new j y at_later (itself_covered (take j entries) x y.product (Contains-take entries j i x below at)
     (subst (Within x.product) products (within_refl x.product)) y.claim (ap (λ (it : Claim × List Bool). it.0) is))
 
 distinct_pairs : (entries : List Entry)
@@ -89,9 +88,9 @@ module _ (rules : List Rule) (facts : List (Fact Term)) (rank : ℕ → ℕ) (de
       (Contains-map (λ (set : List Bool). (claim, set)) (all_sets count) set (((all_sets_are_listed count).0 set).1 counted))
 
 pub derived_few : DerivedEntriesAreFew
-derived_few expanded rules entries rank depth count sound flat rise low deep derived counted =
+derived_few expanded rules entries rank depth count sound flat rise low deep derived new counted =
     let short : length (map pair_of entries) ≤ length (claimed_sets rules (facts_of expanded) depth count) =
-    no_more_than (map pair_of entries) (claimed_sets rules (facts_of expanded) depth count) (distinct_pairs entries (apart expanded rules entries derived))
+    no_more_than (map pair_of entries) (claimed_sets rules (facts_of expanded) depth count) (distinct_pairs entries (apart entries new))
     (λ pair inside.
     let found = Contains-map_from pair_of entries pair inside in
     subst (Contains (claimed_sets rules (facts_of expanded) depth count)) found.2

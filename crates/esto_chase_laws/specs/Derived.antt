@@ -1,4 +1,4 @@
--- How an entry follows from those before it.
+-- How an entry follows from those before it, and when it is new beside them.
 use Rattle.std.specs.Prelude.{◌≡◌, ◌≢◌, ◌⊎◌, ◌↔◌, ℕ, ◌<◌, Bool, List, [], ◌∷◌, ◌++◌, Some, length, take, Contains, slice_get}
 use Rattle.std.specs.List.{AllZip}
 use Rattle.esto_term.specs.declared.term.Term.{Term}
@@ -62,12 +62,13 @@ Follows expanded rules entries claim product (Step number places) =
 Follows expanded rules entries claim product (Equal places) =
     (places ≢ []) × (term : Term) × (other : Term) × (claim ≡ Same term other) × IsChain entries places term other × IsUnion entries places product
 
--- The entry follows from the entries, which do not cover it.
-pub record IsNew (expanded : List ExpandedFact) (rules : List Rule) (entries : List Entry) (entry : Entry) : Type 0 where
-  pub follows : Follows expanded rules entries entry.claim entry.product entry.reason
-  pub uncovered : ¬ (IsCovered (InWorld entries entry.product) entry.claim)
-
--- Each entry follows from those before it, and is not covered by them.
+-- Each entry follows from those before it.
 abbrev pub AreDerived : List ExpandedFact → List Rule → List Entry → Type 0
 AreDerived expanded rules entries =
-    (place : ℕ) (entry : Entry) → slice_get entries place ≡ Some entry → IsNew expanded rules (take place entries) entry
+    (place : ℕ) (entry : Entry) → slice_get entries place ≡ Some entry
+    → Follows expanded rules (take place entries) entry.claim entry.product entry.reason
+
+-- No entry is covered by those before it.
+abbrev pub AreNew : List Entry → Type 0
+AreNew entries =
+    (place : ℕ) (entry : Entry) → slice_get entries place ≡ Some entry → ¬ (IsCovered (InWorld (take place entries) entry.product) entry.claim)

@@ -21,7 +21,7 @@ use Rattle.esto_chase_laws.specs.WorldBounds.{most_entries}
 use Rattle.esto_chase_laws.specs.Worlds.{InWorld, AreOfCount, Linked, Reaches, IsClosed, IsBroken, IsDenied}
 use Rattle.esto_chase_laws.specs.WorldMatches.{Touching, match_map, IsDirectMatch}
 use Rattle.esto_chase_laws.specs.WorldSteps.{AreAnswered, AreJoined}
-use Rattle.esto_chase_laws.specs.Derived.{AreDerived, IsUnion}
+use Rattle.esto_chase_laws.specs.Derived.{AreDerived, AreNew, IsUnion}
 use Rattle.esto_chase_laws.specs.declared.entry.Reason.{Reason}
 use Rattle.esto_chase_laws.specs.declared.entry.Reason.TheVariants.{Expanded, Step, Equal}
 use Rattle.esto_chase_laws.specs.declared.entry.Claim.{Claim}
@@ -180,12 +180,13 @@ DerivedFactsNestWithinRanks =
     (expanded : List ExpandedFact) (rules : List Rule) (entries : List Entry) (rank : ℕ → ℕ) → AreRules rules → AreFlat (facts_of expanded)
     → RanksRise rules rank → AreDerived expanded rules entries → AreNestedWithin rank entries
 
--- Under ranks that rise and are at most a depth, derived entries are no more than the bound for that depth.
+-- Under ranks that rise and are at most a depth, derived entries, none of which is covered by those before it, are no more than the bound for that depth.
 abbrev pub DerivedEntriesAreFew : Type 0
 DerivedEntriesAreFew =
     (expanded : List ExpandedFact) (rules : List Rule) (entries : List Entry) (rank : ℕ → ℕ) (depth count : ℕ) → AreRules rules
     → AreFlat (facts_of expanded) → RanksRise rules rank → ((relation : ℕ) → rank relation ≤ depth) → depth < greatest_u64
-    → AreDerived expanded rules entries → AreOfCount count entries → length entries ≤ most_entries rules (facts_of expanded) depth count
+    → AreDerived expanded rules entries → AreNew entries → AreOfCount count entries
+    → length entries ≤ most_entries rules (facts_of expanded) depth count
 
 -- ---- what a list of entries keeps
 

@@ -58,7 +58,7 @@ pub fn matches_rest_on_atoms()
 {}
 
 /// A law: under ranks that rise, the terms of derived facts nest no deeper than the ranks of their relations, and derived
-/// entries are no more than a bound.
+/// entries, none of which is covered by those before it, are no more than a bound.
 pub fn derived_entries_are_bounded()
     ensures nested { DerivedFactsNestWithinRanks }
     ensures few { DerivedEntriesAreFew }

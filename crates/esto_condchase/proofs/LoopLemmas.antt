@@ -13,7 +13,7 @@ use Rattle.esto_term.proofs.ListLemmas.{Contains-nil, Contains-one, Contains-hea
 use Rattle.esto_semantics.specs.declared.expanded.ExpandedFact.{ExpandedFact}
 use Rattle.esto_chase_laws.specs.Worlds.{InWorld}
 use Rattle.esto_chase_laws.specs.WorldSteps.{AreAnswered, AreJoined}
-use Rattle.esto_chase_laws.specs.Derived.{AreDerived}
+use Rattle.esto_chase_laws.specs.Derived.{AreDerived, AreNew}
 use Rattle.esto_semantics.specs.Maps.{AreFlat}
 use Rattle.esto_semantics.specs.Rules.{AreRules}
 use Rattle.esto_term.specs.Nesting.{greatest_u64}
@@ -24,12 +24,12 @@ use Rattle.esto_chase_laws.specs.WorldLaws.{AreGiven, DerivedEntriesAreFew}
 use Rattle.esto_chase_laws.specs.declared.entry.Claim.TheVariants.{Fact as Stated}
 use Rattle.esto_chase_laws.specs.declared.entry.Reason.TheVariants.{Expanded}
 use Rattle.esto_chase_laws.specs.declared.entry.Entry.{Entry}
-use Rattle.esto_chase_laws.proofs.GrowLemmas.{InWorld-more, AreDerived-push}
+use Rattle.esto_chase_laws.proofs.GrowLemmas.{InWorld-more}
 use Rattle.esto_chase_laws.specs.Worlds.{AreOfCount}
 use Rattle.esto_condchase.specs.Rounds.{IsEntryOf}
 use Rattle.esto_known.specs.Added.{IsAdded, IsGrownBy}
 use Rattle.esto_term.proofs.PlaceLemmas.{take-item}
-use Rattle.esto_known.proofs.CoverLemmas.{added_there, added_keeps}
+use Rattle.esto_known.proofs.CoverLemmas.{added_there, added_keeps, added_derived, added_new}
 
 pub one_number : (set : List Bool) (atom : ℕ) → ((number : ℕ) → Has set number ↔ Contains (atom ∷ []) number)
     → (number : ℕ) → Has set number ↔ (number ≡ atom)
@@ -45,12 +45,14 @@ answered_same its rules old new same answered = subst (λ it. AreAnswered (rules
 -- the entries of the expanded facts so far
 pub record GivenSoFar (facts : List ExpandedFact) (count place : ℕ) (entries : List Entry) : Type 0 where
   pub derived : (rules : List Rule) → AreDerived facts rules entries
+  pub new : AreNew entries
   pub counted : AreOfCount count entries
   pub given : AreGiven (take place facts) entries
 
 pub given_none : (facts : List ExpandedFact) (count : ℕ) (entries : List Entry) → entries ≡ [] → GivenSoFar facts count 0 entries
 given_none facts count entries none = rw none record {
   derived = λ rules place entry at. absurd (cc);
+  new = λ place entry at. absurd (cc);
   counted = λ entry inside. absurd (Contains-nil entry inside);
   given = λ fact inside. absurd (Contains-nil fact inside);
 }
@@ -60,11 +62,9 @@ pub given_turn : (facts : List ExpandedFact) (count place : ℕ) (fact : Expande
     → ((number : ℕ) → Has product number ↔ (number ≡ fact.atom)) → IsAdded entries (Stated it) product (Expanded fact.atom fact.place) later
     → GivenSoFar facts count place entries → GivenSoFar facts count (place + 1) later
 given_turn facts count place fact entries later it product within is it_is counted has added so_far = record {
-  derived = λ rules. elim added [
-    | inl same ↦ subst (AreDerived facts rules) (sym same.1) (so_far.derived rules)
-    | inr new ↦ subst (AreDerived facts rules) (sym new.1) (AreDerived-push facts rules entries entry_of (so_far.derived rules)
-        (record { follows = (fact, (place, within, sym is), refl, refl, ap Stated it_is, has); uncovered = new.0 }))
-  ];
+  derived = λ rules. added_derived entries later entry_of added facts rules (fact, (place, within, sym is), refl, refl, ap Stated it_is, has)
+      (so_far.derived rules);
+  new = added_new entries later entry_of added so_far.new;
   counted = elim added [
     | inl same ↦ subst (AreOfCount count) (sym same.1) so_far.counted
     | inr new ↦ subst (AreOfCount count) (sym new.1) (λ entry inside. elim
@@ -115,11 +115,11 @@ module _ (facts : List ExpandedFact) (rules : List Rule) (count : ℕ) (entries 
 
   -- an entry more is a pair less
   pub turn_falls : DerivedEntriesAreFew → (rank : ℕ → ℕ) (depth : ℕ) → AreRules rules → AreFlat (facts_of facts) → RanksRise rules rank
-      → ((relation : ℕ) → rank relation ≤ depth) → depth < greatest_u64 → AreDerived facts rules entries → AreOfCount count later
+      → ((relation : ℕ) → rank relation ≤ depth) → depth < greatest_u64 → AreDerived facts rules entries → AreNew entries → AreOfCount count later
       → (length later ≡ length entries → ⊥)
       → most_entries rules (facts_of facts) depth count - length later < most_entries rules (facts_of facts) depth count - length entries
-  turn_falls few rank depth sound flat rise low deep derived counted some =
-      let bound = few facts rules later rank depth count sound flat rise low deep (grown.derived facts derived) counted in
+  turn_falls few rank depth sound flat rise low deep derived new counted some =
+      let bound = few facts rules later rank depth count sound flat rise low deep (grown.derived facts derived) (grown.new new) counted in
       let long = ap length grown.more.1 ∙ length-append entries grown.more.0 in
       by (length grown.more.0) long bound
     where

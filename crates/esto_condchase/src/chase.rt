@@ -7,7 +7,7 @@ ghost use Rattle.esto_constraint.specs.Graphs.{IsWithin, AreRanks};
 ghost use Rattle.esto_constraint.specs.Relations.{IsEdge};
 ghost use Rattle.esto_semantics.specs.Expanded.{facts_of};
 ghost use Rattle.esto_semantics.specs.declared.expanded.ExpandedFact.{ExpandedFact};
-ghost use Rattle.esto_chase_laws.specs.Derived.{AreDerived};
+ghost use Rattle.esto_chase_laws.specs.Derived.{AreDerived, AreNew};
 ghost use Rattle.esto_chase_laws.specs.WorldLaws.{AreGiven, IsSound, IsReceivedNowhere, IsDatabase, AreNestedWithin};
 ghost use Rattle.esto_chase_laws.specs.WorldSteps.{AreAnswered, AreJoined};
 ghost use Rattle.esto_chase_laws.specs.Worlds.{InWorld, AreOfCount, IsClosed, IsBroken, IsDenied};
@@ -72,6 +72,7 @@ fn give_all(
     requires atoms { (fact : ExpandedFact) → Contains facts.now fact → fact.atom < atoms }
     requires none { entries.old ≡ [] }
     ensures derived { OnOk result ((rules : List Rule) → AreDerived facts.now rules entries.new) }
+    ensures new { OnOk result (AreNew entries.new) }
     ensures counted { OnOk result (AreOfCount atoms entries.new) }
     ensures given { OnOk result (AreGiven facts.now entries.new) }
 {
@@ -104,7 +105,8 @@ fn next(
 }
 
 /// The entries of the expanded facts and the rounds, to the end, where there are no entries yet: each entry follows from
-/// those before it, each expanded fact is a fact of each world that has its atom, and no rule and no link asks for more.
+/// those before it, which do not cover it, each expanded fact is a fact of each world that has its atom, and no rule and no
+/// link asks for more.
 fn rounds(
     alloc: Global,
     facts: &ExpandedFacts,
@@ -119,6 +121,7 @@ fn rounds(
     requires ranks { AreRanks (IsEdge (rules_of rules.now)) (length ranks.now) ranks.now }
     requires none { entries.old ≡ [] }
     ensures derived { OnOk result (AreDerived facts.now (rules_of rules.now) entries.new) }
+    ensures new { OnOk result (AreNew entries.new) }
     ensures counted { OnOk result (AreOfCount atoms entries.new) }
     ensures given { OnOk result (AreGiven facts.now entries.new) }
     ensures answered { OnOk result (AreAnswered (rules_of rules.now) entries.new entries.new) }
@@ -153,6 +156,7 @@ fn chased(
     requires within { IsWithin (length ranks.now) (IsEdge (rules_of rules.now)) }
     requires ranks { AreRanks (IsEdge (rules_of rules.now)) (length ranks.now) ranks.now }
     ensures derived { IfOk result (AreDerived facts.now (rules_of rules.now)) }
+    ensures new { IfOk result AreNew }
     ensures counted { IfOk result (AreOfCount atoms) }
     ensures given { IfOk result (AreGiven facts.now) }
     ensures answered { IfOk result
@@ -204,6 +208,7 @@ pub fn chase_with_products(
         → IsReceivedNowhere facts.now (rules_of rules.now) set) }
     ensures bounded { IfOk result (AreNestedWithin (slice_index ranks.now)) }
     ensures derived { IfOk result (AreDerived facts.now (rules_of rules.now)) }
+    ensures new { IfOk result AreNew }
     ensures joined { IfOk result (λ entries. AreJoined entries entries) }
 {
     rules_are_sound();

@@ -54,7 +54,7 @@ module _ (expanded : List ExpandedFact) (rules : List Rule) (entries : List Entr
     (at : slice_get entries place ≡ Some entry) where
   -- the entry of a fact has a line
   pub fact_has_line : (fact : Fact Term) → entry.claim ≡ Stated fact → HasLine entry.reason
-  fact_has_line fact is = by entry.reason (derived place entry at).follows
+  fact_has_line fact is = by entry.reason (derived place entry at)
     where
       by : (its : Reason) → Follows expanded rules (take place entries) entry.claim entry.product its → HasLine its
       by (reason.Expanded atom at_place) follows = tt
@@ -62,7 +62,7 @@ module _ (expanded : List ExpandedFact) (rules : List Rule) (entries : List Entr
       by (reason.Equal places) (some, left, right, claim_is, chain, union) = let wrong : Stated fact ≡ Same left right = sym is ∙ claim_is in cc
 
   pub named_below : NamesEarlier place entry
-  named_below named = by entry.reason (derived place entry at).follows
+  named_below named = by entry.reason (derived place entry at)
     where
       by : (its : Reason) → Follows expanded rules (take place entries) entry.claim entry.product its → Contains (named_by its) named → named < place
       by (reason.Expanded atom at_place) follows inside = absurd (Contains-nil named inside)

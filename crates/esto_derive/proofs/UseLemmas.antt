@@ -97,5 +97,5 @@ module _ (entries : List Entry) (rules : List Constraint) (lines : List (List �
   pub chain_below : (places : List ℕ) → entry.reason ≡ Equal places → (place : ℕ) → Contains places place → place < length lines
   chain_below places is place inside =
       let follows = subst (λ (it : Reason). Follows given.0 (rules_of rules) (take (length lines) entries) entry.claim entry.product it) is
-      (given.1 (length lines) entry at).follows in
+      (given.1 (length lines) entry at) in
       omega (arith, follows.5.there place inside, length-take (length lines) entries)

@@ -60,7 +60,7 @@ pub step_of : (expanded : List ExpandedFact) (rules : List Rule) (entries : List
     → slice_get entries count ≡ Some entry → (number : ℕ) (places : List ℕ) → entry.reason ≡ Step number places
     → IsStep entries rules count number places entry.claim entry.product
 step_of expanded rules entries count entry derived at number places is =
-    subst (λ (it : Reason). Follows expanded rules (take count entries) entry.claim entry.product it) is (derived count entry at).follows
+    subst (λ (it : Reason). Follows expanded rules (take count entries) entry.claim entry.product it) is (derived count entry at)
 
 module _ (entries : List Entry) (rules : List Rule) (count number : ℕ) (places : List ℕ) (claim : Claim) (product : List Bool)
     (step : IsStep entries rules count number places claim product) where
@@ -151,7 +151,7 @@ module _ (case : Case) (entries : List Entry) (used : List Bool) (basis : IsBasi
     follows : (reason : Reason) → entry.reason ≡ reason → Follows case.expanded case.rules (take (length lines) entries) entry.claim entry.product reason
     follows reason is =
         subst (λ (it : Reason). Follows case.expanded case.rules (take (length lines) entries) entry.claim entry.product it) is
-        (basis.derived (length lines) entry at).follows
+        (basis.derived (length lines) entry at)
 
     abbrev pub Goes : Written → List ℕ → Type 0
     Goes new own = IsState case entries used (lines ++ own ∷ []) new

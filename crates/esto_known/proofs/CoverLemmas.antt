@@ -15,11 +15,11 @@ use Rattle.esto_chase_laws.specs.WorldMatches.{Touching}
 use Rattle.esto_chase_laws.specs.Worlds.{InWorld, AreOfCount}
 use Rattle.esto_chase_laws.specs.Claims.{AreSameClaim}
 use Rattle.esto_chase_laws.specs.WorldSteps.{IsCovered}
-use Rattle.esto_chase_laws.specs.Derived.{Follows, AreDerived}
+use Rattle.esto_chase_laws.specs.Derived.{Follows, AreDerived, AreNew}
 use Rattle.esto_chase_laws.specs.declared.entry.Claim.{Claim}
 use Rattle.esto_chase_laws.specs.declared.entry.Claim.TheVariants.{Fact as Stated, Same}
 use Rattle.esto_chase_laws.specs.declared.entry.Entry.{Entry}
-use Rattle.esto_chase_laws.proofs.GrowLemmas.{InWorld-more, InWorld-within, IsCovered-more, Follows-append, AreDerived-push}
+use Rattle.esto_chase_laws.proofs.GrowLemmas.{InWorld-more, InWorld-within, IsCovered-more, Follows-append, AreDerived-push, AreNew-push}
 use Rattle.esto_known.specs.Added.{IsAdded, IsTrivial, IsThere, IsFollowing, IsAddedAt, IsGrownBy, IsGrownIn}
 use Rattle.esto_known.specs.Turns.{AreTurnsOf}
 use Rattle.esto_known.specs.declared.turns.Turn.{Turn}
@@ -120,14 +120,20 @@ module _ (entries later : List Entry) (entry : Entry) (added : IsAdded entries e
       → AreDerived expanded rules entries → AreDerived expanded rules later
   added_derived expanded rules follows derived = elim added [
     | inl same ↦ subst (AreDerived expanded rules) (sym same.1) derived
-    | inr new ↦ subst (AreDerived expanded rules) (sym new.1)
-        (AreDerived-push expanded rules entries entry derived (record { follows = follows; uncovered = new.0 }))
+    | inr new ↦ subst (AreDerived expanded rules) (sym new.1) (AreDerived-push expanded rules entries entry derived follows)
+  ]
+
+  pub added_new : AreNew entries → AreNew later
+  added_new new = elim added [
+    | inl same ↦ subst AreNew (sym same.1) new
+    | inr other ↦ subst AreNew (sym other.1) (AreNew-push entries entry new other.0)
   ]
 
 pub grown_none : (rules : List Rule) (entries asked : List Entry) → IsGrownIn rules entries asked [] entries
 grown_none rules entries asked = record {
   more = ([], sym (append-nil entries));
   derived = λ expanded derived. derived;
+  new = λ new. new;
   there = λ entry (turn, inside, read). absurd (Contains-nil turn inside);
 }
 
@@ -151,6 +157,7 @@ module _ (rules : List Rule) (count : ℕ) (entries asked : List Entry)
         (Follows-append entries so_far.more.0 expanded rules entry.claim entry.product entry.reason
         ((follow entry (Contains-at asked turn.place entry at)).follows expanded)))
         (so_far.derived expanded derived);
+    new = λ new. added_new current later entry added (so_far.new new);
     there = λ asks (own, in_turns, read). elim (Contains-push_cases (take place turns) turn own
         (subst (λ it. Contains it own) (take-item turns place turn inside is) in_turns)) [
           | inl earlier ↦ subst (λ it. IsThere it asks.claim asks.product) (sym its.1)
@@ -169,6 +176,7 @@ module _ (rules : List Rule) (count : ℕ) (entries asked : List Entry)
   turn_past past same = subst (IsGrownIn rules entries asked (take (place + 1) turns)) (sym same) (record {
     more = so_far.more;
     derived = so_far.derived;
+    new = so_far.new;
     there = λ asks (own, in_turns, read). elim (Contains-push_cases (take place turns) turn own
         (subst (λ it. Contains it own) (take-item turns place turn inside is) in_turns)) [
           | inl earlier ↦ so_far.there asks (own, earlier, read)
@@ -187,6 +195,7 @@ pub grown_all : (rules : List Rule) (entries asked : List Entry) (turns : List T
 grown_all rules entries asked turns later all grown = record {
   more = grown.more;
   derived = grown.derived;
+  new = grown.new;
   there = λ entry inside.
       let at = place-from_Contains asked entry inside in
       let turn = all at.0 (slice_get_within asked at.0 entry at.1) in

@@ -5,7 +5,7 @@ use Rattle.esto_term.specs.Sets.{Within}
 use Rattle.esto_semantics.specs.declared.expanded.ExpandedFact.{ExpandedFact}
 use Rattle.esto_chase_laws.specs.Worlds.{InWorld}
 use Rattle.esto_chase_laws.specs.WorldSteps.{IsCovered}
-use Rattle.esto_chase_laws.specs.Derived.{AreDerived, Follows}
+use Rattle.esto_chase_laws.specs.Derived.{AreDerived, AreNew, Follows}
 use Rattle.esto_chase_laws.specs.declared.entry.Claim.{Claim}
 use Rattle.esto_chase_laws.specs.declared.entry.Claim.TheVariants.{Fact as Stated, Same}
 use Rattle.esto_chase_laws.specs.declared.entry.Reason.{Reason}
@@ -32,10 +32,11 @@ pub record IsFollowing (rules : List Rule) (count : ℕ) (entries : List Entry) 
   pub follows : (expanded : List ExpandedFact) → Follows expanded rules entries entry.claim entry.product entry.reason
   pub counted : length entry.product ≡ count
 
--- The later entries are the earlier ones, and perhaps others after them, which follow; and they cover each entry that is so.
+-- The later entries are the earlier ones, and perhaps others after them, which follow and which none before them covers; and they cover each entry that is so.
 pub record IsGrown (rules : List Rule) (entries : List Entry) (IsSo : Entry → Type 0) (later : List Entry) : Type 0 where
   pub more : (others : List Entry) × (later ≡ entries ++ others)
   pub derived : (expanded : List ExpandedFact) → AreDerived expanded rules entries → AreDerived expanded rules later
+  pub new : AreNew entries → AreNew later
   pub there : (entry : Entry) → IsSo entry → IsThere later entry.claim entry.product
 
 -- The entries have grown so, and cover all that was asked for.

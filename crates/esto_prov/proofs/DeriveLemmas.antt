@@ -123,7 +123,7 @@ module _ (expansion : List ExpandedFact) (rules : List Rule) (entries : List Ent
       let both : Some other ≡ Some entry = sym there_other ∙ there in
       let same_entry : other ≡ entry = cc in
       subst (Follows expansion rules (take at entries) entry.claim entry.product) (ap (λ (it : Entry). it.reason) (sym same_entry) ∙ is)
-      (derived at entry there).follows
+      (derived at entry there)
 
   pub derive : (at : ℕ) (why : Why) → IsWhy entries at why → (entry : Entry) → slice_get entries at ≡ Some entry → Derives expansion rules why entry.claim
   derive at why (expanded own atom place its_reason) entry there =

@@ -22,6 +22,7 @@ facts-preserved c =
 pub returns : goal.returns
 returns c = record {
   derived = c.facts.invariant.derived;
+  new = c.facts.invariant.new;
   counted = c.facts.invariant.counted;
   given = given_all c.args.facts.now c.facts.fact-index c.facts.entries c.facts-test.false c.facts.invariant.given;
 }

@@ -16,6 +16,7 @@ pub rounds-init : goal.rounds-init
 rounds-init c = record {
   derived = subst (λ it. AreDerived it (rules_of c.args.rules.now) c.give_all.new.entries) c.items.ensures
       (c.in_ok-give_all.ensures.derived (rules_of c.args.rules.now));
+  new = c.in_ok-give_all.ensures.new;
   counted = c.in_ok-give_all.ensures.counted;
   given = subst (λ it. AreGiven it c.give_all.new.entries) c.items.ensures c.in_ok-give_all.ensures.given;
   before = none_answered (rules_of c.args.rules.now) c.give_all.new.entries (rules-AreRules c.args.rules.now c.rules_are_sound.ensures.rules);
@@ -31,6 +32,12 @@ returns-then-len-before-clause-derived c =
     let grown = grown_same c.items-in-rounds.result.now c.args.rules.now c.rounds.entries c.next.new.entries c.items-in-rounds.ensures
     c.in_ok-next.ensures.grown in
     grown.1.derived c.args.facts.now c.rounds.invariant.derived
+
+pub returns-then-len-before-clause-new : goal.returns-then-len-before-clause-new
+returns-then-len-before-clause-new c =
+    let grown = grown_same c.items-in-rounds.result.now c.args.rules.now c.rounds.entries c.next.new.entries c.items-in-rounds.ensures
+    c.in_ok-next.ensures.grown in
+    grown.1.new c.rounds.invariant.new
 
 pub returns-then-len-before-clause-given : goal.returns-then-len-before-clause-given
 returns-then-len-before-clause-given c =
@@ -65,7 +72,7 @@ rounds-smaller c =
     (ranks-RanksRise rules ranks (c.ranks_rise.ensures.rise rules (length ranks) ranks c.requires.within c.requires.ranks))
     (ranks-small ranks (c.ranks_rise.ensures.small rules (length ranks) ranks c.requires.within c.requires.ranks))
     (depth-small ranks c.len-count.result c.len-count.ensures (omega (arith, c.len-count.type_inv)))
-    c.rounds.invariant.derived c.in_ok-next.ensures.counted
+    c.rounds.invariant.derived c.rounds.invariant.new c.in_ok-next.ensures.counted
     (λ same. c.if-len-before.false (c.len.ensures ∙ same ∙ sym c.len-before.ensures))
 
 pub rounds-preserved : goal.rounds-preserved
@@ -75,6 +82,7 @@ rounds-preserved c =
     let is = grown.1.more.1 in
     record {
       derived = grown.1.derived c.args.facts.now c.rounds.invariant.derived;
+      new = grown.1.new c.rounds.invariant.new;
       counted = c.in_ok-next.ensures.counted;
       given = turn_given c.args.facts.now (rules_of c.args.rules.now) c.args.atoms c.rounds.entries grown.0 c.next.new.entries grown.1
           c.rounds.invariant.given;

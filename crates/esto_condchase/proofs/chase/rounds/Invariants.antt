@@ -3,7 +3,7 @@ use Rattle.esto_constraint.specs.Constraints.{rules_of}
 use Rattle.esto_constraint.proofs.RankLemmas.{depth_of}
 use Rattle.esto_semantics.specs.Expanded.{facts_of}
 use Rattle.esto_chase_laws.specs.WorldBounds.{most_entries}
-use Rattle.esto_chase_laws.specs.Derived.{AreDerived}
+use Rattle.esto_chase_laws.specs.Derived.{AreDerived, AreNew}
 use Rattle.esto_chase_laws.specs.WorldLaws.{AreGiven}
 use Rattle.esto_chase_laws.specs.WorldSteps.{AreAnswered, AreJoined}
 use Rattle.esto_chase_laws.specs.Worlds.{AreOfCount}
@@ -12,6 +12,7 @@ use Rattle.esto_condchase.proofs.chase.rounds.Given as goal
 abbrev pub invariant-rounds : goal.invariant-rounds
 invariant-rounds l = record {
   derived : AreDerived l.facts (rules_of l.rules) l.entries;
+  new : AreNew l.entries;
   counted : AreOfCount l.atoms l.entries;
   given : AreGiven l.facts l.entries;
   before : AreAnswered (rules_of l.rules) (take l.since l.entries) l.entries;
