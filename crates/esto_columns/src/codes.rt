@@ -78,6 +78,10 @@ impl Codes {
         ensures utf8 { IfOk result (λ _. IsUtf8 text.now) }
         ensures err { OnErr result (self.new ≡ self.old) }
     {
+        // a short text takes no memory of its own: it is put at once, with one hash
+        if text.len() <= INLINE {
+            return self.add(text);
+        }
         match self.find(text) {
             Some(code) => {
                 // the text is read so that it is known to be UTF-8
