@@ -2,7 +2,7 @@
 ghost use Rattle.std.specs.Prelude.{◌≡◌, ◌≢◌, ◌⊎◌, ◌↔◌, ◌<◌, ℕ, List, [], ◌∷◌, ◌++◌, length, slice_get, Some, Contains, AllPairs, IfOk, IfErr, OnErr, MatchOption, IsUtf8, IsTrue};
 ghost use Rattle.esto_columns.specs.Interned.{IsRightFault};
 
-use crate::asked::Asked;
+use crate::text_key::TextKey;
 use esto_term::TextError;
 use indexmap::IndexSet;
 use smallvec::SmallVec;
@@ -97,7 +97,7 @@ impl Codes {
         ensures { MatchOption result (¬ (Contains self.now text.now))
             (λ code. slice_get self.now code ≡ Some text.now) }
     {
-        match self.texts.get_index_of(Asked { text }) {
+        match self.texts.get_index_of(TextKey { text }) {
             Some(number) => Some(number as u64),
             None => None,
         }

@@ -2,7 +2,6 @@
 //! and `Fragment`.
 #![tactic(auto)]
 
-mod asked;
 mod codes;
 mod coding;
 mod finding;
@@ -14,6 +13,7 @@ mod rows;
 mod sorted;
 mod stored;
 mod table;
+mod text_key;
 
 pub use codes::Codes;
 pub use coding::{code_rows, code_taken_rows};

@@ -1,4 +1,4 @@
-//! A text by which a set of texts is asked.
+//! The key by which a text is looked up.
 ghost use Rattle.std.specs.Cmp.Lexicographic.{bytes_decides, nat_list_eq_equiv};
 ghost use Rattle.std.specs.Hash as fed;
 ghost use Rattle.std.specs.Str.{bytes_eq};
@@ -7,13 +7,13 @@ ghost use Rattle.std.proofs.Common.{ap};
 use indexmap::Equivalent;
 use smallvec::SmallVec;
 
-/// A text that is looked up among texts whose short ones stand in their entries.
+/// The key by which a text is looked up among texts whose short ones stand in their entries.
 #[derive(Clone, Copy, PartialEq, Eq, Hash)]
-pub(crate) struct Asked<'a> {
+pub(crate) struct TextKey<'a> {
     pub text: &'a [u8],
 }
 
-impl<'a, const N: usize> Equivalent<SmallVec<u8, N>> for Asked<'a> {
+impl<'a, const N: usize> Equivalent<SmallVec<u8, N>> for TextKey<'a> {
     ghost equivalent = { λ q k. bytes_eq q.text.now k.items };
 
     ghost respects_hash = { λ q k h. ap (fed.slice fed.u8) ((bytes_decides q.text.now k.items).0 h) };
