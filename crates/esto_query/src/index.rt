@@ -150,9 +150,8 @@ fn ranked_table(
     Ok((names, terms))
 }
 
-/// The table of the facts' places by their terms in the columns, behind the names by which these have numbers: none,
-/// so that terms have their hashes for numbers, but where these clash, as texts can be made to do, those among which
-/// they have their ranks.
+/// The table of the facts' places by their terms in the columns, behind the names by which these have numbers: none, but
+/// where hashes clash those among which terms have their ranks.
 fn named_table(
     alloc: Global,
     columns: &Marks,
@@ -168,7 +167,8 @@ fn named_table(
     Ok((Vec::new(alloc), terms))
 }
 
-/// The index of the facts by the columns.
+/// The index of the facts by the columns. Terms have their hashes for numbers, but where these clash, as texts can be made
+/// to do, their ranks.
 pub fn index_of(alloc: Global, columns: Marks, facts: &[Atom]) -> Result<Index, OutOfMemory>
     ensures { IfOk result (IsIndex facts.now) }
 {
