@@ -14,7 +14,7 @@ use crate::finding::{place_linking, place_of, place_stating};
 use crate::group::{Group, add_entry, begun};
 use crate::hashes::{relation_hash, term_hash};
 use crate::keys::Keys;
-use crate::live::put_all;
+use crate::places::put_all;
 use esto_chase_laws::Entry;
 use esto_columns::Index;
 use esto_semantics::Atom;

@@ -14,6 +14,7 @@ mod kept;
 mod keys;
 mod known;
 mod live;
+mod places;
 mod touching;
 mod turns;
 mod way;

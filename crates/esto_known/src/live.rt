@@ -1,23 +1,14 @@
 //! Entries that a match may use: those of a relation, and those that say that two terms are one.
-ghost use Rattle.std.specs.Prelude.{◌≡◌, ◌++◌, ℕ, Some, Contains, slice_get, IfOk, OnOk, MatchOption, IsTrue, false};
+ghost use Rattle.std.specs.Prelude.{◌≡◌, ℕ, Some, Contains, slice_get, IfOk, OnOk, MatchOption, IsTrue, false};
 ghost use Rattle.esto_known.specs.declared.group.Group.{Group};
 ghost use Rattle.esto_chase_laws.specs.Worlds.{SaysOne};
 ghost use Rattle.esto_known.specs.Live.{AreAllLive, AreAllFacts, AreOld};
 
 use crate::group::Group;
 use crate::known::Known;
+use crate::places::put_all;
 use esto_term::{OutOfMemory, Places, Term, Values};
 use std::alloc::Global;
-
-/// Puts the places at the end of the others.
-pub(crate) fn put_all(more: &[usize], places: &mut Places) -> Result<(), OutOfMemory>
-    ensures { OnOk result (places.new ≡ places.old ++ more.now) }
-{
-    'more: for place in more {
-        places.push(*place)?;
-    }
-    Ok(())
-}
 
 /// The group at the place, if there is one.
 pub fn group_at(groups: &[Group], at: usize) -> Option<&Group>
