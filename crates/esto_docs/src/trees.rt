@@ -27,10 +27,7 @@ fn put_line(alloc: Global, line: &[u8], trees: &mut Trees) -> Result<(), ParseEr
         return Ok(());
     }
     let tree = parse_tree(alloc, line)?;
-    match trees.push(tree) {
-        Ok(()) => Ok(()),
-        Err(_) => Err(ParseError::OutOfMemory),
-    }
+    or_parse_error(trees.push(tree))
 }
 
 // The documents of a file of lines.
