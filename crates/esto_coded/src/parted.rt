@@ -2,7 +2,7 @@
 ghost use Rattle.std.specs.Prelude.{◌≡◌, ◌<◌, ◌∷◌, [], ◌++◌, ℕ, List, length, map, slice_get, Some, IsTrue, IfOk, OnOk};
 ghost use Rattle.esto_rows.specs.Wanted.{are_among};
 ghost use Rattle.esto_coded.specs.Coded.{rows_in};
-ghost use Rattle.esto_coded.specs.Parted.{ArePart, ArePartBelow, asked_facts, fact_of, is_asked, kept_facts, term_of};
+ghost use Rattle.esto_coded.specs.Parted.{ArePart, asked_facts, is_asked, kept_facts, term_of};
 ghost use Rattle.esto_coded.specs.Relations.{coded_of};
 
 use crate::coded::FIRST_NODE;

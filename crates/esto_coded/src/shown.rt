@@ -1,5 +1,5 @@
 //! Rows of codes as rows of texts.
-ghost use Rattle.std.specs.Prelude.{◌≡◌, ◌↔◌, ◌<◌, ◌≤◌, ℕ, List, length, Contains, IsTrue, IfOk};
+ghost use Rattle.std.specs.Prelude.{◌↔◌, ◌<◌, ◌≤◌, ℕ, List, length, Contains, IsTrue, IfOk};
 ghost use Rattle.esto_columns.specs.Interned.{AreCodesOf};
 ghost use Rattle.esto_columns.specs.Lent.{AreRising};
 ghost use Rattle.esto_coded.specs.Coded.{rows_in};

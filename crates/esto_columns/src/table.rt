@@ -1,5 +1,5 @@
 //! Tables of codes.
-ghost use Rattle.std.specs.Prelude.{◌≡◌, ℕ, List, [], ◌∷◌, ◌++◌, ◌<◌, length, map, slice_get, slice_index_or, Some, Contains, IfOk, OnOk, OnErr, take};
+ghost use Rattle.std.specs.Prelude.{◌≡◌, ℕ, List, [], ◌∷◌, ◌++◌, ◌<◌, length, map, slice_get, slice_index_or, Some, IfOk, OnOk, OnErr, take};
 ghost use Rattle.esto_columns.specs.CodedRows.{CodedRows};
 ghost use Rattle.esto_columns.specs.Columns.{pushed, HaveLength};
 
@@ -18,7 +18,7 @@ pub(crate) struct Table {
 }
 
 impl Model for Table {
-    ghost use Rattle.std.specs.Prelude.{◌≡◌, length, map, Contains};
+    ghost use Rattle.std.specs.Prelude.{length};
     ghost use Rattle.esto_columns.specs.CodedRows.{CodedRows, rows_of};
     ghost use Rattle.esto_columns.specs.Columns.{HaveLength};
 

@@ -1,6 +1,5 @@
 //! What is left of the atoms of a plan.
 ghost use Rattle.std.specs.Prelude.{◌≡◌, ◌++◌, ◌<◌, ◌↔◌, [], ◌∷◌, List, length, Contains, IsTrue, IfOk, OnOk};
-ghost use Rattle.std.specs.FinMap as map;
 ghost use Rattle.esto_term.specs.declared.term.Term.{Term};
 ghost use Rattle.esto_semantics.specs.Maps.{IsFlat, AreFlat};
 ghost use Rattle.esto_semantics.specs.Cores.{Retracts, AreLeft};

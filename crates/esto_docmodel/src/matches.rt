@@ -1,12 +1,10 @@
 //! The matches of a pattern in a tree.
 ghost use Rattle.std.specs.Prelude.{◌≡◌, ◌↔◌, [], ◌∷◌, ◌+◌, ◌<◌, suc, ℕ, List};
 ghost use Rattle.std.specs.Prelude.{length, map, Contains, AllPairs, IfOk, OnOk};
-ghost use Rattle.std.specs.FinMap as finite;
 ghost use Rattle.esto_term.specs.declared.term.Term.{Term};
 ghost use Rattle.esto_term.specs.declared.term.Term.TheVariants.{Plain};
 ghost use Rattle.esto_query.specs.Rows.{Adds, IsAscending};
 ghost use Rattle.esto_semantics.specs.Valuations.{Assignment};
-ghost use Rattle.std.specs.List.{list_any};
 ghost use Rattle.esto_docmodel.specs.Asking.{IsAskedBy, all_but_below, asks_below};
 ghost use Rattle.esto_docmodel.specs.Matching.{AreVariables, AreRows, head_of, IsEncoding, valuation_of};
 ghost use Rattle.esto_docmodel.specs.Patterns.{done, Mentions};

@@ -17,7 +17,7 @@ use crate::slots::{
     side_of, source_in,
 };
 use esto_columns::Rows;
-use esto_steps::{Get, Gets, Join, Link, Links, Source, Sources, Whole, asked_rows, joined_firsts};
+use esto_steps::{Get, Gets, Join, Link, Links, Sources, Whole, asked_rows, joined_firsts};
 use esto_term::{List, OutOfMemory, Places, Values};
 use std::alloc::Global;
 

@@ -1,11 +1,10 @@
 -- The openings stop with no Done.
-use Rattle.std.proofs.Common.{◌≡◌, ◌≢◌, ℕ, List, Some, sym, ◌∙◌}
+use Rattle.std.proofs.Common.{◌≢◌, ℕ, List, Some, sym, ◌∙◌}
 use Rattle.esto_catalog.specs.declared.fault.CatalogueError.{CatalogueError}
 use Rattle.esto_catalog.specs.declared.fault.CatalogueError.TheVariants as error
 use Rattle.esto_ports.specs.Files.{Files}
 use Rattle.esto_opening.specs.Opening.{opens_catalogue, status_of}
 use Rattle.esto_status.specs.declared.limits.TheConstants.{CATALOGUE_LIMIT}
-use Rattle.esto_status.specs.declared.status.Status.{Status}
 use Rattle.esto_status.specs.declared.status.Status.TheVariants as status
 use Rattle.esto_status.proofs.RefusalLemmas.{Refuses, then_refuses, judges_refuses, fetch_refuses}
 

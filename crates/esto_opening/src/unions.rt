@@ -8,7 +8,7 @@ ghost use Rattle.esto_query.specs.Unions.{FormUnion};
 
 use esto_mapping::{Catalogue, catalogues_are_sound};
 use esto_ports::Shelf;
-use esto_query::{Queries, Query};
+use esto_query::Queries;
 use esto_read::{NamedQuery, read_union};
 use esto_status::{QUERY_LIMIT, Status, fetch};
 use esto_term::{Bytes, List, OutOfMemory, Replicate, Text};

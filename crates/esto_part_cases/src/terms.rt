@@ -1,7 +1,7 @@
 //! Terms: how deep they nest, and how they compare.
 
 use esto_script::{Refused, put, put_digits, text};
-use esto_term::{List, Replicate, Term, Terms, Text, TextError};
+use esto_term::{List, Term, Terms, Text, TextError};
 use std::alloc::Global;
 use std::cmp::Ordering;
 

@@ -1,5 +1,5 @@
 -- Each set of a printed plan's atoms that is safe, and whose candidate is contained in the query, has a certificate.
-use Rattle.std.proofs.Common.{◌≡◌, ℕ, ◌<◌, Bool, List, length, slice_index, Some, None, slice_get, refl, arith, sym, subst}
+use Rattle.std.proofs.Common.{ℕ, ◌<◌, Bool, List, length, slice_index, refl, arith, sym, subst}
 use Rattle.esto_constraint.specs.Graphs.{IsWithin, AreRanks}
 use Rattle.esto_constraint.specs.Relations.{IsEdge}
 use Rattle.esto_mapping.specs.Catalogues.{CataloguesAreSound}
@@ -7,9 +7,8 @@ use Rattle.esto_mapping.specs.declared.catalogue.Catalogue.{Catalogue}
 use Rattle.esto_cert.specs.Complete.{ContainedSetsHaveCertificates, HasAnswer}
 use Rattle.esto_constraint.proofs.RankLemmas.{depth_of, depth-small, ranks-RanksRise, ranks-small}
 use Rattle.esto_constraint.specs.Constraints.{rules_of}
-use Rattle.esto_list.specs.declared.listing.Listed.{Listed}
 use Rattle.esto_rewriting.specs.PlannedLaws.{ItemIsListed, PlanHasForm, PlanIsOver, PlanIsUniversal, PlanTellsAnswers}
-use Rattle.esto_rewriting.specs.Listing.{IsListOf, IsPlanned}
+use Rattle.esto_rewriting.specs.Listing.{IsPlanned}
 use Rattle.esto_query.specs.Making.{query_of}
 use Rattle.esto_query.specs.declared.query.Query.{Query}
 use Rattle.esto_semantics.specs.Listed.{candidate}

@@ -1,5 +1,5 @@
 //! Sets of codes.
-ghost use Rattle.std.specs.Prelude.{◌≡◌, [], ◌∷◌, nat_eq, length, IsTrue, OnOk};
+ghost use Rattle.std.specs.Prelude.{◌≡◌, [], ◌∷◌, nat_eq, length, OnOk};
 ghost use Rattle.std.specs.Set.{is_member};
 ghost use Rattle.esto_rows.specs.Wanted.{TakesIn, are_among};
 

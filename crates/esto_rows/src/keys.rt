@@ -1,6 +1,5 @@
 //! Keys of rows, and which of them come with several codes: they are found by an index, without a look at pairs of rows.
-ghost use Rattle.std.specs.Prelude.{◌≡◌, ◌≢◌, ◌+◌, ◌∷◌, [], ◌++◌, ℕ, List, length, slice_get, Some, nat_eq, Contains, IsTrue, IfOk, OnOk};
-ghost use Rattle.std.specs.Set.{is_member};
+ghost use Rattle.std.specs.Prelude.{◌≡◌, ◌+◌, ◌∷◌, [], ◌++◌, ℕ, List, length, slice_get, Some, Contains, IsTrue, IfOk, OnOk};
 ghost use Rattle.esto_columns.specs.Indexed.{IsIndexOf};
 ghost use Rattle.esto_columns.specs.RowIndexes.{StandsLast};
 ghost use Rattle.esto_rows.specs.Wanted.{Know, IsApart};

@@ -1,6 +1,5 @@
 //! Codes of those rows that are wanted.
-ghost use Rattle.std.specs.Prelude.{◌≡◌, ◌<◌, ◌≤◌, ◌+◌, ℕ, List, [], length, map, take, slice_get, Some, Contains, IsTrue, IfOk, OnOk};
-ghost use Rattle.esto_columns.specs.Columns.{HaveLength};
+ghost use Rattle.std.specs.Prelude.{◌≡◌, ◌<◌, ◌≤◌, ◌+◌, ℕ, List, [], length, map, take, slice_get, Some, IsTrue, IfOk, OnOk};
 ghost use Rattle.esto_rows.specs.Wanted.{AreUnequal, HaveWanted, IsWanted, Know, PutsWanted};
 
 use crate::code_set::CodeSet;

@@ -1,5 +1,5 @@
 //! Codes that sources name in a row so far and in a row of a fragment, and links that rows meet.
-ghost use Rattle.std.specs.Prelude.{◌≡◌, ◌↔◌, ◌++◌, ◌<◌, [], List, ℕ, Some, length, slice_get, slice_index_or, Contains, IfOk, IsTrue};
+ghost use Rattle.std.specs.Prelude.{◌≡◌, ◌↔◌, ◌++◌, ◌<◌, [], ℕ, Some, length, slice_get, slice_index_or, Contains, IfOk, IsTrue};
 ghost use Rattle.esto_steps.specs.declared.steps.Link.{Link};
 ghost use Rattle.esto_steps.specs.Meaning.{code_at, IsMet};
 ghost use Rattle.esto_steps.specs.Named.{Names};

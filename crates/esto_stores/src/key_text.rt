@@ -6,7 +6,7 @@ ghost use Rattle.esto_stores.specs.Keys.{tab, key_rows, key_fault};
 ghost use Rattle.esto_stores.specs.KeyText.{row_fault, line_text, keys_text};
 
 use esto_ports::lines_begin_anew;
-use esto_term::{Bytes, List, OutOfMemory, Text, TextRow, TextRows};
+use esto_term::{Bytes, OutOfMemory, Text, TextRows};
 use std::alloc::Global;
 
 // Puts a tab and a cell at the end.

@@ -1,5 +1,5 @@
 //! Buckets of places.
-ghost use Rattle.std.specs.Prelude.{◌≡◌, ◌<◌, ◌%◌, length, IfOk, OnOk, OnErr};
+ghost use Rattle.std.specs.Prelude.{◌≡◌, ◌<◌, ◌%◌, length, IfOk, OnOk};
 ghost use Rattle.esto_table.specs.Buckets.{places_at, with_place, AreRising};
 
 use esto_term::{OutOfMemory, Places, Values, push};

@@ -1,5 +1,5 @@
 -- That each step of the commands comes to an end, or asks for a file that is not there.
-use Rattle.std.specs.Prelude.{◌≡◌, ◌≢◌, ℕ, ◌<◌, Bool, List, [], slice_get, Option, None, Some}
+use Rattle.std.specs.Prelude.{◌≢◌, ℕ, ◌<◌, Bool, List, [], Option, Some}
 use Rattle.esto_bench.specs.Summary.{IsSummaryOfCase}
 use Rattle.esto_bench.specs.declared.summary.Summary.{Summary}
 use Rattle.esto_mapping.specs.declared.catalogue.Catalogue.{Catalogue}
@@ -13,7 +13,7 @@ use Rattle.esto_rewriting.specs.Run.{runs_union}
 use Rattle.esto_list.specs.declared.listing.Listed.{Listed}
 use Rattle.esto_run.specs.Fragments.{opens_fragments}
 use Rattle.esto_opening.specs.Opening.{opens_catalogue, opens_query, opens_union}
-use Rattle.esto_rewriting.specs.Choice.{IsItemOf, IsPlace}
+use Rattle.esto_rewriting.specs.Choice.{IsItemOf}
 use Rattle.esto_rewriting.specs.Listing.{IsListOf, IsListing, IsPlanned}
 use Rattle.esto_rewriting.specs.Planning.{chooses, ends_query, plans_query}
 use Rattle.esto_ports.specs.Files.{Files}
