@@ -39,8 +39,8 @@ pub struct Entry {
     pub reason: Reason,
 }
 
-/// A copy of the claim that the two terms are one.
-fn copied_pair(alloc: Global, left: &Term, right: &Term) -> Result<Claim, OutOfMemory>
+/// The claim that the two terms are one.
+pub fn same(alloc: Global, left: &Term, right: &Term) -> Result<Claim, OutOfMemory>
     ensures { IfOk result (λ it. it ≡ Same left.now right.now) }
 {
     let left = left.copy(alloc)?;
@@ -52,7 +52,7 @@ impl Replicate for Claim {
     fn copy(&self, alloc: Global) -> Result<Claim, OutOfMemory> {
         match self {
             Claim::Fact(fact) => Ok(Claim::Fact(fact.copy(alloc)?)),
-            Claim::Same(left, right) => copied_pair(alloc, left, right),
+            Claim::Same(left, right) => same(alloc, left, right),
         }
     }
 }

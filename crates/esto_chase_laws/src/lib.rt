@@ -17,7 +17,7 @@ mod worlds;
 
 pub use bounds::{runs_end, terms_nest_within_ranks};
 pub use clash::Clash;
-pub use entry::{Chain, Claim, Entry, Reason};
+pub use entry::{Chain, Claim, Entry, Reason, same};
 pub use receiving::{
     clashes_receive_nothing, finished_runs_decide, states_are_received, states_are_universal,
 };

@@ -1,9 +1,8 @@
 //! Entries that are added only where they are not covered.
-ghost use Rattle.std.specs.Prelude.{◌≡◌, ◌↔◌, ◌<◌, List, Contains, length, IsTrue, IfOk, OnOk};
+ghost use Rattle.std.specs.Prelude.{◌≡◌, ◌↔◌, ◌<◌, List, Contains, length, IsTrue, OnOk};
 ghost use Rattle.esto_semantics.specs.Rules.{Rule};
 ghost use Rattle.esto_chase_laws.specs.WorldSteps.{IsCovered};
 ghost use Rattle.esto_chase_laws.specs.Worlds.{InWorld, AreOfCount};
-ghost use Rattle.esto_chase_laws.specs.declared.entry.Claim.TheVariants.{Same};
 ghost use Rattle.esto_chase_laws.specs.declared.entry.Entry.{Entry};
 ghost use Rattle.esto_known.specs.Added.{IsAdded, IsAddedAt, IsTrivial, IsFollowing, IsGrownBy, IsGrownIn};
 
@@ -11,17 +10,8 @@ use crate::known::Known;
 use crate::turns::{Turn, turns_of};
 use esto_bits::RowBits;
 use esto_chase_laws::{Claim, Entry};
-use esto_term::{OutOfMemory, Replicate, Term};
+use esto_term::{OutOfMemory, Replicate};
 use std::alloc::Global;
-
-/// The claim that the two terms are one.
-pub fn same(alloc: Global, left: &Term, right: &Term) -> Result<Claim, OutOfMemory>
-    ensures { IfOk result (λ it. it ≡ Same left.now right.now) }
-{
-    let left = left.copy(alloc)?;
-    let right = right.copy(alloc)?;
-    Ok(Claim::Same(left, right))
-}
 
 /// Whether the claim is an equality of a term with itself.
 fn is_trivial(claim: &Claim) -> bool

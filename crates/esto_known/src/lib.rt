@@ -20,7 +20,8 @@ mod turns;
 mod way;
 
 pub use covered::telling;
-pub use covering::{add, add_all, is_covered, same};
+pub use covering::{add, add_all, is_covered};
+pub use esto_chase_laws::same;
 pub use fresh::fresh_of;
 pub use group::Group;
 pub use groups::Groups;
