@@ -16,11 +16,11 @@ ghost use Rattle.esto_chase.specs.Steps.{AreTexts, Merges, Clashes, IsTaken};
 
 use crate::making::made_facts;
 use esto_chase_laws::Clash;
-use esto_constraint::{Broken, Constraint, Egd, Rules, Tgd, value_of};
+use esto_constraint::{Broken, Constraint, Egd, Rules, Tgd, copy_both, value_of};
 use esto_instance::Instance;
 use esto_query::Found;
 use esto_semantics::Valuation;
-use esto_term::{OutOfMemory, Replicate, Term};
+use esto_term::{OutOfMemory, Term};
 use std::alloc::Global;
 use std::cmp::Ordering;
 
@@ -43,15 +43,6 @@ fn add_made(
     instance.add(alloc, number, found, &facts)
 }
 
-/// Copies of the two terms.
-fn copied_pair(alloc: Global, one: &Term, other: &Term) -> Result<(Term, Term), OutOfMemory>
-    ensures { IfOk result (λ it. (it.0 ≡ one.now) × (it.1 ≡ other.now)) }
-{
-    let one = one.copy(alloc)?;
-    let other = other.copy(alloc)?;
-    Ok((one, other))
-}
-
 /// The values of the two sides, the lesser first.
 fn ordered_sides(
     alloc: Global,
@@ -66,9 +57,9 @@ fn ordered_sides(
     let left = value_of(valuation, &rule.left);
     let right = value_of(valuation, &rule.right);
     match left.compare(right) {
-        Ordering::Less => copied_pair(alloc, left, right),
+        Ordering::Less => copy_both(alloc, left, right),
         Ordering::Equal => unreachable!(),
-        Ordering::Greater => copied_pair(alloc, right, left),
+        Ordering::Greater => copy_both(alloc, right, left),
     }
 }
 

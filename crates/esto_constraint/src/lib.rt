@@ -16,4 +16,4 @@ pub use meeting::{
     Broken, active, active_in, body_of, least_active_matches_are_least, meets, value_of,
 };
 pub use ranks::{Cycle, Ranks, ranks_rise};
-pub use rule::{Constraint, Denial, Egd, Rules, Tgd};
+pub use rule::{Constraint, Denial, Egd, Rules, Tgd, copy_both};

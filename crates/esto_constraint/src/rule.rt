@@ -51,7 +51,7 @@ pub enum Constraint {
 pub type Rules = List<Constraint>;
 
 /// Copies of both values.
-fn copy_both<A: Replicate + Drop, B: Replicate + Drop>(
+pub fn copy_both<A: Replicate + Drop, B: Replicate + Drop>(
     alloc: Global,
     one: &A,
     other: &B,

@@ -8,12 +8,12 @@ use Rattle.esto_chase.proofs.steps.ordered_sides.Goals as goal
 
 pub returns-in-Less-clause-sides : goal.returns-in-Less-clause-sides
 returns-in-Less-clause-sides c =
-    IfOk-weaker c.copied_pair.result _ _
-    (λ it (one, other). inl (sym c.value_of-left.ensures ∙ sym one, sym c.value_of-right.ensures ∙ sym other)) c.copied_pair.ensures
+    IfOk-weaker c.copy_both.result _ _
+    (λ it (one, other). inl (sym c.value_of-left.ensures ∙ sym one, sym c.value_of-right.ensures ∙ sym other)) c.copy_both.ensures
 
 pub returns-in-Less-clause-lesser : goal.returns-in-Less-clause-lesser
 returns-in-Less-clause-lesser c =
-    IfOk-weaker c.copied_pair.result _ _ (λ it (one, other). (λ i. term_cmp (one i) (other i)) ∙ sym c.in-Less.ensures) c.copied_pair.ensures
+    IfOk-weaker c.copy_both.result _ _ (λ it (one, other). (λ i. term_cmp (one i) (other i)) ∙ sym c.in-Less.ensures) c.copy_both.ensures
 
 pub unreachable-requires : goal.unreachable-requires
 unreachable-requires c =
@@ -22,12 +22,12 @@ unreachable-requires c =
 
 pub returns-in-Greater-clause-sides : goal.returns-in-Greater-clause-sides
 returns-in-Greater-clause-sides c =
-    IfOk-weaker c.copied_pair-in-Greater.result _ _
-    (λ it (one, other). inr (sym c.value_of-left.ensures ∙ sym other, sym c.value_of-right.ensures ∙ sym one)) c.copied_pair-in-Greater.ensures
+    IfOk-weaker c.copy_both-in-Greater.result _ _
+    (λ it (one, other). inr (sym c.value_of-left.ensures ∙ sym other, sym c.value_of-right.ensures ∙ sym one)) c.copy_both-in-Greater.ensures
 
 pub returns-in-Greater-clause-lesser : goal.returns-in-Greater-clause-lesser
 returns-in-Greater-clause-lesser c =
-    IfOk-weaker c.copied_pair-in-Greater.result _ _
+    IfOk-weaker c.copy_both-in-Greater.result _ _
     (λ it (one, other). (λ i. term_cmp (one i) (other i))
     ∙ term_cmp_total.antisymm c.value_of-right.result.now c.value_of-left.result.now ∙ ap ordering_reverse (sym c.in-Greater.ensures))
-    c.copied_pair-in-Greater.ensures
+    c.copy_both-in-Greater.ensures
