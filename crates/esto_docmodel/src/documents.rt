@@ -141,12 +141,9 @@ fn put_tree<S: FactSink>(
     put_node(alloc, sink, relations, tree, &above, first)
 }
 
-/// Puts the facts of a document into the sink, as far as they are kept: root, field, item, value and below, from the base
-/// on. Nodes are numbered in preorder from `first` on, fields and items in order, and the answer is the first number that
-/// is not used. The facts of a node follow one another: how it is entered, what it stands below from the document down,
-/// and what it holds. OutOfMemory comes too where a relation or a node has no number of 64 bits. After an error some of
-/// the facts may be put.
-pub fn put_document<S: FactSink>(
+/// Puts the facts of a document into the sink, as `encode_document` does, with numbers from `first` on; the answer is the
+/// first number that is not used.
+fn put_document<S: FactSink>(
     alloc: Global,
     sink: &mut S,
     relations: &Kept,
@@ -163,8 +160,11 @@ pub fn put_document<S: FactSink>(
     put_tree(alloc, sink, relations, tree, first)
 }
 
-/// Puts the facts of a document after those that are there, as `put_document` does, with numbers from `next` on; `next`
-/// then is the first number that is not used.
+/// Puts the facts of a document after those that are there, as far as they are kept: root, field, item, value and below,
+/// from the base on. Nodes are numbered in preorder from `next` on, fields and items in order, and `next` then is the first
+/// number that is not used. The facts of a node follow one another: how it is entered, what it stands below from the
+/// document down, and what it holds. OutOfMemory comes too where a relation or a node has no number of 64 bits. After an
+/// error some of the facts may be put.
 pub fn encode_document(
     alloc: Global,
     encoded: &mut Encoded,

@@ -18,7 +18,7 @@ mod pattern;
 mod tree;
 mod words;
 
-pub use documents::{encode_document, encode_documents, put_document};
+pub use documents::{encode_document, encode_documents};
 pub use encode::{Encoded, EncodedAtoms, LAST_BASE, after, encode_pattern};
 pub use fact_sink::FactSink;
 pub use field::FieldOf;

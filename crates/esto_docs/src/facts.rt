@@ -243,7 +243,7 @@ fn put_whole<S: FactSink>(
     put_node(alloc, sink, relations, value, &mut above, first)
 }
 
-/// Puts the facts of the document that a JSON value is into the sink, as `put_document` of `esto_docmodel` puts those of
+/// Puts the facts of the document that a JSON value is into the sink, as `encode_document` of `esto_docmodel` puts those of
 /// its tree: the first number that is not used. OutOfMemory comes too where a relation or a node has no number of 64 bits.
 /// After an error some of the facts may be put.
 pub fn put_document<S: FactSink>(
