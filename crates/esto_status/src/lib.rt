@@ -10,7 +10,6 @@ mod line;
 mod reply;
 mod status;
 
-pub use cell::cell_text;
 pub use fault::{CatalogueFault, CatalogueKind, Section};
 pub use fetching::fetch;
 pub use limits::{CATALOGUE_LIMIT, DATA_LIMIT, QUERY_LIMIT};
