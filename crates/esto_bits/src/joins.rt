@@ -205,7 +205,8 @@ impl Products {
         requires others { others.now.count ≡ self.old.count }
         ensures count { self.new.count ≡ self.old.count }
         ensures covers { OnOk result ((set : List Bool) → Covers self.new.sets set
-            ↔ (Covers self.old.sets set ⊎ (Covers sets.now.sets set × Covers others.now.sets set))) }
+            ↔ (Covers self.old.sets set
+            ⊎ (Covers sets.now.sets set × Covers others.now.sets set))) }
     {
         let ones = sets.left_by(alloc, self)?;
         self.add_unions_left(alloc, &ones, others)
@@ -222,7 +223,8 @@ impl Products {
         requires others { others.now.count ≡ self.old.count }
         ensures count { self.new.count ≡ self.old.count }
         ensures covers { OnOk result ((set : List Bool) → Covers self.new.sets set
-            ↔ (Covers self.old.sets set ⊎ (Covers sets.now.sets set × Covers others.now.sets set))) }
+            ↔ (Covers self.old.sets set
+            ⊎ (Covers sets.now.sets set × Covers others.now.sets set))) }
     {
         let rest = others.left_by(alloc, self)?;
         self.add_unions(alloc, sets, &rest)
@@ -241,7 +243,8 @@ impl Products {
         requires others { others.now.count ≡ self.old.count }
         ensures count { self.new.count ≡ self.old.count }
         ensures covers { OnOk result ((set : List Bool) → Covers self.new.sets set
-            ↔ (Covers self.old.sets set ⊎ (Covers sets.now.sets set × Covers others.now.sets set))) }
+            ↔ (Covers self.old.sets set
+            ⊎ (Covers sets.now.sets set × Covers others.now.sets set))) }
     {
         self.add_covered(alloc, sets, others)?;
         self.add_covered(alloc, others, sets)?;

@@ -231,7 +231,8 @@ impl Case<'_> {
         links: &[u64],
     ) -> Result<Judged, OutOfMemory>
         ensures { IfOk result (λ judged. (said : ℕ) → nearest said ≡ place
-            → IsJudged (case_of self.now) claims.now (Step number said facts.now links.now) judged) }
+            → IsJudged (case_of self.now) claims.now
+            (Step number said facts.now links.now) judged) }
     {
         let Some(rule) = numbered(self.rules, number) else {
             return Ok(Judged::Refused);

@@ -244,7 +244,8 @@ fn line_of_five(
 /// What words say that are three.
 fn line_of_three_words(alloc: Global, words: &[&[u8]]) -> Result<Option<Line>, OutOfMemory>
     requires { length words.now ≡ 3 }
-    ensures { IfOk result (λ it. it ≡ line_within (line_of_words (map (λ word. word.now) words.now))) }
+    ensures { IfOk result (λ it.
+        it ≡ line_within (line_of_words (map (λ word. word.now) words.now))) }
 {
     let [verb, first, second] = words else {
         return Ok(None);
@@ -255,7 +256,8 @@ fn line_of_three_words(alloc: Global, words: &[&[u8]]) -> Result<Option<Line>, O
 /// What words say that are five.
 fn line_of_five_words(alloc: Global, words: &[&[u8]]) -> Result<Option<Line>, OutOfMemory>
     requires { length words.now ≡ 5 }
-    ensures { IfOk result (λ it. it ≡ line_within (line_of_words (map (λ word. word.now) words.now))) }
+    ensures { IfOk result (λ it.
+        it ≡ line_within (line_of_words (map (λ word. word.now) words.now))) }
 {
     let [verb, rule, place, facts, links] = words else {
         return Ok(None);
@@ -265,7 +267,8 @@ fn line_of_five_words(alloc: Global, words: &[&[u8]]) -> Result<Option<Line>, Ou
 
 /// What words say.
 fn line_of_words(alloc: Global, words: &[&[u8]]) -> Result<Option<Line>, OutOfMemory>
-    ensures { IfOk result (λ it. it ≡ line_within (line_of_words (map (λ word. word.now) words.now))) }
+    ensures { IfOk result (λ it.
+        it ≡ line_within (line_of_words (map (λ word. word.now) words.now))) }
 {
     if words.len() == 3 {
         return line_of_three_words(alloc, words);

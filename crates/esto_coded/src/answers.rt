@@ -57,7 +57,8 @@ fn results(alloc: Global, steps: &Steps, relations: &[StoredRows]) -> Result<Row
     requires { TakeWhole relations.now steps.now.gets }
     ensures arity { IfOk result (λ it. it.arity ≡ length steps.now.head) }
     ensures rows { IfOk result (λ it. (row : List ℕ) → Contains it.rows row
-        ↔ IsResult (IsRowOf (held_by (map (λ stored. stored.rows.rows) relations.now))) steps.now row) }
+        ↔ IsResult (IsRowOf (held_by (map (λ stored. stored.rows.rows) relations.now)))
+        steps.now row) }
 {
     if !is_plain(steps) {
         return run_plan(alloc, steps, relations);
@@ -127,7 +128,8 @@ impl CodedFacts {
     ) -> Result<Rows, OutOfMemory>
         requires { (term : Term) → Contains head.now term → IsFixedBy body.now term }
         ensures arities { arities_of self.new ≡ arities_of self.old }
-        ensures facts { (facts : List (Fact Term)) → StandFor self.old facts → StandFor self.new facts }
+        ensures facts { (facts : List (Fact Term))
+            → StandFor self.old facts → StandFor self.new facts }
         ensures ordered { (facts : List (Fact Term)) → StandInOrder self.old facts
             → StandInOrder self.new facts }
         ensures grown { Grows self.old.texts self.new.texts }

@@ -111,11 +111,13 @@ impl CodedFacts {
     ) -> Result<Rows, OutOfMemory>
         requires { (row : List (List ℕ)) → Contains rows row → length row ≡ arity }
         ensures arities { arities_of self.new ≡ arities_of self.old }
-        ensures facts { (facts : List (Fact Term)) → StandFor self.old facts → StandFor self.new facts }
+        ensures facts { (facts : List (Fact Term))
+            → StandFor self.old facts → StandFor self.new facts }
         ensures ordered { (facts : List (Fact Term)) → StandInOrder self.old facts
             → StandInOrder self.new facts }
         ensures grown { Grows self.old.texts self.new.texts }
-        ensures rows { IfOk result (λ it. (it.arity ≡ arity) × AreCodedRows self.new.texts it.rows rows) }
+        ensures rows { IfOk result (λ it. (it.arity ≡ arity)
+            × AreCodedRows self.new.texts it.rows rows) }
     {
         code_taken_rows(alloc, rows, arity, &mut self.codes)
     }
@@ -129,7 +131,8 @@ impl CodedFacts {
         columns: &TextRow,
     ) -> Result<Rows, FileError>
         ensures arities { arities_of self.new ≡ arities_of self.old }
-        ensures facts { (facts : List (Fact Term)) → StandFor self.old facts → StandFor self.new facts }
+        ensures facts { (facts : List (Fact Term))
+            → StandFor self.old facts → StandFor self.new facts }
         ensures ordered { (facts : List (Fact Term)) → StandInOrder self.old facts
             → StandInOrder self.new facts }
         ensures grown { Grows self.old.texts self.new.texts }
@@ -148,7 +151,8 @@ impl CodedFacts {
         cells: usize,
     ) -> Result<Rows, FileError>
         ensures arities { arities_of self.new ≡ arities_of self.old }
-        ensures facts { (facts : List (Fact Term)) → StandFor self.old facts → StandFor self.new facts }
+        ensures facts { (facts : List (Fact Term))
+            → StandFor self.old facts → StandFor self.new facts }
         ensures ordered { (facts : List (Fact Term)) → StandInOrder self.old facts
             → StandInOrder self.new facts }
         ensures grown { Grows self.old.texts self.new.texts }

@@ -159,7 +159,8 @@ impl CodedFacts {
         left: &Term,
         shared: &Terms,
     ) -> Result<Verdict, OutOfMemory>
-        requires { (term : Term) → Contains (left.now ∷ shared.now) term → IsFixedBy first.now term }
+        requires { (term : Term)
+            → Contains (left.now ∷ shared.now) term → IsFixedBy first.now term }
         ensures stays { StaysFor self.old self.new }
         ensures judged { IfOk result (λ it. (second : List (Fact Term)) (right : Term)
             → first.now ++ second ≡ body.now → IsMirrored first.now second left.now right shared.now
@@ -237,7 +238,8 @@ impl CodedFacts {
     /// OutOfMemory comes too where more than 2^63 texts have codes.
     pub fn judge(&mut self, alloc: Global, rule: &Constraint) -> Result<Verdict, OutOfMemory>
         ensures arities { arities_of self.new ≡ arities_of self.old }
-        ensures facts { (facts : List (Fact Term)) → StandFor self.old facts → StandFor self.new facts }
+        ensures facts { (facts : List (Fact Term))
+            → StandFor self.old facts → StandFor self.new facts }
         ensures ordered { (facts : List (Fact Term)) → StandInOrder self.old facts
             → StandInOrder self.new facts }
         ensures grown { Grows self.old.texts self.new.texts }

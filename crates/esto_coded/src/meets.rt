@@ -106,7 +106,8 @@ impl CodedFacts {
         ensures texts { IfOk result (λ _. AreTelling self.new.texts) }
         ensures each { IfOk result (λ it. (facts : List (Fact Term)) → StandFor self.new facts
             → IsTrue it ↔ ((row : List ℕ) → Contains rows.now.rows row
-            → IsCodedAnswer self.new (record { head = shared.now; body = body.now ++ head.now }) facts row)) }
+            → IsCodedAnswer self.new
+            (record { head = shared.now; body = body.now ++ head.now }) facts row)) }
     {
         if rows.len() == 0 {
             return Ok(true);

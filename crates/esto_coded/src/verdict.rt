@@ -16,7 +16,8 @@ pub enum Verdict {
 
 /// The verdict on a rule that facts meet or don't, without a part.
 pub(crate) fn verdict_of(met: bool) -> Verdict
-    ensures { (coded : Coded) (rule : Rule) → AnswersWhether coded rule met → Judges coded rule result }
+    ensures { (coded : Coded) (rule : Rule)
+        → AnswersWhether coded rule met → Judges coded rule result }
 {
     if met {
         return Verdict::Met;

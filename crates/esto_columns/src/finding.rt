@@ -77,7 +77,8 @@ impl Rows {
     /// The last place where the row stands, by an index of the rows: only those of its bucket are looked at. An index of
     /// other rows may give another place where it stands, or none.
     pub fn find(&self, index: &Index, row: &[u64]) -> Option<usize>
-        ensures at { MatchOption result Unit (λ place. slice_get self.now.rows place ≡ Some row.now) }
+        ensures at { MatchOption result Unit
+            (λ place. slice_get self.now.rows place ≡ Some row.now) }
         ensures last { IsIndexOf index.now self.now.rows → MatchOption result
             (¬ (Contains self.now.rows row.now)) (StandsLast self.now.rows row.now) }
     {

@@ -16,7 +16,8 @@ pub(crate) struct TextKey<'a> {
 impl<'a, const N: usize> Equivalent<SmallVec<u8, N>> for TextKey<'a> {
     ghost equivalent = { λ q k. bytes_eq q.text.now k.items };
 
-    ghost respects_hash = { λ q k h. ap (fed.slice fed.u8) ((bytes_decides q.text.now k.items).0 h) };
+    ghost respects_hash = { λ q k h.
+        ap (fed.slice fed.u8) ((bytes_decides q.text.now k.items).0 h) };
 
     ghost respects_eq = { λ q x y. nat_list_eq_equiv.congr q.text.now x.items y.items };
 

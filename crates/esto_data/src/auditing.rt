@@ -61,7 +61,8 @@ fn tell(
     requires trial { IsTrialOf catalogue.now trial.now }
     requires facts { (facts : List (Fact Term))
         × HoldsAudit catalogue.now trial.now.wanted files.now facts coded }
-    requires rows { (contents : ℕ → List ℕ) × HoldContents catalogue.now contents coded.facts.texts rows }
+    requires rows { (contents : ℕ → List ℕ)
+        × HoldContents catalogue.now contents coded.facts.texts rows }
     ensures { (facts : List (Fact Term))
         → HoldsAudit catalogue.now trial.now.wanted files.now facts coded
         → (contents : ℕ → List ℕ) → HoldContents catalogue.now contents coded.facts.texts rows

@@ -77,7 +77,8 @@ fn add_answers(
     rows: &mut Rows,
 ) -> Result<(), OutOfMemory>
     requires { rows.old.arity ≡ length query.now.head }
-    ensures rows { OnOk result ((queries : List Query) (loaded : Loaded) → IsCodedOf loaded coded.old
+    ensures rows { OnOk result ((queries : List Query) (loaded : Loaded)
+        → IsCodedOf loaded coded.old
         → AreRowsOf coded.old.facts.texts rows.old.rows (IsUnionRow queries loaded.facts)
         → AreRowsOf coded.new.facts.texts rows.new.rows
         (IsUnionRow (queries ++ query.now ∷ []) loaded.facts)) }

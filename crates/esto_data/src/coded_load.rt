@@ -100,7 +100,8 @@ fn put_file(
     coded: &mut CodedData,
 ) -> Result<(), FileError>
     requires { HasRelations dataset.now coded.old }
-    ensures { PutsFile dataset.now.model dataset.now wanted.now bytes.now coded.old coded.new result }
+    ensures { PutsFile dataset.now.model dataset.now wanted.now bytes.now
+        coded.old coded.new result }
 {
     match dataset.model {
         DataModel::Table => put_table(alloc, dataset, wanted, bytes, coded),

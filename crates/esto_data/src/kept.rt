@@ -47,7 +47,8 @@ fn keep_files<S: Shelf>(
         (Rises S.faults shelf.old shelf.new) result }
     ensures asked { AsksIn (S.asked shelf.old) (S.asked shelf.new)
         (loads_files (S.files shelf.old) catalogue.now.datasets numbers.now) result }
-    ensures loaded { IfOk result (λ it. IsCodedFrom catalogue.now.datasets wanted.now it coded.new) }
+    ensures loaded { IfOk result (λ it.
+        IsCodedFrom catalogue.now.datasets wanted.now it coded.new) }
     ensures files { S.files shelf.new ≡ S.files shelf.old }
     ensures later { S.faults shelf.old ≤ S.faults shelf.new }
 {
@@ -73,7 +74,8 @@ pub fn load_all<S: Shelf>(
 ) -> Result<LoadList, Status>
     requires over { IsOver catalogue.now.schema coded.old }
     requires nothing { IsCodedFrom catalogue.now.datasets wanted.now [] coded.old }
-    ensures answer { Loads (λ facts it. HoldsFiles catalogue.now.datasets wanted.now facts it coded.new)
+    ensures answer { Loads
+        (λ facts it. HoldsFiles catalogue.now.datasets wanted.now facts it coded.new)
         (loads (S.files shelf.old) catalogue.now.datasets IsAny)
         (Rises S.faults shelf.old shelf.new) result }
     ensures asked { LoadsAsking (S.asked shelf.old) (S.asked shelf.new)

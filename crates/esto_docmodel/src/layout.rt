@@ -15,7 +15,8 @@ pub const MAX_LAYOUT_DEPTH: usize = 126;
 
 /// The path of an entry.
 pub fn path_of(entry: &Entry) -> &[Step]
-    ensures paths { (rest : Entries) → paths (entry_shape entry.now rest) ≡ result.now ∷ paths rest }
+    ensures paths { (rest : Entries)
+        → paths (entry_shape entry.now rest) ≡ result.now ∷ paths rest }
     ensures first { result.now ≡ first_path (entries_of (entry.now ∷ [])) }
 {
     match entry {

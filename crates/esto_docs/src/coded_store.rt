@@ -24,7 +24,8 @@ fn code_texts(
 ) -> Result<Rows, FileError>
     requires { IsShapeFor shape.now fragment.now.view }
     ensures rows { let width = length fragment.now.view.head in
-        CodesFile (IsRowIn shape.now bytes.now) (first_fault_in shape.now width bytes.now) width codes.new result }
+        CodesFile (IsRowIn shape.now bytes.now) (first_fault_in shape.now width bytes.now)
+        width codes.new result }
     ensures grown { Grows codes.old codes.new }
 {
     let columns = fragment.view.head.len();
@@ -45,7 +46,8 @@ pub fn code_store(
 ) -> Result<Rows, FileError>
     requires { IsShapeFor shape.now fragment.now.view }
     ensures rows { let width = length fragment.now.view.head in
-        CodesFile (IsRowIn shape.now bytes.now) (first_fault_in shape.now width bytes.now) width codes.new result }
+        CodesFile (IsRowIn shape.now bytes.now) (first_fault_in shape.now width bytes.now)
+        width codes.new result }
     ensures grown { Grows codes.old codes.new }
 {
     match shape {

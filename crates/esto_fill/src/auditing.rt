@@ -46,7 +46,8 @@ fn broken_rule(
 ) -> Result<Option<Difference>, OutOfMemory>
     ensures { IfOk result (λ outcome. (all : List (Fact Term))
         → IsEnoughFor catalogue.now (rules_of laws.now) all facts.now
-        → JudgesRules (rules_of catalogue.now.rules) (map written catalogue.now.rules) all outcome) }
+        → JudgesRules (rules_of catalogue.now.rules) (map written catalogue.now.rules)
+        all outcome) }
 {
     databases_stand_for_facts();
     rules_are_sound();

@@ -37,7 +37,8 @@ fn are_same(atoms: &[Atom], others: &[Atom]) -> bool
 
 // Whether both are the same tuple rule, whatever their variables are named.
 fn is_same_tuple(rule: &Tgd, other: &Tgd) -> bool
-    ensures { IsTrue result ↔ ((rule.now.body ≡ other.now.body) × (rule.now.head ≡ other.now.head)) }
+    ensures { IsTrue result
+        ↔ ((rule.now.body ≡ other.now.body) × (rule.now.head ≡ other.now.head)) }
 {
     if !are_same(rule.body.items(), other.body.items()) {
         return false;

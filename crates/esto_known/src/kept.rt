@@ -42,7 +42,8 @@ fn has_place(places: &[usize], place: usize) -> bool
 
 /// Puts in the place that tells what the term meets first, if there is one.
 fn put_place(from: &[Term], term: &Term, places: &mut Places) -> Result<(), OutOfMemory>
-    ensures kept { OnOk result ((place : ℕ) → Contains places.old place → Contains places.new place) }
+    ensures kept { OnOk result ((place : ℕ)
+        → Contains places.old place → Contains places.new place) }
     ensures told { OnOk result (TellsOne from.now places.new term.now) }
 {
     if term.is_constant() {

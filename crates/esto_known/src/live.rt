@@ -20,7 +20,8 @@ pub fn group_at(groups: &[Group], at: usize) -> Option<&Group>
 
 /// Puts in the places of a group.
 fn put_group(groups: &[Group], at: usize, places: &mut Places) -> Result<(), OutOfMemory>
-    ensures kept { OnOk result ((place : ℕ) → Contains places.old place → Contains places.new place) }
+    ensures kept { OnOk result ((place : ℕ)
+        → Contains places.old place → Contains places.new place) }
     ensures there { OnOk result ((group : Group) → slice_get groups.now at ≡ Some group
         → (place : ℕ) → Contains group.places place → Contains places.new place) }
 {

@@ -81,7 +81,8 @@ fn is_apart(
     requires there { at < length rows.now.rows }
     requires own { IsIndexOf index.old (map (drop 1) (take at rows.now.rows)) }
     requires told { AreTold (take at rows.now.rows) }
-    ensures own { IfOk result (λ _. IsIndexOf index.new (map (drop 1) (take (at + 1) rows.now.rows))) }
+    ensures own { IfOk result (λ _.
+        IsIndexOf index.new (map (drop 1) (take (at + 1) rows.now.rows))) }
     ensures apart { IfOk result (ShowsApart rows.now.rows at) }
 {
     rows.read_row(at, row)?;

@@ -80,7 +80,8 @@ fn ask<F: Fragment>(
     ensures complete { OnOk result
         (AreAnswered get.now.inputs (F.rows fragment.now) seen.old.rows asked.old.rows
         → (row : List ℕ) → Contains (F.rows fragment.now) row
-        → Follows get.now (slice_index_or so_far.now.rows at []) row → Contains asked.new.rows row) }
+        → Follows get.now (slice_index_or so_far.now.rows at []) row
+        → Contains asked.new.rows row) }
 {
     if !name_codes(&[], so_far, at, sources, key)? {
         return Ok(());

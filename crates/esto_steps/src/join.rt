@@ -126,7 +126,8 @@ fn push_joined(
     requires there { at < length so_far.now.rows }
     requires arity { into.old.arity ≡ length join.now.kept.now }
     requires found { (columns : List Source) × FindsRows rows.now.rows columns index.now
-        × ((cells row : List ℕ) → Contains so_far.now.rows cells → Follows join.now.get.now cells row
+        × ((cells row : List ℕ) → Contains so_far.now.rows cells
+        → Follows join.now.get.now cells row
         → (codes : List ℕ) × NamesCodes cells sources.now codes × NamesCodes row columns codes) }
     ensures arity { OnOk result (into.new.arity ≡ into.old.arity) }
     ensures rows { OnOk result ((cells : List ℕ) → slice_get so_far.now.rows at ≡ Some cells
@@ -154,7 +155,8 @@ fn push_each_joined(
     requires none { into.old.rows ≡ [] }
     requires arity { into.old.arity ≡ length join.now.kept.now }
     requires found { (columns : List Source) × FindsRows rows.now.rows columns index.now
-        × ((cells row : List ℕ) → Contains so_far.now.rows cells → Follows join.now.get.now cells row
+        × ((cells row : List ℕ) → Contains so_far.now.rows cells
+        → Follows join.now.get.now cells row
         → (codes : List ℕ) × NamesCodes cells sources.now codes × NamesCodes row columns codes) }
     ensures { OnOk result ((row : List ℕ) → Contains into.new.rows row
         ↔ IsKept join.now.kept.now (IsJoin join.now.get.now so_far.now.rows rows.now.rows) row) }

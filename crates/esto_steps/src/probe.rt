@@ -217,7 +217,8 @@ pub(crate) fn joined_reached(
     requires { (cells row : List ℕ) → Contains so_far.now.rows cells
         → Follows join.now.get.now cells row
         → (link : Link) → Contains links.now link → IsMet cells row link }
-    ensures { IfOk result (λ found. MatchOption found Unit (λ it. (row : List ℕ) → Contains it.rows row
+    ensures { IfOk result (λ found. MatchOption found Unit (λ it. (row : List ℕ)
+        → Contains it.rows row
         ↔ IsKept join.now.kept.now (IsJoin join.now.get.now so_far.now.rows rows.now.rows) row)) }
 {
     let mut joined = Seen::new(alloc, join.kept.len(), so_far.len())?;

@@ -136,7 +136,8 @@ fn push_first(
     requires width { seen.old.arity ≡ length cells.now }
     ensures arity { OnOk result (few.new.arity ≡ few.old.arity) }
     ensures width { OnOk result (seen.new.arity ≡ seen.old.arity) }
-    ensures stand { OnOk result (AreStood cells.now (take at rows.now.rows) seen.old.rows few.old.rows
+    ensures stand { OnOk result
+        (AreStood cells.now (take at rows.now.rows) seen.old.rows few.old.rows
         → AreStood cells.now (take (at + 1) rows.now.rows) seen.new.rows few.new.rows) }
 {
     if !name_codes(&[], rows, at, cells, &mut buffers.key)? {
@@ -228,7 +229,8 @@ fn joined_short(
     requires early { (cells row : List ℕ) → Contains so_far.now.rows cells
         → Follows join.now.get.now cells row
         → (link : Link) → Contains links.now link → IsMet cells row link }
-    ensures { IfOk result (λ found. MatchOption found Unit (λ it. (row : List ℕ) → Contains it.rows row
+    ensures { IfOk result (λ found. MatchOption found Unit (λ it. (row : List ℕ)
+        → Contains it.rows row
         ↔ IsKept join.now.kept.now (IsJoin join.now.get.now so_far.now.rows rows.now.rows) row)) }
 {
     if !whole && !are_short(alloc, so_far, rows, links, index)? {
@@ -250,7 +252,8 @@ fn joined_indexed(
     requires { (cells row : List ℕ) → Contains so_far.now.rows cells
         → Follows join.now.get.now cells row
         → (link : Link) → Contains links.now link → IsMet cells row link }
-    ensures { IfOk result (λ found. MatchOption found Unit (λ it. (row : List ℕ) → Contains it.rows row
+    ensures { IfOk result (λ found. MatchOption found Unit (λ it. (row : List ℕ)
+        → Contains it.rows row
         ↔ IsKept join.now.kept.now (IsJoin join.now.get.now so_far.now.rows rows.now.rows) row)) }
 {
     let index = index_by(alloc, rows, links)?;
@@ -314,7 +317,8 @@ fn joined_cheaply(
     requires { (cells row : List ℕ) → Contains so_far.now.rows cells
         → Follows join.now.get.now cells row
         → (link : Link) → Contains links.now link → IsMet cells row link }
-    ensures { IfOk result (λ found. MatchOption found Unit (λ it. (row : List ℕ) → Contains it.rows row
+    ensures { IfOk result (λ found. MatchOption found Unit (λ it. (row : List ℕ)
+        → Contains it.rows row
         ↔ IsKept join.now.kept.now (IsJoin join.now.get.now so_far.now.rows rows.now.rows) row)) }
 {
     let cheap = cheap_links(alloc, so_far, rows, links)?;

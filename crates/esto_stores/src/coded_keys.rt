@@ -110,7 +110,8 @@ pub fn code_keys(
     cells: usize,
     codes: &mut Codes,
 ) -> Result<Rows, FileError>
-    ensures rows { CodesRows (key_rows bytes.now) (key_fault cells bytes.now) cells codes.new result }
+    ensures rows { CodesRows (key_rows bytes.now) (key_fault cells bytes.now)
+        cells codes.new result }
     ensures grown { Grows codes.old codes.new }
 {
     let mut coded = Rows::new(alloc, cells)?;

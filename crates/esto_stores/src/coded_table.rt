@@ -26,7 +26,8 @@ fn code_cells(
     codes: &mut Codes,
     row: &mut Values<u64>,
 ) -> Result<(), TextError>
-    ensures coded { CodesCells (cells_at places.now (fields_of cells.now)) codes.new row.new result }
+    ensures coded { CodesCells (cells_at places.now (fields_of cells.now))
+        codes.new row.new result }
     ensures grown { Grows codes.old codes.new }
 {
     row.truncate(0);

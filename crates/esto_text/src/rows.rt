@@ -34,8 +34,10 @@ fn add_name<'a>(tokens: &'a [Token], names: &mut Tokens) -> Result<(bool, &'a [T
 
 /// The names of a head, of which there are not too many, and what comes after its parenthesis.
 pub fn names(alloc: Global, tokens: &[Token]) -> Result<(Tokens, &[Token]), Stop>
-    ensures ok { IfOk result (λ x. Takes (IsRow IsName x.0) (limited_row MAX_NAMES tokens.now) x.1.now) }
-    ensures err { IfErr result (λ e. Fails (AName ∷ MoreNames ∷ []) (limited_row MAX_NAMES tokens.now) e) }
+    ensures ok { IfOk result (λ x.
+        Takes (IsRow IsName x.0) (limited_row MAX_NAMES tokens.now) x.1.now) }
+    ensures err { IfErr result (λ e.
+        Fails (AName ∷ MoreNames ∷ []) (limited_row MAX_NAMES tokens.now) e) }
 {
     let mut names = List::new(alloc);
     let mut rest = tokens;
