@@ -189,7 +189,8 @@ module _ (atoms : List PlanAtom) (fragments : List FragmentDef) (supplies : List
       λ h. absurd (covers_none set (subst (λ it. Covers it set) is h)),
       λ (has, (fact, at_fact, (pattern, own, meets))). absurd
           (Contains-nil pattern (subst (λ its. Contains its pattern) (no_patterns fragments atom.fragment l)
-          (subst (λ (it : Fact Term). Contains (slice_index_or (patterns_of fragments) it.relation []) pattern) (sym (one_fact atoms number atom at fact at_fact)) own))),
+          (subst (λ (it : Fact Term). Contains (slice_index_or (patterns_of fragments) it.relation []) pattern)
+          (sym (one_fact atoms number atom at fact at_fact)) own))),
     )
 
     pub next_some : (fragment : FragmentDef) → slice_get fragments atom.fragment ≡ Some fragment → (found : List (List Bool))
@@ -202,6 +203,7 @@ module _ (atoms : List PlanAtom) (fragments : List FragmentDef) (supplies : List
           λ h. let (has, (pattern, inside, meets)) = (covers set).0
               h in (has, (fact_of atom, map_at fact_of atoms number atom at, (pattern, subst (λ its. Contains its pattern) (sym own) inside, meets))),
           λ (has, (fact, at_fact, accessible)).
-              let here = subst (IsAccessible (patterns_of fragments) (map fact_of atoms) (IsSupplied supplies set)) (sym (one_fact atoms number atom at fact at_fact)) accessible in
+              let here = subst (IsAccessible (patterns_of fragments) (map fact_of atoms) (IsSupplied supplies set))
+              (sym (one_fact atoms number atom at fact at_fact)) accessible in
               (covers set).1 (has, (here.0, subst (λ its. Contains its here.0) own here.1, here.2)),
         )

@@ -5,7 +5,8 @@ use lib.Bits.{and_comm, and_self, or_comm}
 use native.Mathlib.Nat.{add-mul-mod_self_right}
 use Rattle.std.proofs.Math.Nat.{mul-le-mul_right, mul-mod_left}
 use Rattle.std.proofs.lemmas.Bool.{cases_lt}
-use Rattle.std.proofs.lemmas.List.{drop-drop, drop-take, get_or_append_left, get_or_push, get_or-drop, get_or-take, length-append, length-drop, length-take, take-take}
+use Rattle.std.proofs.lemmas.List.{drop-drop, drop-take, get_or_append_left, get_or_push, get_or-drop, get_or-take, length-append, length-drop, length-take}
+use Rattle.std.proofs.lemmas.List.{take-take}
 use Rattle.std.proofs.lemmas.Nat.{and_assoc, and_or_self}
 use Rattle.esto_bits.specs.Pages.{ArePagesOf, HasAround, HasWithin, IsOnPage, IsPageOf, SomeOnPage}
 use Rattle.esto_bits.specs.declared.pages.Page.{Page}
@@ -183,7 +184,8 @@ module _ (rows : List ℕ) (width : ℕ) (some : 1 ≤ width) (P : List ℕ → 
       → part ≡ slice_range rows (place * size) (place * size + size) → length part % width ≡ 0
   page_whole place size part room wide is =
       ap (λ them. length them % width) is
-      ∙ ap (λ n. n % width) (length-part rows (place * size) (place * size + size) (subst (λ it. place * it + it ≤ length rows) (sym wide) (omega (arith, room)))
+      ∙ ap (λ n. n % width) (length-part rows (place * size) (place * size + size)
+      (subst (λ it. place * it + it ≤ length rows) (sym wide) (omega (arith, room)))
       ∙ (let rest : (place * size + size) - place * size ≡ size = omega arith in rest) ∙ wide)
       ∙ mul-mod_left 64 width
 
@@ -223,8 +225,8 @@ pub page_more : (rows : List ℕ) (width place : ℕ) (pages : List Page) (page 
     → IsPageOf rows width place page → (place * 64 + 64) * width ≤ length rows → ArePagesOf rows width (pages ++ page ∷ [])
 page_more rows width place pages page last are is room = record {
   whole = subst (λ n. n * 64 * width ≤ length rows) (sym (length-append pages (page ∷ [])))
-      (let same : (place * 64 + 64) * width ≡ (length pages + 1) * 64 * width = ap (λ n. (n * 64 + 64) * width) last ∙ (let it : (length pages * 64 + 64) * width ≡
-      (length pages + 1) * 64 * width = omega arith in it) in subst (λ n. n ≤ length rows) same room);
+      (let same : (place * 64 + 64) * width ≡ (length pages + 1) * 64 * width = ap (λ n. (n * 64 + 64) * width) last
+      ∙ (let it : (length pages * 64 + 64) * width ≡ (length pages + 1) * 64 * width = omega arith in it) in subst (λ n. n ≤ length rows) same room);
   each = λ at other below. elim (cases_lt at (length pages)) [
     | inl early ↦ subst (IsPageOf rows width at) (sym (get_or_append_left pages (page ∷ []) other at early)) (are.each at other early)
     | inr late ↦

@@ -571,7 +571,8 @@ module _ (one_ranks : HaveOneRanks) (one_cycle : HaveOneCycle) (version : Versio
       → cycle ≡ other
   same_cycle cycle other (least, names) (least', names') =
       let relations : cycle.relations ≡ other.relations = one_cycle (all_rules version datasets own) _ _ least least' in
-      let all : cycle.names ≡ other.names = map_one Some same_Some _ _ (names ∙ (ap (map (slice_get (names_of (schema_of datasets)))) relations ∙ sym names')) in
+      let all : cycle.names ≡ other.names =
+      map_one Some same_Some _ _ (names ∙ (ap (map (slice_get (names_of (schema_of datasets)))) relations ∙ sym names')) in
       λ i. record { relations = relations i; names = all i }
 
   ranked_determined : IsDeterminedUpTo AreSameRanked (is_ranked version datasets own)

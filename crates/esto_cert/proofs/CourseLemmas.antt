@@ -8,8 +8,8 @@ use Rattle.esto_term.specs.Order.{replaced, same_term}
 use Rattle.esto_term.specs.declared.term.Term.{Term, out-Term}
 use Rattle.esto_term.specs.declared.term.Term.TheOpen.{Term-F}
 use Rattle.esto_term.specs.declared.term.Term.TheVariants.{Const, Plain, Made, outs-Const, outs-Plain, outs-Made}
-use Rattle.esto_term.proofs.ListLemmas.{Contains-at, Contains-cases, Contains-head, Contains-map_from, Contains-nil, Contains-rest, at_left, map_agree, map_then}
-use Rattle.esto_term.proofs.ListLemmas.{place-from_Contains}
+use Rattle.esto_term.proofs.ListLemmas.{Contains-at, Contains-cases, Contains-head, Contains-map_from, Contains-nil, Contains-rest, at_left, map_agree}
+use Rattle.esto_term.proofs.ListLemmas.{map_then, place-from_Contains}
 use Rattle.esto_term.proofs.ZipLemmas.{zip_weaker}
 use Rattle.esto_semantics.specs.Facts.{image, Mentions, terms_of}
 use Rattle.esto_semantics.specs.Instances.{MapsTo}
@@ -462,8 +462,8 @@ module _ (case : Case) where
 
       merge_sends : (fact : Fact Term) → Contains now.body fact → Reaches Claimed (image told.value (image (replaced from to) fact))
       merge_sends fact inside =
-          reaches_one Claimed (image told.value fact) (image told.value (image (replaced from to) fact)) (reaches_more (Contains old.claims) Claimed still (image told.value fact)
-          (told.sends fact inside)) (refl, rows_unseen fact.terms)
+          reaches_one Claimed (image told.value fact) (image told.value (image (replaced from to) fact))
+          (reaches_more (Contains old.claims) Claimed still (image told.value fact) (told.sends fact inside)) (refl, rows_unseen fact.terms)
 
       merge_told : Told case.targets merge_begun.claims next
       merge_told = record {

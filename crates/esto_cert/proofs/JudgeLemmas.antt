@@ -103,8 +103,8 @@ unmatched rules number rule claims body facts links option numbered_is body_is i
     (subst (λ (it : List (Fact Term)). Matches claims it facts links chosen equalities) (ap body_of same ∙ sym body_is) matches)
 
 -- the line of a step whose match is found makes what the rule makes there, or nothing
-module _ (case : Case) (claims : List Claim) (number place : ℕ) (facts links : List ℕ) (rule : Rule) (body : List (Fact Term)) (option : Option Found) (found : Found)
-    (numbered_is : numbered case.rules number ≡ Some rule) (body_is : body ≡ body_of rule) (is : IsFound claims body facts links option)
+module _ (case : Case) (claims : List Claim) (number place : ℕ) (facts links : List ℕ) (rule : Rule) (body : List (Fact Term)) (option : Option Found)
+    (found : Found) (numbered_is : numbered case.rules number ≡ Some rule) (body_is : body ≡ body_of rule) (is : IsFound claims body facts links option)
     (some : option ≡ Some found) where
   its_match : IsFound claims (body_of rule) facts links (Some found)
   its_match = subst (λ (it : List (Fact Term)). IsFound claims it facts links (Some found)) body_is

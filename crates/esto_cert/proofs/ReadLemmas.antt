@@ -68,7 +68,8 @@ other_words (a ∷ b ∷ c ∷ d ∷ e ∷ f ∷ rest) three five = refl
 capped-capped : (value : ℕ) → capped (capped value) ≡ capped value
 capped-capped value = by (nat_le value greatest_u64) refl
   where
-    by : (test : Bool) → nat_le value greatest_u64 ≡ test → capped (if test then value else 18446744073709551616) ≡ (if test then value else 18446744073709551616)
+    by : (test : Bool) → nat_le value greatest_u64 ≡ test
+        → capped (if test then value else 18446744073709551616) ≡ (if test then value else 18446744073709551616)
     by true is = ap (λ (it : Bool). if it then value else 18446744073709551616) is
     by false is = refl
 

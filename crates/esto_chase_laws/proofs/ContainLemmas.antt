@@ -59,8 +59,8 @@ module _ (expanded : List ExpandedFact) (rules : List Rule) (entries : List Entr
         sends = λ fact inside.
             let from = Contains-map_from (image rep) facts fact inside in
             subst (Contains database)
-            (facts_one after.after after.one_value from.0 (image rep from.0) (refl, row_linked Holds rep (rep_linked entries atoms) from.0.terms) ∙ ap (image after.after) from.2)
-            (after.sends from.0 (fact_in_world entries atoms from.0 from.1));
+            (facts_one after.after after.one_value from.0 (image rep from.0) (refl, row_linked Holds rep (rep_linked entries atoms) from.0.terms)
+            ∙ ap (image after.after) from.2) (after.sends from.0 (fact_in_world entries atoms from.0 from.1));
         one_value = λ term other is. after.one_value term (rep term) (rep_linked entries atoms term) ∙ ap after.after is;
       }
 

@@ -81,7 +81,8 @@ module _ (rules : List Rule) (facts : List (Fact Term)) (i j : ℕ) (one two : R
   next_active = subst (λ rule. IsActive rule facts m places) same_rule next.active
 
   pub same_places : places ≡ others
-  same_places = at_most_both (slice_cmp nat_cmp) nat_list_cmp_total exact_bytes places others (next.least other others again_active) (again.least m places next_active)
+  same_places = at_most_both (slice_cmp nat_cmp) nat_list_cmp_total exact_bytes places others (next.least other others again_active)
+      (again.least m places next_active)
 
   pub same_map : AgreeOn ◌≡◌ (body_of one) m other
   same_map =

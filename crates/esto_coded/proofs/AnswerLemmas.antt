@@ -165,8 +165,8 @@ pub no_rows_at : (relations : List StoredRows) (number : ℕ) → slice_get rela
 no_rows_at relations number none =
     ap (λ them. them number) (rows_in_is relations) ∙ get_or_past (map rows_of relations) number [] (past (slice_get_cases relations number).1)
   where
-    past : ((relation : StoredRows) × (number < length relations) × (slice_get relations number ≡ Some relation) × (get_or relations number relation ≡ relation))
-        ⊎ ((length relations ≤ number) × (slice_get relations number ≡ None))
+    past : ((relation : StoredRows) × (number < length relations) × (slice_get relations number ≡ Some relation)
+        × (get_or relations number relation ≡ relation)) ⊎ ((length relations ≤ number) × (slice_get relations number ≡ None))
         → length (map rows_of relations) ≤ number
     past (inl (relation, _, there, _)) = absurd (none-some relation (sym none ∙ there))
     past (inr (outside, _)) = rw (length-map relations rows_of) outside
@@ -184,7 +184,8 @@ there_tells relations atom relation arity count there is long counted = by (arit
         let same : relation.rows.arity ≡ length atom.terms = sym is ∙ (Decides-eqb arity count).0 told ∙ counted in
         (relation, there, λ row inside. long row inside ∙ same)
     by false told = λ row inside same_length.
-        let own : relation.rows.arity ≡ length row = sym (long row (subst (λ them. Contains them row) (rows_at relations atom.relation relation there) inside)) in
+        let own : relation.rows.arity ≡ length row =
+        sym (long row (subst (λ them. Contains them row) (rows_at relations atom.relation relation there) inside)) in
         let wrong : false ≡ true = sym told ∙ (Decides-eqb arity count).1 (is ∙ own ∙ same_length ∙ sym counted) in cc
 
 all_fit : (relations : List StoredRows) (atoms : List (Fact Term)) → ((atom : Fact Term) → Contains atoms atom → IsOver relations atom)

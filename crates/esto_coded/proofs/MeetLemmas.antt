@@ -12,7 +12,8 @@ use Rattle.esto_term.specs.Order.{same_term}
 use Rattle.esto_term.specs.declared.list.OutOfMemory.{OutOfMemory}
 use Rattle.esto_term.specs.declared.term.Term.{Term}
 use Rattle.esto_term.specs.declared.term.Term.TheVariants.{Const}
-use Rattle.esto_term.proofs.ListLemmas.{Contains-nil, Contains-head, Contains-rest, Contains-cases, Contains-one, Contains-map, Contains-map_from, agree-from_map, map_agree, place-from_Contains}
+use Rattle.esto_term.proofs.ListLemmas.{Contains-nil, Contains-head, Contains-rest, Contains-cases, Contains-one, Contains-map, Contains-map_from}
+use Rattle.esto_term.proofs.ListLemmas.{agree-from_map, map_agree, place-from_Contains}
 use Rattle.esto_term.proofs.ZipLemmas.{zip_left}
 use Rattle.esto_semantics.specs.Facts.{image, Mentions, terms_of}
 use Rattle.esto_semantics.specs.Maps.{AgreeOn, IsFlat, IsFixedBy, Keeps, Sends}
@@ -28,8 +29,8 @@ use Rattle.esto_coded.proofs.StandLemmas.{codes_grow, one_term, one_code}
 
 -- ---- codes of terms, one each
 
-pub one_terms : (texts : List (List ℕ)) → AreTelling texts → (terms others : List Term) (codes : List ℕ) → AreCodesOf texts terms codes → AreCodesOf texts others codes
-    → terms ≡ others
+pub one_terms : (texts : List (List ℕ)) → AreTelling texts → (terms others : List Term) (codes : List ℕ) → AreCodesOf texts terms codes
+    → AreCodesOf texts others codes → terms ≡ others
 one_terms texts tell [] [] codes are also = refl
 one_terms texts tell [] (other ∷ others) [] are also = absurd also
 one_terms texts tell [] (other ∷ others) (code ∷ codes) are also = absurd are
@@ -53,7 +54,8 @@ zip_made R (x ∷ xs) each =
 abbrev pub HaveTexts : List (List ℕ) → List Term → Type 0
 HaveTexts texts terms = (text : List ℕ) → Contains terms (Const text) → Contains texts text
 
-module _ (coded : Coded) (facts : List (Fact Term)) (stand : StandFor coded facts) (m : Term → Term) (body : List (Fact Term)) (sends : Sends m body facts) where
+module _ (coded : Coded) (facts : List (Fact Term)) (stand : StandFor coded facts) (m : Term → Term) (body : List (Fact Term))
+    (sends : Sends m body facts) where
   mentioned_code : (term : Term) → Mentions body term → (code : ℕ) × IsCodeOf coded.texts (m term) code
   mentioned_code term (fact, inside, among) =
       let own = stand.has (image m fact) (sends fact inside) in
@@ -198,8 +200,8 @@ sends_both m more body head facts sends agree also atom inside = elim (Contains-
 -- ---- whether rows are answers
 
 pub part_told : (coded : Coded) (head : List Term) (body : List (Fact Term)) (rows answers : List (List ℕ))
-    → AreCodedAnswers coded (record { head = head; body = body }) answers → (answer : Bool) → IsTrue answer ↔ ((row : List ℕ) → Contains rows row → Contains answers row)
-    → (facts : List (Fact Term)) → StandFor coded facts
+    → AreCodedAnswers coded (record { head = head; body = body }) answers → (answer : Bool)
+    → IsTrue answer ↔ ((row : List ℕ) → Contains rows row → Contains answers row) → (facts : List (Fact Term)) → StandFor coded facts
     → IsTrue answer ↔ ((row : List ℕ) → Contains rows row → IsCodedAnswer coded (record { head = head; body = body }) facts row)
 part_told coded head body rows answers are answer told facts stand = (
   λ part row inside. (are facts stand row).0 (told.0 part row inside),
@@ -247,7 +249,8 @@ module _ (body head : List (Fact Term)) (is : IsTupleRule body head) (one two : 
       let found = met m own.2.1 own.2.2 in
       let terms : own.0 ≡ map found.0 (frontier body head) =
       own.2.3 ∙ map_agree m found.0 (frontier body head) (λ term among. found.2 term (frontier_body body head term among)) in
-      (own.0, codes_grow one.texts two.texts stays.grown own.0 row own.1, (found.0, found.1, sends_both m found.0 body head facts own.2.2 found.2 found.3, terms))
+      (own.0, codes_grow one.texts two.texts stays.grown own.0 row own.1,
+      (found.0, found.1, sends_both m found.0 body head facts own.2.2 found.2 found.3, terms))
 
 pub tuple_answered : (body head : List (Fact Term)) → IsTupleRule body head → (shared : List Term) → shared ≡ frontier body head → (one two : Coded)
     → StaysFor one two → AreTelling two.texts → HaveTexts one.texts shared → (given : List (List ℕ)) (answer : Bool)
@@ -258,7 +261,8 @@ pub tuple_answered : (body head : List (Fact Term)) → IsTupleRule body head �
 tuple_answered body head is shared same one two stays tell known given answer of_body told facts stand =
     let have = subst (HaveTexts one.texts) same known in
     let are = subst (λ terms. AreCodedAnswers one (record { head = terms; body = body }) given) same of_body in
-    let each = subst (λ terms. IsTrue answer ↔ ((row : List ℕ) → Contains given row → IsCodedAnswer two (record { head = terms; body = body ++ head }) facts row))
+    let each = subst (λ terms. IsTrue answer
+    ↔ ((row : List ℕ) → Contains given row → IsCodedAnswer two (record { head = terms; body = body ++ head }) facts row))
     same (told facts (stays.facts facts stand)) in (
       λ yes. goes_on body head is one two stays tell have given are facts stand (each.0 yes),
       λ met. each.1 (is_given body head is one two stays tell have given are facts stand met),

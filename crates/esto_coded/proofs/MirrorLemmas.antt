@@ -1,6 +1,6 @@
 -- Equality rules whose body is two halves, each of which is the other under another naming of variables.
-use Rattle.std.proofs.Common.{◌≡◌, ◌↔◌, ◌⊎◌, inl, inr, ℕ, zero, suc, ◌≤◌, Bool, true, false, cond, List, [], ◌∷◌, ◌++◌, map, length, take, drop, Some, slice_get, Contains}
-use Rattle.std.proofs.Common.{refl, sym, ap, ◌∙◌, subst, arith, IsTrue}
+use Rattle.std.proofs.Common.{◌≡◌, ◌↔◌, ◌⊎◌, inl, inr, ℕ, zero, suc, ◌≤◌, Bool, true, false, cond, List, [], ◌∷◌, ◌++◌, map, length, take, drop, Some}
+use Rattle.std.proofs.Common.{slice_get, Contains, refl, sym, ap, ◌∙◌, subst, arith, IsTrue}
 use Rattle.std.specs.List.{filter}
 use Rattle.std.specs.Set.{is_member}
 use Rattle.std.proofs.lemmas.Bool.{cases_order, false≢true, and_parts}
@@ -10,7 +10,8 @@ use Rattle.std.proofs.lemmas.Option.{same_Some, slice_get_within}
 use Rattle.esto_term.specs.Order.{same_term}
 use Rattle.esto_term.specs.declared.term.Term.{Term, out-Term}
 use Rattle.esto_term.specs.declared.term.Term.TheVariants.{Const}
-use Rattle.esto_term.proofs.ListLemmas.{Contains-nil, Contains-head, Contains-rest, Contains-cases, Contains-map, Contains-filter_from, map_agree, map_then, map_itself, agree-from_map}
+use Rattle.esto_term.proofs.ListLemmas.{Contains-nil, Contains-head, Contains-rest, Contains-cases, Contains-map, Contains-filter_from, map_agree, map_then}
+use Rattle.esto_term.proofs.ListLemmas.{map_itself, agree-from_map}
 use Rattle.esto_semantics.specs.Facts.{image, Mentions, terms_of}
 use Rattle.esto_semantics.specs.Maps.{IsConstant, AreFlat, IsFixedBy, Keeps, Sends}
 use Rattle.esto_semantics.specs.Rules.{IsEqualityRule, IsMet, equality}
@@ -99,8 +100,8 @@ first_one texts tell one other terms (code ∷ key) (next ∷ rest) are also apa
 ]
 
 -- and rows that are contrary are of terms that agree after the first alone
-contrary_apart : (texts : List (List ℕ)) → AreTelling texts → (one other : Term) (terms others : List Term) (row more : List ℕ) → AreCodesOf texts (one ∷ terms) row
-    → AreCodesOf texts (other ∷ others) more → IsContrary row more → (terms ≡ others) × (one ≡ other → ⊥)
+contrary_apart : (texts : List (List ℕ)) → AreTelling texts → (one other : Term) (terms others : List Term) (row more : List ℕ)
+    → AreCodesOf texts (one ∷ terms) row → AreCodesOf texts (other ∷ others) more → IsContrary row more → (terms ≡ others) × (one ≡ other → ⊥)
 contrary_apart texts tell one other terms others [] more are also contrary = absurd are
 contrary_apart texts tell one other terms others (code ∷ key) [] are also contrary = absurd also
 contrary_apart texts tell one other terms others (code ∷ key) (next ∷ rest) are also contrary = (
@@ -109,7 +110,8 @@ contrary_apart texts tell one other terms others (code ∷ key) (next ∷ rest) 
 )
 
 -- a map after another that makes the one half the other
-pub sends_after : (go m : Term → Term) (first second facts : List (Fact Term)) → map (image go) first ≡ second → Sends m second facts → Sends (λ term. m (go term)) first facts
+pub sends_after : (go m : Term → Term) (first second facts : List (Fact Term)) → map (image go) first ≡ second → Sends m second facts
+    → Sends (λ term. m (go term)) first facts
 sends_after go m first second facts is sends atom inside =
     let there = subst (λ atoms. Contains atoms (image go atom)) is (Contains-map (image go) first atom inside) in
     subst (λ them. Contains facts (record { relation = atom.relation; terms = them })) (map_then go m atom.terms) (sends (image go atom) there)
@@ -134,7 +136,8 @@ module _ (first second : List (Fact Term)) (left right : Term) (shared : List Te
 
       right_in : Mentions second right
       right_in = subst (Mentions second) is.there.1.side (Mentions-sent is.there.0 first second left
-          (λ atom inside. subst (λ atoms. Contains atoms (image is.there.0 atom)) is.there.1.atoms (Contains-map (image is.there.0) first atom inside)) is.inside)
+          (λ atom inside. subst (λ atoms. Contains atoms (image is.there.0 atom)) is.there.1.atoms (Contains-map (image is.there.0) first atom inside))
+          is.inside)
 
       both_keeps : Keeps Const both
       both_keeps text = joint_other first m over (Const text) (λ inside. keeps text ∙ sym (over_keeps text)) ∙ over_keeps text
@@ -167,7 +170,8 @@ module _ (first second : List (Fact Term)) (left right : Term) (shared : List Te
   met_where each m keeps sends =
       let go = is.there.0 in
       let over = is.there.1 in
-      each m (λ term. m (go term)) keeps (λ text. ap m (over.keeps text) ∙ keeps text) (λ atom inside. sends atom (Contains-append_left first second atom inside))
+      each m (λ term. m (go term)) keeps (λ text. ap m (over.keeps text) ∙ keeps text)
+      (λ atom inside. sends atom (Contains-append_left first second atom inside))
       (sends_after go m first second facts over.atoms (λ atom inside. sends atom (Contains-append_right first second atom inside)))
       (ap (map m) (sym over.stay) ∙ map_then go m shared)
       ∙ ap m over.side

@@ -1,6 +1,6 @@
 -- A part of the facts, made from the rows all of whose codes are among some codes.
-use Rattle.std.proofs.Common.{◌≡◌, ◌⊎◌, ◌==◌, inl, inr, ℕ, zero, suc, ◌+◌, ◌<◌, ◌≤◌, Bool, true, false, cond, List, [], ◌∷◌, ◌++◌, map, length, take, Some, slice_get, Contains, refl, sym, ap, ◌∙◌}
-use Rattle.std.proofs.Common.{subst, arith, Option, None, IsTrue}
+use Rattle.std.proofs.Common.{◌≡◌, ◌⊎◌, ◌==◌, inl, inr, ℕ, zero, suc, ◌+◌, ◌<◌, ◌≤◌, Bool, true, false, cond, List, [], ◌∷◌, ◌++◌, map, length, take, Some}
+use Rattle.std.proofs.Common.{slice_get, Contains, refl, sym, ap, ◌∙◌, subst, arith, Option, None, IsTrue}
 use Rattle.std.specs.Prelude.{nat_eq, IfSome, ◌||◌}
 use Rattle.std.specs.List.{AllZip, filter}
 use Rattle.std.specs.Set.{is_member}
@@ -11,7 +11,8 @@ use Rattle.std.proofs.lemmas.List.Elements.{filter-append}
 use Rattle.std.proofs.lemmas.Option.{same_Some, slice_get_cases}
 use Rattle.esto_term.specs.declared.term.Term.{Term}
 use Rattle.esto_term.specs.declared.term.Term.TheVariants.{Const}
-use Rattle.esto_term.proofs.ListLemmas.{Contains-nil, Contains-head, Contains-rest, Contains-cases, Contains-at, Contains-map, Contains-map_from, Contains-filter, Contains-filter_from, thing_at}
+use Rattle.esto_term.proofs.ListLemmas.{Contains-nil, Contains-head, Contains-rest, Contains-cases, Contains-at, Contains-map, Contains-map_from}
+use Rattle.esto_term.proofs.ListLemmas.{Contains-filter, Contains-filter_from, thing_at}
 use Rattle.esto_term.proofs.PlaceLemmas.{earlier_or_last, take-there}
 use Rattle.esto_term.proofs.ZipLemmas.{zip_left, zip_right}
 use Rattle.esto_columns.specs.CodedRows.{CodedRows}

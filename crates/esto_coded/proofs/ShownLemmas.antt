@@ -1,6 +1,6 @@
 -- Codes of nodes in columns.
-use Rattle.std.proofs.Common.{◌≡◌, ◌↔◌, inl, inr, ℕ, zero, suc, ◌+◌, ◌<◌, ◌≤◌, Bool, false, List, [], ◌∷◌, map, length, get_or, Some, Contains, refl, sym, ap, ◌∙◌}
-use Rattle.std.proofs.Common.{subst, arith, IsTrue}
+use Rattle.std.proofs.Common.{◌≡◌, ◌↔◌, inl, inr, ℕ, zero, suc, ◌+◌, ◌<◌, ◌≤◌, Bool, false, List, [], ◌∷◌, map, length, get_or, Some, Contains, refl, sym, ap}
+use Rattle.std.proofs.Common.{◌∙◌, subst, arith, IsTrue}
 use Rattle.std.proofs.lemmas.Bool.{cases_order, false≢true}
 use Rattle.std.proofs.lemmas.Option.{slice_get_within, slice_get-get_or, get_or_from_slice_get}
 use Rattle.esto_columns.specs.declared.stored.StoredRows.{StoredRows}
@@ -49,7 +49,8 @@ none_more rows count none before row lesser inside under node = elim (cases_orde
   | inr (inr past) ↦ omega (arith, past, under)
 ]
 
-pub is_least : (rows : List (List ℕ)) (count : ℕ) → NoneBelow rows count → (row : List ℕ) (lesser : ℕ) → Contains rows row → HasNodeAt lesser row → count ≤ lesser
+pub is_least : (rows : List (List ℕ)) (count : ℕ) → NoneBelow rows count → (row : List ℕ) (lesser : ℕ) → Contains rows row
+    → HasNodeAt lesser row → count ≤ lesser
 is_least rows count before row lesser inside node = elim (cases_order lesser count) [
   | inl same ↦ omega (arith, same)
   | inr (inl less) ↦ absurd (before row lesser inside less node)
@@ -64,7 +65,8 @@ held_there [] number own within is = absurd (omega (arith, within))
 held_there (first ∷ rest) zero own within is = ap (λ (it : StoredRows). it.rows.rows) (sym is)
 held_there (first ∷ rest) (suc number) own within is = held_there rest number own (omega (arith, within)) is
 
-pub held_past : (relations : List StoredRows) (number : ℕ) → length relations ≤ number → rows_in (map (λ (stored : StoredRows). stored.rows) relations) number ≡ []
+pub held_past : (relations : List StoredRows) (number : ℕ) → length relations ≤ number
+    → rows_in (map (λ (stored : StoredRows). stored.rows) relations) number ≡ []
 held_past [] number past = refl
 held_past (first ∷ rest) zero past = absurd (omega (arith, past))
 held_past (first ∷ rest) (suc number) past = held_past rest number (omega (arith, past))

@@ -12,7 +12,8 @@ use Rattle.esto_semantics.specs.Facts.{terms_of}
 use Rattle.esto_semantics.specs.Maps.{IsFixedBy}
 use Rattle.esto_semantics.specs.Queries.{ConjunctiveQuery}
 use Rattle.esto_semantics.specs.declared.fact.Fact.{Fact}
-use Rattle.esto_term.proofs.ListLemmas.{Contains-nil, Contains-head, Contains-rest, Contains-cases, Contains-at, Contains-flat, at_left, at_end, at_pushed, map_at}
+use Rattle.esto_term.proofs.ListLemmas.{Contains-nil, Contains-head, Contains-rest, Contains-cases, Contains-at, Contains-flat, at_left, at_end, at_pushed}
+use Rattle.esto_term.proofs.ListLemmas.{map_at}
 use Rattle.esto_term.proofs.PlaceLemmas.{take-item}
 use Rattle.esto_term.proofs.ZipLemmas.{zip_left}
 use Rattle.esto_semantics.proofs.TermLemmas.{Const-same}
@@ -281,8 +282,10 @@ get_named : (texts : List (List ℕ)) (bound : List Term) (atoms : List (Fact Te
 get_named texts bound atoms [] are get inside = absurd (Contains-nil get inside)
 get_named texts bound [] (first ∷ gets) are get inside = absurd are
 get_named texts bound (atom ∷ atoms) (first ∷ gets) are get inside = elim (Contains-cases first gets get inside) [
-  | inl same ↦ (atom, Contains-head atom atoms, ap (λ (it : Get). it.fragment) (sym same) ∙ (are.0).fragment, ap (λ (it : Get). it.inputs) (sym same) ∙ (are.0).inputs)
-  | inr later ↦ let found = get_named texts (bound ++ atom.terms) atoms gets are.1 get later in (found.0, Contains-rest atom atoms found.0 found.1, found.2, found.3)
+  | inl same ↦ (atom, Contains-head atom atoms, ap (λ (it : Get). it.fragment) (sym same) ∙ (are.0).fragment,
+      ap (λ (it : Get). it.inputs) (sym same) ∙ (are.0).inputs)
+  | inr later ↦ let found = get_named texts (bound ++ atom.terms) atoms gets are.1 get later in
+      (found.0, Contains-rest atom atoms found.0 found.1, found.2, found.3)
 ]
 
 -- what a fragment of the relation's rows is to the executor

@@ -23,7 +23,8 @@ IsCodeOf texts term code =
 abbrev pub AreCodesOf : List (List ℕ) → List Term → List ℕ → Type 0
 AreCodesOf texts terms codes = AllZip (IsCodeOf texts) terms codes
 
--- The texts tell codes and terms apart: no two are the same, and their codes stand below those of nodes. So a code stands for one term, and a term has one code.
+-- The texts tell codes and terms apart: no two are the same, and their codes stand below those of nodes. So a code stands for one term, and a term has one
+-- code.
 pub record AreTelling (texts : List (List ℕ)) : Type 0 where
   pub distinct : AllPairs ◌≢◌ texts
   pub few : length texts ≤ FIRST_NODE

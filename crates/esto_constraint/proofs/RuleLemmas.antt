@@ -57,7 +57,8 @@ of_sides P left right term one two inside = elim (Contains-cases left (right ∷
   ]
 ]
 
-pub with_sides : (body : List (Fact Term)) (left right : Term) (names : List Name) → IsSoundEquality body left right names → IsSound (left ∷ right ∷ []) body names
+pub with_sides : (body : List (Fact Term)) (left right : Term) (names : List Name) → IsSoundEquality body left right names
+    → IsSound (left ∷ right ∷ []) body names
 with_sides body left right names kept = record {
   query = record {
     has_head = λ none. cc;

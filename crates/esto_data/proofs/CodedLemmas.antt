@@ -26,7 +26,8 @@ module _ (old new : CodedData) (stays : Stays old new) where
   pub still_coded : IsCoded old → IsCoded new
   still_coded (loaded, stand) = (loaded, stays.kept loaded stand)
 
-  left_stays : (datasets : List Dataset) (wanted : Wanted) (facts : List (Fact Term)) → HoldsLeft datasets wanted facts old → HoldsLeft datasets wanted facts new
+  left_stays : (datasets : List Dataset) (wanted : Wanted) (facts : List (Fact Term)) → HoldsLeft datasets wanted facts old
+      → HoldsLeft datasets wanted facts new
   left_stays datasets wanted facts left =
       record { loaded = left.loaded; stand = stays.kept left.loaded left.stand; leaves = left.leaves; lawful = left.lawful }
 

@@ -1,5 +1,6 @@
 -- Rows of codes, the rows of terms that they are of, and the rows of values that these stand for.
-use Rattle.std.proofs.Common.{◌≡◌, ◌≢◌, ◌↔◌, ◌<◌, ◌≤◌, ◌+◌, inl, inr, ℕ, zero, suc, List, [], ◌∷◌, ◌++◌, length, get_or, take, map, Option, Some, None, slice_get, Contains, refl, sym, ap, ◌∙◌, subst, append-nil, arith}
+use Rattle.std.proofs.Common.{◌≡◌, ◌≢◌, ◌↔◌, ◌<◌, ◌≤◌, ◌+◌, inl, inr, ℕ, zero, suc, List, [], ◌∷◌, ◌++◌, length, get_or, take, map, Option, Some, None}
+use Rattle.std.proofs.Common.{slice_get, Contains, refl, sym, ap, ◌∙◌, subst, append-nil, arith}
 use Rattle.std.specs.Borrow.{Bor}
 use Rattle.std.specs.Option.{option_copied}
 use Rattle.std.specs.Prelude.{AllPairs, Result, Ok, Err, IfOk}
@@ -27,7 +28,8 @@ use Rattle.esto_semantics.specs.declared.fact.Value.TheVariants.{Text, Node}
 use Rattle.esto_stores.specs.Rows.{Row}
 use Rattle.esto_term.specs.declared.term.Term.{Term}
 use Rattle.esto_term.specs.declared.term.Term.TheVariants.{Const}
-use Rattle.esto_term.proofs.ListLemmas.{Contains-at, Contains-head, Contains-map, Contains-map_from, Contains-nil, Contains-rest, first_same, map_at, map_at-from, place-from_Contains, rest_same}
+use Rattle.esto_term.proofs.ListLemmas.{Contains-at, Contains-head, Contains-map, Contains-map_from, Contains-nil, Contains-rest, first_same, map_at}
+use Rattle.esto_term.proofs.ListLemmas.{map_at-from, place-from_Contains, rest_same}
 use Rattle.esto_term.proofs.PlaceLemmas.{take-item}
 use Rattle.esto_term.proofs.ZipLemmas.{zip_at, zip_left}
 use Rattle.esto_data.specs.CodedParts.{AreRowsOf, HaveTerms, IsUnionRow, ShowsRows, Stays}

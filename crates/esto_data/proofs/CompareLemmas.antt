@@ -158,8 +158,8 @@ module _ (one : FactsAreOne) (catalogue : Catalogue) (trial : Trial) (tries : Is
   again_texts = texts_back catalogue (rules_of trial.laws) facts loaded.facts again_enough audited.texts
 
 -- each of the files of facts is that of a dataset
-numbered : (datasets : List Dataset) (first : ℕ) (files : List DatasetBytes) (facts : List (Fact Term)) (next : ℕ) → AreFactsFrom datasets first files facts next
-    → AreNumbered datasets files
+numbered : (datasets : List Dataset) (first : ℕ) (files : List DatasetBytes) (facts : List (Fact Term)) (next : ℕ)
+    → AreFactsFrom datasets first files facts next → AreNumbered datasets files
 numbered datasets first [] facts next are file inside = absurd (Contains-nil file inside)
 numbered datasets first (own ∷ files) facts next (dataset, its, others, at, is, rest, both) file inside =
     let later = numbered datasets (first + nodes_in dataset own.bytes) files others next rest in

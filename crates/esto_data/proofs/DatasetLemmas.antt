@@ -37,7 +37,8 @@ use Rattle.esto_status.specs.declared.status.Status.{Status}
 use Rattle.esto_status.specs.declared.status.Status.TheVariants.{BadDataset, NoData, OutOfMemory}
 use Rattle.esto_status.proofs.AskedSteps.{exit_asks, later_asks, quiet_asks, wanted as judged_want}
 use Rattle.esto_status.proofs.FileSteps.{opened_asks, opened_goes, unfetched_asks, unfetched_stops, unread_asks, unread_stops}
-use Rattle.esto_status.proofs.LoopSteps.{IsAlong, along_end_asks, along_ends, along_goes, along_starts, along_stop_asks, along_stops, along_wants, kept_asks, quiet_each}
+use Rattle.esto_status.proofs.LoopSteps.{IsAlong, along_end_asks, along_ends, along_goes, along_starts, along_stop_asks, along_stops, along_wants, kept_asks}
+use Rattle.esto_status.proofs.LoopSteps.{quiet_each}
 use Rattle.esto_status.proofs.Steps.{caused_weaker}
 use Rattle.esto_data.proofs.LeadLemmas.{loaded_apart, opened_from}
 

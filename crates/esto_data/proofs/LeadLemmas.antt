@@ -64,7 +64,8 @@ module _ (files : Option Files) (datasets : List Dataset) where
     ];
   }
 
-  pub opened_from : (numbers : List ℕ) (counter : ℕ) (so_far entries : List DatasetBytes) → (each (loads_next files datasets) counter so_far numbers).goes entries
+  pub opened_from : (numbers : List ℕ) (counter : ℕ) (so_far entries : List DatasetBytes)
+      → (each (loads_next files datasets) counter so_far numbers).goes entries
       → (own : List DatasetBytes) × (entries ≡ so_far ++ own) × AreOpenedFiles files datasets numbers own
   unfolding and_then gives
   opened_from [] counter so_far entries is =

@@ -37,7 +37,8 @@ pub first_by_part : (catalogue : Catalogue) (number : ℕ) (part : List (Fact Te
     → ((rule : Rule) → slice_get (rules_of catalogue.rules) number ≡ Some rule
     → MatchOption outcome (IsMet part rule) (IsFirstByPart catalogue number rule part))
     → IfSome outcome (λ difference. (laws : List Rule) (facts some : List (Fact Term))
-    → IsFirstUnpassed laws (rules_of catalogue.rules) some number (Some part) → IsEnoughFor catalogue laws facts some → IsFirstByRule catalogue facts difference)
+    → IsFirstUnpassed laws (rules_of catalogue.rules) some number (Some part) → IsEnoughFor catalogue laws facts some
+    → IsFirstByRule catalogue facts difference)
 first_by_part catalogue number part None told = tt
 first_by_part catalogue number part (Some difference) told = λ laws facts some first enough.
     told first.rule first.there laws facts some enough first.tried first.before first.part

@@ -59,7 +59,8 @@ rows_refused stored bytes same is texts more old new error fault error_is added 
 module _ (files : Option Files) (catalogue : Catalogue) (number : ℕ) (stored : Stored) (at : IsStoredAt catalogue number stored) where
   -- an error that `?` hands on
   pub rows_exit : {rose : Type 0} {before after : Option Names} (texts more : List (List ℕ)) (old new : List CodedRows) (error : Status)
-      (result : Result (Unit {0}) Status) → IsErrAnd result (λ handed. handed ≡ error) → Stops IsWant (IsCaused rose) (fetches files stored.store.file DATA_LIMIT) error
+      (result : Result (Unit {0}) Status) → IsErrAnd result (λ handed. handed ≡ error)
+      → Stops IsWant (IsCaused rose) (fetches files stored.store.file DATA_LIMIT) error
       → AsksIn before after (fetches files stored.store.file DATA_LIMIT) (Err error)
       → OpensNextRows files catalogue number texts more old new rose before after result
   rows_exit texts more old new error (Ok _) handed stops asks = absurd handed

@@ -142,7 +142,8 @@ AddsRows shape bytes texts more old new = AddsList (IsRowIn shape bytes) texts m
 
 -- The file of the fragment of the number was opened, and its rows came to those that were there; or the course stops. To the names that were asked for came
 -- those for which it asked.
-abbrev pub OpensNextRows : Option Files → Catalogue → ℕ → List (List ℕ) → List (List ℕ) → List CodedRows → List CodedRows → Type 0 → Option Names → Option Names → Result (Unit {0}) Status → Type 0
+abbrev pub OpensNextRows : Option Files → Catalogue → ℕ → List (List ℕ) → List (List ℕ) → List CodedRows → List CodedRows → Type 0 → Option Names → Option Names
+    → Result (Unit {0}) Status → Type 0
 OpensNextRows files catalogue number texts more old new rose before after (Ok _) =
     (bytes : List ℕ) × (store : Store) × (opens_fragment files catalogue number).goes bytes × (slice_get catalogue.stores number ≡ Some store)
     × AddsRows store.shape bytes texts more old new × AsksIn before after (opens_fragment files catalogue number) (Ok bytes)

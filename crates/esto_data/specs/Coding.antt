@@ -58,7 +58,8 @@ AddsList Has texts more old new =
     × ((lists : List (List Row)) → AreCodedLists texts old lists → AreCodedLists more new (lists ++ own ∷ []))
 
 -- So it is, and there is no fault; or it is the first fault; or memory is wanting.
-abbrev pub CodesFile : (Row → Type 0) → Option FileFault → List (List ℕ) → List (List ℕ) → List CodedRows → List CodedRows → Result (Unit {0}) FileError → Type 0
+abbrev pub CodesFile : (Row → Type 0) → Option FileFault → List (List ℕ) → List (List ℕ) → List CodedRows → List CodedRows
+    → Result (Unit {0}) FileError → Type 0
 CodesFile Has fault texts more old new (Ok _) = (fault ≡ None) × AddsList Has texts more old new
 CodesFile Has fault texts more old new (Err (content.Fault found)) = fault ≡ Some found
 CodesFile Has fault texts more old new (Err content.OutOfMemory) = Unit {0}

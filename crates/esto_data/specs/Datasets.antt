@@ -1,6 +1,7 @@
 -- The files of the datasets that a command needs, as steps: each of the datasets has a file; then each file is fetched, and its content read, before the next
 -- is fetched.
-use Rattle.std.specs.Prelude.{◌≡◌, ◌↔◌, ◌⊎◌, ℕ, ◌+◌, ◌<◌, ◌≤◌, List, [], ◌∷◌, ◌++◌, map, length, slice_get, AllPairs, Contains, Option, Some, None, IsSome, Result, Ok, Err}
+use Rattle.std.specs.Prelude.{◌≡◌, ◌↔◌, ◌⊎◌, ℕ, ◌+◌, ◌<◌, ◌≤◌, List, [], ◌∷◌, ◌++◌, map, length, slice_get, AllPairs, Contains, Option, Some, None, IsSome}
+use Rattle.std.specs.Prelude.{Result, Ok, Err}
 use Rattle.esto_mapping.specs.Datasets.{relation_count}
 use Rattle.esto_mapping.specs.declared.dataset.Dataset.{Dataset}
 use Rattle.esto_course.specs.Course.{Course, Stops, judges, demands, gives, and_then, each}
@@ -150,7 +151,8 @@ Loads Holds course rose (Ok loaded) = (facts : List (Fact Term)) × course.goes 
 Loads Holds course rose (Err refusal) = Stops IsWant (IsCaused rose) course refusal
 
 -- To the names that were asked for came those for which the course asked, up to the facts that what is loaded holds or to its stop.
-abbrev pub LoadsAsking : {A : Type 0} → Option (List (List ℕ)) → Option (List (List ℕ)) → (List (Fact Term) → A → Type 0) → Course Status (List (Fact Term)) → Result A Status → Type 0
+abbrev pub LoadsAsking : {A : Type 0} → Option (List (List ℕ)) → Option (List (List ℕ)) → (List (Fact Term) → A → Type 0)
+    → Course Status (List (Fact Term)) → Result A Status → Type 0
 LoadsAsking before after Holds course (Ok loaded) = (facts : List (Fact Term)) × AsksIn before after course (Ok facts) × Holds facts loaded
 LoadsAsking before after Holds course (Err refusal) = AsksIn before after course (Err refusal)
 
@@ -162,7 +164,8 @@ LoadsMore datasets wanted number bytes old new =
 
 -- The rows of codes stand for what is loaded of the files, all of which were opened; or the course stops. To the names that were asked for came those for which
 -- it asked.
-abbrev pub LoadsFiles : Option Files → List Dataset → Wanted → List ℕ → Type 0 → Option (List (List ℕ)) → Option (List (List ℕ)) → Result CodedData Status → Type 0
+abbrev pub LoadsFiles : Option Files → List Dataset → Wanted → List ℕ → Type 0 → Option (List (List ℕ)) → Option (List (List ℕ))
+    → Result CodedData Status → Type 0
 LoadsFiles files datasets wanted numbers rose before after (Ok coded) =
     (contents : List DatasetBytes) × (loads_files files datasets numbers).goes contents × IsCodedFrom datasets wanted contents coded
     × AsksIn before after (loads_files files datasets numbers) (Ok contents)

@@ -1,5 +1,6 @@
 -- The loops of the encodings, a turn at a time.
-use Rattle.std.proofs.Common.{◌≡◌, true, false, filter, ℕ, suc, ◌+◌, ◌<◌, ◌≤◌, List, [], ◌∷◌, ◌++◌, map, drop, length, get_or, Option, Some, None, refl, sym, ap, ◌∙◌, subst, arith, append_assoc}
+use Rattle.std.proofs.Common.{◌≡◌, true, false, filter, ℕ, suc, ◌+◌, ◌<◌, ◌≤◌, List, [], ◌∷◌, ◌++◌, map, drop, length, get_or, Option, Some, None, refl, sym}
+use Rattle.std.proofs.Common.{ap, ◌∙◌, subst, arith, append_assoc}
 use Rattle.std.proofs.lemmas.List.{append-nil, drop_all, map-append}
 use Rattle.std.proofs.lemmas.List.Elements.{filter-append}
 use Rattle.std.proofs.lemmas.Option.{slice_get-get_or}
@@ -10,8 +11,8 @@ use Rattle.esto_term.specs.declared.term.Term.TheVariants.{Const, Plain, outs-Co
 use Rattle.esto_term.proofs.PlaceLemmas.{drop-item, drop-there}
 use Rattle.esto_semantics.specs.declared.fact.Fact.{Fact}
 use Rattle.esto_docmodel.specs.DocumentFacts.{DocFact, root, field, item, value, below, flat}
-use Rattle.esto_docmodel.specs.Encodings.{size, entering, belows, holding, facts_from, every, has_any, has_term, has_text, is_among_kind, is_kept, kept, kept_of, end}
-use Rattle.esto_docmodel.specs.Encodings.{step_atoms, atoms, used}
+use Rattle.esto_docmodel.specs.Encodings.{size, entering, belows, holding, facts_from, every, has_any, has_term, has_text, is_among_kind, is_kept, kept}
+use Rattle.esto_docmodel.specs.Encodings.{kept_of, end, step_atoms, atoms, used}
 use Rattle.esto_docmodel.specs.Patterns.{done, group}
 use Rattle.esto_docmodel.specs.Forests.{Label, name, place, Forest, none, kid, Node, node}
 use Rattle.esto_docmodel.specs.Gaining.{fact_over}
@@ -74,7 +75,8 @@ none_held relations (Some text) n lacks =
       has_none (These []) e = refl
       has_none (These (own ∷ more)) e = cc e
 
-pub belows_all : (relations : Kept) (above : List ℕ) (n : ℕ) → relations.below ≡ true → kept relations (belows above n) ≡ map (flat relations.base) (belows above n)
+pub belows_all : (relations : Kept) (above : List ℕ) (n : ℕ) → relations.below ≡ true
+    → kept relations (belows above n) ≡ map (flat relations.base) (belows above n)
 belows_all relations [] n is = refl
 belows_all relations (parent ∷ above) n is =
     kept-append relations (belows above n) (below (Plain parent) (Plain n) ∷ [])
@@ -140,8 +142,8 @@ module _ (relations : Kept) (n : ℕ) (above : List ℕ) where
       → kept relations (belows (turned above) n) ++ kept relations (facts_from (n ∷ turned above) first (named_row (map shaped_field fields)))
       ≡ kept relations (node_facts (turned above) n (shape tree))
   fields_facts tree fields first is numbered = rw (is, shape-Fields fields)
-      (ap (λ (k : ℕ). kept relations (belows (turned above) n) ++ kept relations (facts_from (n ∷ turned above) k (named_row (map shaped_field fields)))) numbered
-      ∙ node_rest (node None (named_row (map shaped_field fields))))
+      (ap (λ (k : ℕ). kept relations (belows (turned above) n) ++ kept relations (facts_from (n ∷ turned above) k (named_row (map shaped_field fields))))
+      numbered ∙ node_rest (node None (named_row (map shaped_field fields))))
 
   pub items_facts : (tree : Tree) (items : List Tree) (first : ℕ) → tree ≡ Items items → first ≡ suc n
       → kept relations (belows (turned above) n) ++ kept relations (facts_from (n ∷ turned above) first (row (map shape items)))
@@ -267,8 +269,8 @@ module _ (relations : Kept) (number next later : ℕ) (above inner : List ℕ) (
       ≡ (kept relations (field (Plain number) (Const f.name) (Plain next) ∷ []) ++ kept relations (node_facts (turned inner) next (shape f.tree)))
       ++ kept relations (facts_from (number ∷ turned above) later (named_row (map shaped_field (drop (i + 1) fields))))
   field_rest fields i f within is numbered =
-      ap (λ (w : List (FieldOf Tree)). kept relations (facts_from (number ∷ turned above) next (named_row (map shaped_field w)))) (drop-item fields i f within is)
-      ∙ first_facts (name f.name) (shape f.tree) (named_row (map shaped_field (drop (i + 1) fields))) numbered
+      ap (λ (w : List (FieldOf Tree)). kept relations (facts_from (number ∷ turned above) next (named_row (map shaped_field w))))
+      (drop-item fields i f within is) ∙ first_facts (name f.name) (shape f.tree) (named_row (map shaped_field (drop (i + 1) fields))) numbered
 
   pub item_rest : (items : List Tree) (i : ℕ) (t : Tree) → i < length items → t ≡ get_or items i t → later ≡ suc next + size (shape t).inside
       → kept relations (facts_from (number ∷ turned above) next (row (map shape (drop i items))))
@@ -297,13 +299,15 @@ pub fields_counted : (next first : ℕ) (items fields : List (FieldOf Tree)) (i 
     → next + size (named_row (map shaped_field (drop i items))) ≡ first + size (named_row (map shaped_field items))
     → next ≡ first + size (named_row (map shaped_field fields))
 fields_counted next first items fields i past is known =
-    let none : size (named_row (map shaped_field (drop i items))) ≡ 0 = ap (λ (w : List (FieldOf Tree)). size (named_row (map shaped_field w))) (drop_all i items past) in
+    let none : size (named_row (map shaped_field (drop i items))) ≡ 0 =
+    ap (λ (w : List (FieldOf Tree)). size (named_row (map shaped_field w))) (drop_all i items past) in
     subst (λ (w : List (FieldOf Tree)). next ≡ first + size (named_row (map shaped_field w))) is (omega (arith, known, none))
 
 pub items_counted : (next first : ℕ) (items : List Tree) (i : ℕ) → length items ≤ i
     → next + size (row (map shape (drop i items))) ≡ first + size (row (map shape items)) → next ≡ first + size (row (map shape items))
 items_counted next first items i past known =
-    let none : size (row (map shape (drop i items))) ≡ 0 = ap (λ (w : List Tree). size (row (map shape w))) (drop_all i items past) in omega (arith, known, none)
+    let none : size (row (map shape (drop i items))) ≡ 0 = ap (λ (w : List Tree). size (row (map shape w))) (drop_all i items past) in
+    omega (arith, known, none)
 
 -- ---- names that rise
 

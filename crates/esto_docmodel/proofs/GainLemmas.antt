@@ -72,8 +72,8 @@ module _ {S : Type 0} (Holds : S → List (Fact Term) → Type 0) (arities : S �
         (kept relations (facts_from (number ∷ above) first (named_row (map shaped_field items)))) start now
         → Gains Holds arities (kept relations (facts_from (number ∷ above) first (named_row (map shaped_field fields)))) start now
     fields_end items fields i past is leads =
-        subst (λ (w : List (FieldOf Tree)). Gains Holds arities (kept relations (facts_from (number ∷ above) first (named_row (map shaped_field w)))) start now) is
-        (leads_end _ _ start now
+        subst (λ (w : List (FieldOf Tree)). Gains Holds arities (kept relations (facts_from (number ∷ above) first (named_row (map shaped_field w)))) start now)
+        is (leads_end _ _ start now
         (ap (λ (w : List (FieldOf Tree)). kept relations (facts_from (number ∷ above) next (named_row (map shaped_field w)))) (drop_all i items past)) leads)
 
     pub items_end : (items : List Tree) (i : ℕ) → length items ≤ i

@@ -1,6 +1,6 @@
 -- The variables of a pattern, and its query.
-use Rattle.std.proofs.Common.{◌≡◌, ◌⊎◌, ◌↔◌, inl, inr, ℕ, suc, ◌+◌, ◌++◌, ◌<◌, ◌≤◌, max, List, [], ◌∷◌, length, map, drop, take, get_or, Contains, refl, sym, ap, ◌∙◌}
-use Rattle.std.proofs.Common.{subst, arith}
+use Rattle.std.proofs.Common.{◌≡◌, ◌⊎◌, ◌↔◌, inl, inr, ℕ, suc, ◌+◌, ◌++◌, ◌<◌, ◌≤◌, max, List, [], ◌∷◌, length, map, drop, take, get_or, Contains, refl, sym}
+use Rattle.std.proofs.Common.{ap, ◌∙◌, subst, arith}
 use Rattle.std.proofs.lemmas.List.{drop_all, get_or_default}
 use Rattle.std.proofs.lemmas.List.Elements.{Contains-append_left, Contains-push, Contains-push_cases}
 use Rattle.std.specs.FinMap.{insert}

@@ -1,5 +1,6 @@
 -- The facts of JSON values, a step at a time.
-use Rattle.std.proofs.Common.{◌≡◌, ℕ, Bool, suc, ◌+◌, List, [], ◌∷◌, ◌++◌, map, Option, Some, None, String, Vec, BTreeMap, refl, sym, ap, ◌∙◌, subst, arith, rules, string_bytes}
+use Rattle.std.proofs.Common.{◌≡◌, ℕ, Bool, suc, ◌+◌, List, [], ◌∷◌, ◌++◌, map, Option, Some, None, String, Vec, BTreeMap, refl, sym, ap, ◌∙◌, subst, arith}
+use Rattle.std.proofs.Common.{rules, string_bytes}
 use Rattle.std.proofs.lemmas.Option.{none-some}
 use Rattle.std.specs.Fmt.{signed_decimal}
 use Rattle.std.specs.Prelude.{ℤ, decimal, option_map, Result, Ok, IfOk, OnOk}

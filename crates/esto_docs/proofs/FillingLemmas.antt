@@ -1,5 +1,6 @@
 -- Rows that are filled cell by cell along a layout.
-use Rattle.std.proofs.Common.{◌≡◌, ◌≢◌, ◌↔◌, ◌⊎◌, ◌∙◌, ◌≤◌, ◌+◌, ◌++◌, ◌==◌, ℕ, zero, suc, Bool, true, false, if◌then◌else◌, List, [], ◌∷◌, length, get_or, slice_set, Some, Bor, inl, inr, refl, sym, ap, subst, arith}
+use Rattle.std.proofs.Common.{◌≡◌, ◌≢◌, ◌↔◌, ◌⊎◌, ◌∙◌, ◌≤◌, ◌+◌, ◌++◌, ◌==◌, ℕ, zero, suc, Bool, true, false, if◌then◌else◌, List, [], ◌∷◌, length, get_or}
+use Rattle.std.proofs.Common.{slice_set, Some, Bor, inl, inr, refl, sym, ap, subst, arith}
 use Rattle.std.specs.Prelude.{Contains}
 use Rattle.std.proofs.lemmas.Bool.{cases_eq, cases_lt}
 use Rattle.std.proofs.lemmas.Bool.Decides.{nat_tests}
@@ -22,7 +23,8 @@ use Rattle.esto_docmodel.proofs.ShapeLemmas.{entry-Value, entry-Group}
 use Rattle.esto_docmodel.specs.declared.pattern.Step.{Step}
 use Rattle.esto_docmodel.specs.declared.pattern.Step.TheVariants.{Name, Item, Below}
 use Rattle.esto_docmodel.specs.declared.tree.Tree.{Tree}
-use Rattle.esto_docs.specs.Filling.{Task, times_by_kind, times, times_in, AllMatched, AreReady, AgreeOff, Completes, Fills, CompletesSome, FillsSome, todo_step, tasks_of, value_node, with_path, cells_of}
+use Rattle.esto_docs.specs.Filling.{Task, times_by_kind, times, times_in, AllMatched, AreReady, AgreeOff, Completes, Fills, CompletesSome, FillsSome, todo_step}
+use Rattle.esto_docs.specs.Filling.{tasks_of, value_node, with_path, cells_of}
 use Rattle.esto_docs.specs.Rows.{Row, text_in, row_map, IsRowOf, Gains}
 use Rattle.esto_docs.specs.declared.filling.Todo.{Todo, fold-roll-Todo}
 use Rattle.esto_docs.specs.declared.filling.Todo.TheOpen.{Todo-F}

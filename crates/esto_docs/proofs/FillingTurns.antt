@@ -13,7 +13,8 @@ use Rattle.esto_docs.specs.Filling.{value_node, value_text, cells_of, Task, AreR
 use Rattle.esto_docs.specs.Rows.{Row}
 use Rattle.esto_docs.specs.declared.filling.Todo.{Todo}
 use Rattle.esto_docs.specs.declared.filling.Todo.TheVariants as left
-use Rattle.esto_docs.proofs.FillingLemmas.{tasks-Nothing, tasks-Entries, cells_count, before, entries_first, weight, end_weight, weight_in, weight_first, ready_entry, ready_rest, fills_entry, fills_rest, fills_row}
+use Rattle.esto_docs.proofs.FillingLemmas.{tasks-Nothing, tasks-Entries, cells_count, before, entries_first, weight, end_weight, weight_in, weight_first}
+use Rattle.esto_docs.proofs.FillingLemmas.{ready_entry, ready_rest, fills_entry, fills_rest, fills_row}
 
 -- ---- what is left to match
 

@@ -1,5 +1,6 @@
 -- The entries of a pattern, one by one.
-use Rattle.std.proofs.Common.{◌≡◌, ◌<◌, ◌≤◌, ◌+◌, ◌-◌, ◌∙◌, ◌∷◌, [], ℕ, List, length, drop, get_or, refl, ap, sym, subst, arith, rules, String, Global, string_bytes, Bool, true, false, if◌then◌else◌, Some, None, slice_get}
+use Rattle.std.proofs.Common.{◌≡◌, ◌<◌, ◌≤◌, ◌+◌, ◌-◌, ◌∙◌, ◌∷◌, [], ℕ, List, length, drop, get_or, refl, ap, sym, subst, arith, rules, String, Global}
+use Rattle.std.proofs.Common.{string_bytes, Bool, true, false, if◌then◌else◌, Some, None, slice_get}
 use Rattle.std.proofs.lemmas.List.{at_drop_more}
 use Rattle.serde_json.specs.Data.{Data, Members, array, item, no_items, object, put, string}
 use Rattle.serde_json.specs.View.{view}

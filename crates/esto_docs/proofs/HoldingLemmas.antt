@@ -1,5 +1,6 @@
 -- What stands in JSON values.
-use Rattle.std.proofs.Common.{◌≡◌, ◌↔◌, ◌∙◌, ℕ, true, false, List, [], ◌∷◌, map, Option, Some, None, option_map, is_some, Bor, Ordering, Less, Equal, Greater, nat_cmp, string_bytes, string_cmp, inl, inr, refl, sym, ap, subst, arith}
+use Rattle.std.proofs.Common.{◌≡◌, ◌↔◌, ◌∙◌, ℕ, true, false, List, [], ◌∷◌, map, Option, Some, None, option_map, is_some, Bor, Ordering, Less, Equal, Greater}
+use Rattle.std.proofs.Common.{nat_cmp, string_bytes, string_cmp, inl, inr, refl, sym, ap, subst, arith}
 use Rattle.std.specs.Prelude.{Contains, MatchOption}
 use Rattle.std.specs.Cmp.Lexicographic.{slice_cmp}
 use Rattle.std.specs.List.{AllByRecursion}

@@ -30,7 +30,8 @@ use Rattle.esto_term.specs.declared.term.Term.{Term}
 use Rattle.esto_term.specs.declared.term.Term.TheVariants.{Const, Plain}
 use Rattle.esto_term.proofs.ListLemmas.{Contains-nil, Contains-cases, Contains-map_from, Contains-one, HoldsBelow}
 use Rattle.esto_term.proofs.PlaceLemmas.{take-item}
-use Rattle.esto_fill.specs.Files.{AddsFile, LoadsFacts, dataset_fault, nodes_in, AreFactsByModel, AreFactsOf, AreFactsFrom, AreReadable, AreWantedOf, GivesFacts, HaveRisingNames, IsLoadedFrom, RiseByModel}
+use Rattle.esto_fill.specs.Files.{AddsFile, LoadsFacts, dataset_fault, nodes_in, AreFactsByModel, AreFactsOf, AreFactsFrom, AreReadable, AreWantedOf}
+use Rattle.esto_fill.specs.Files.{GivesFacts, HaveRisingNames, IsLoadedFrom, RiseByModel}
 use Rattle.esto_fill.specs.Wanted.{IsKeptFor, Leaves, is_wanted}
 use Rattle.esto_fill.specs.declared.wanted.Wanted.{Wanted}
 use Rattle.esto_fill.specs.declared.wanted.Wanted.TheVariants.{Every}

@@ -101,9 +101,12 @@ module _ (base : ℕ) where
 
   fits : (rule : Rule) → Contains (document_rules_2 base) rule → Fits rule
   fits =
-      one_of Fits one_field (one_parent ∷ one_name ∷ one_array ∷ one_value ∷ field_below ∷ item_below ∷ no_root_below ∷ []) (two_atoms 1 1 (0 ∷ 1 ∷ 2 ∷ []) (0 ∷ 1 ∷ 3 ∷ []) (omega arith) (omega arith))
-      (one_of Fits one_parent (one_name ∷ one_array ∷ one_value ∷ field_below ∷ item_below ∷ no_root_below ∷ []) (two_atoms 1 1 (0 ∷ 1 ∷ 2 ∷ []) (3 ∷ 4 ∷ 2 ∷ []) (omega arith) (omega arith))
-      (one_of Fits one_name (one_array ∷ one_value ∷ field_below ∷ item_below ∷ no_root_below ∷ []) (two_atoms 1 1 (0 ∷ 1 ∷ 2 ∷ []) (3 ∷ 4 ∷ 2 ∷ []) (omega arith) (omega arith))
+      one_of Fits one_field (one_parent ∷ one_name ∷ one_array ∷ one_value ∷ field_below ∷ item_below ∷ no_root_below ∷ [])
+      (two_atoms 1 1 (0 ∷ 1 ∷ 2 ∷ []) (0 ∷ 1 ∷ 3 ∷ []) (omega arith) (omega arith))
+      (one_of Fits one_parent (one_name ∷ one_array ∷ one_value ∷ field_below ∷ item_below ∷ no_root_below ∷ [])
+      (two_atoms 1 1 (0 ∷ 1 ∷ 2 ∷ []) (3 ∷ 4 ∷ 2 ∷ []) (omega arith) (omega arith))
+      (one_of Fits one_name (one_array ∷ one_value ∷ field_below ∷ item_below ∷ no_root_below ∷ [])
+      (two_atoms 1 1 (0 ∷ 1 ∷ 2 ∷ []) (3 ∷ 4 ∷ 2 ∷ []) (omega arith) (omega arith))
       (one_of Fits one_array (one_value ∷ field_below ∷ item_below ∷ no_root_below ∷ []) (two_atoms 2 2 (0 ∷ 1 ∷ []) (2 ∷ 1 ∷ []) (omega arith) (omega arith))
       (one_of Fits one_value (field_below ∷ item_below ∷ no_root_below ∷ []) (two_atoms 3 3 (0 ∷ 1 ∷ []) (0 ∷ 2 ∷ []) (omega arith) (omega arith))
       (one_of Fits field_below (item_below ∷ no_root_below ∷ []) (one_atom 1 (0 ∷ 1 ∷ 2 ∷ []) (omega arith), one_atom 4 (0 ∷ 2 ∷ []) (omega arith))

@@ -26,8 +26,8 @@ use Rattle.esto_term.specs.Kinds.{IsConstant}
 use Rattle.esto_term.specs.declared.term.Term.{Term}
 use Rattle.esto_term.specs.declared.term.Term.TheVariants.{Const}
 use Rattle.esto_term.proofs.ChoiceLemmas.{pairs_cons, pairs_head, pairs_tail}
-use Rattle.esto_term.proofs.ListLemmas.{Contains-head, Contains-one, Contains-at, Contains-map, Contains-map_from, map_at, map_at-from, map_agree, map_itself, map_then}
-use Rattle.esto_term.proofs.ListLemmas.{place-from_Contains, HoldsBelow}
+use Rattle.esto_term.proofs.ListLemmas.{Contains-head, Contains-one, Contains-at, Contains-map, Contains-map_from, map_at, map_at-from, map_agree, map_itself}
+use Rattle.esto_term.proofs.ListLemmas.{map_then, place-from_Contains, HoldsBelow}
 use Rattle.esto_term.proofs.PlaceLemmas.{take-item}
 use Rattle.esto_fill.specs.Databases.{database_of, value_of}
 use Rattle.esto_fill.specs.Placing.{text_of, IsImageOf, AreConstant, IsOpenAt, LeastOpen, NamesColumn, lesser}

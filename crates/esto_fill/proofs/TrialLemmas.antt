@@ -34,7 +34,8 @@ use Rattle.esto_term.specs.declared.term.Term.{Term}
 use Rattle.esto_term.specs.declared.term.Term.TheVariants.{Const}
 use Rattle.esto_views.specs.Fragments.{views_of}
 use Rattle.esto_views.specs.declared.fragments.FragmentDef.{FragmentDef}
-use Rattle.esto_term.proofs.ListLemmas.{Contains-at, Contains-head, Contains-flat, Contains-map, Contains-map_from, Contains-nil, Contains-one, Contains-rest, each_more, each_seen, map_at}
+use Rattle.esto_term.proofs.ListLemmas.{Contains-at, Contains-head, Contains-flat, Contains-map, Contains-map_from, Contains-nil, Contains-one, Contains-rest}
+use Rattle.esto_term.proofs.ListLemmas.{each_more, each_seen, map_at}
 use Rattle.esto_term.proofs.PlaceLemmas.{Contains-take_in}
 use Rattle.esto_fill.specs.Databases.{database_of, value_of}
 use Rattle.esto_fill.specs.Differences.{AreOne, HoldViewRows, IsFirstApart, IsFirstBroken, IsOfView, at}
@@ -115,7 +116,8 @@ module _ (bodies : List (List (Fact Term))) where
 
 module _ (place : ℕ → ℕ) (rises : (n m : ℕ) → n < m → place n < place m) where
   ordered_number : (n m : ℕ) → nat_cmp (place n) (place m) ≡ nat_cmp n m
-  ordered_number n m = by (nat_cmp n m) (ranked n m (nat_cmp n m) refl) (nat_cmp (place n) (place m)) (ranked (place n) (place m) (nat_cmp (place n) (place m)) refl)
+  ordered_number n m = by (nat_cmp n m) (ranked n m (nat_cmp n m) refl) (nat_cmp (place n) (place m))
+      (ranked (place n) (place m) (nat_cmp (place n) (place m)) refl)
     where
       by : (order : Ordering) → MatchOrdering order (n < m) (n ≡ m) (m < n) → (other : Ordering)
           → MatchOrdering other (place n < place m) (place n ≡ place m) (place m < place n) → other ≡ order

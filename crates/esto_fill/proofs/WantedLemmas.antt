@@ -27,8 +27,8 @@ use Rattle.esto_term.proofs.ListLemmas.{Contains-nil, Contains-one, Contains-res
 use Rattle.esto_term.proofs.ListLemmas.{each_more, each_seen, map_at}
 use Rattle.esto_fill.specs.Databases.{database_of, value_of}
 use Rattle.esto_fill.specs.Laws.{AnswersRestOnWantedFacts}
-use Rattle.esto_fill.specs.Wanted.{Admits, AdmitsAll, AdmitsMore, DropsUnasked, Grow, HasAsked, IsAsked, IsKeptFor, IsThere, IsWanted, Leaves, LeavesAsked, MeetsWant}
-use Rattle.esto_fill.specs.Wanted.{is_wanted, names}
+use Rattle.esto_fill.specs.Wanted.{Admits, AdmitsAll, AdmitsMore, DropsUnasked, Grow, HasAsked, IsAsked, IsKeptFor, IsThere, IsWanted, Leaves, LeavesAsked}
+use Rattle.esto_fill.specs.Wanted.{MeetsWant, is_wanted, names}
 use Rattle.esto_fill.specs.declared.wanted.Wanted.{Wanted}
 use Rattle.esto_fill.specs.declared.wanted.Wanted.TheVariants.{Every, Asked}
 use Rattle.esto_fill.proofs.ValueLemmas.{text_constant}

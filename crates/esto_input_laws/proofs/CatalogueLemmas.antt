@@ -58,7 +58,8 @@ use Rattle.esto_term.proofs.DecisionLemmas.{at_most}
 document : (bytes : List ℕ) → ((document : Document) × IsDocument bytes document) ⊎ HasNoTable bytes
 document bytes = by (utf8 bytes) (parse_document bytes) refl
   where
-    by : Decided (IsUtf8 bytes) → (parsed : Option Members) → parse_document bytes ≡ parsed → ((document : Document) × IsDocument bytes document) ⊎ HasNoTable bytes
+    by : Decided (IsUtf8 bytes) → (parsed : Option Members) → parse_document bytes ≡ parsed
+        → ((document : Document) × IsDocument bytes document) ⊎ HasNoTable bytes
     by (inr broken) parsed is = inr (λ members table. broken table.0)
     by (inl whole) None is = inr (λ members table. let wrong : None ≡ Some members = sym is ∙ table.1 in cc)
     by (inl whole) (Some members) is = inl (document_of members, (members, (whole, is), refl))
@@ -139,7 +140,8 @@ module _ (datasets : List Dataset) (are : AreDatasets datasets) where
   abbrev SoundRanked : Ranked → Type 0
   SoundRanked ranked = AreSoundRules (arities_of (schema_of datasets)) ranked.rules
 
-  ranked_ends : (version : Version) (own : List Constraint) → AreSoundRules (arities_of (schema_of datasets)) own → Ends SoundRanked (is_ranked version datasets own)
+  ranked_ends : (version : Version) (own : List Constraint) → AreSoundRules (arities_of (schema_of datasets)) own
+      → Ends SoundRanked (is_ranked version datasets own)
   ranked_ends version own sound =
       let (rules, all, over) = with_encodings version scope is_scope own sound in
       let within : IsWithin (length (schema_of datasets)) (IsEdge (rules_of rules)) = rules_within (schema_of datasets) rules over in

@@ -36,7 +36,8 @@ facts_by_model Table dataset bytes first =
     let (facts, are) = row_facts dataset.base (table_rows dataset.columns bytes) in
     (facts, are, rows_flat dataset.base (table_rows dataset.columns bytes) facts are)
 facts_by_model Documents dataset bytes first =
-    (facts_of dataset.base first (documents (file_trees dataset.layout bytes)), refl, documents_flat dataset.base first (documents (file_trees dataset.layout bytes)))
+    (facts_of dataset.base first (documents (file_trees dataset.layout bytes)), refl,
+    documents_flat dataset.base first (documents (file_trees dataset.layout bytes)))
 facts_by_model Keys dataset bytes first =
     let (facts, are) = row_facts dataset.base (key_rows bytes) in (facts, are, rows_flat dataset.base (key_rows bytes) facts are)
 
@@ -61,12 +62,14 @@ module _ (datasets : List Dataset) where
       (own ++ others, next, (dataset, own, others, at, is, more, refl), append_flat own others flat rest_flat)
 
   -- no file has a fault, or one is the first
-  faults : (files : List DatasetBytes) → AreOf files → AreReadable datasets files ⊎ ((number : ℕ) × (fault : FileFault) × IsFirstFault datasets files number fault)
+  faults : (files : List DatasetBytes) → AreOf files
+      → AreReadable datasets files ⊎ ((number : ℕ) × (fault : FileFault) × IsFirstFault datasets files number fault)
   faults [] are = inl (λ place file dataset there is. absurd (no_file place file there))
     where
       no_file : (place : ℕ) (file : DatasetBytes) → slice_get [] place ≡ Some file → ⊥
       no_file place file there = cc
-  faults (file ∷ files) are = let (dataset, at) = thing_at datasets file.dataset are.0 in by dataset at (dataset_fault dataset file.bytes) refl (faults files are.1)
+  faults (file ∷ files) are = let (dataset, at) = thing_at datasets file.dataset are.0 in
+      by dataset at (dataset_fault dataset file.bytes) refl (faults files are.1)
     where
       first_free : (dataset : Dataset) → slice_get datasets file.dataset ≡ Some dataset → dataset_fault dataset file.bytes ≡ None → (its : Dataset)
           → slice_get datasets file.dataset ≡ Some its → dataset_fault its file.bytes ≡ None

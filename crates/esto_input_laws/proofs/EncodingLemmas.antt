@@ -98,8 +98,8 @@ module _ (version : Version) (scope : Scope) (is : IsScope scope) (own : List Co
       let (dataset, at) = thing_at scope.datasets index inside in
       let (more, own_rules, own_names) = encoding_of version dataset.model dataset.base in
       go left (index + 1) (rules ++ more) (omega (arith, whole))
-      (rules_goes version scope scope.datasets own rules more index dataset is refl so_far inside (sym (get_or_from_slice_get scope.datasets index dataset dataset at))
-      own_rules own_names)
+      (rules_goes version scope scope.datasets own rules more index dataset is refl so_far inside
+      (sym (get_or_from_slice_get scope.datasets index dataset dataset at)) own_rules own_names)
 
   pub with_encodings : (rules : List Constraint) × AreAllRules version scope.datasets own rules × AreSoundRules (arities_of scope.schema) rules
   with_encodings =

@@ -105,7 +105,8 @@ reached Q decide (s ∷ path) start = decided_as
 held : (content : Option (List ℕ)) (term : Term) → Decided ((text : List ℕ) × (content ≡ Some text) × (term ≡ Const text))
 held None term = inr (λ (text, some, is). cc)
 held (Some text) term = decided_as
-    (λ is. (text, refl, is), λ (other, some, is). let same : other ≡ text = cc in subst (λ (t : List ℕ). term ≡ Const t) same is) (decided_term term (Const text))
+    (λ is. (text, refl, is), λ (other, some, is). let same : other ≡ text = cc in subst (λ (t : List ℕ). term ≡ Const t) same is)
+    (decided_term term (Const text))
 
 matched : (m : Term → Term) (entries : Entries) (start : Node) → Decided (Matches m entries start)
 matched m done start = inl tt
@@ -128,7 +129,8 @@ abbrev node_texts : Node → List (List ℕ)
 node_texts it = texts_of it.content ++ forest_texts it.inside
 
 module _ (text : List ℕ) where
-  kid_texts : (forest : Forest) (label : Label) (found : Node) → HasKid forest label found → Contains (node_texts found) text → Contains (forest_texts forest) text
+  kid_texts : (forest : Forest) (label : Label) (found : Node) → HasKid forest label found → Contains (node_texts found) text
+      → Contains (forest_texts forest) text
   kid_texts none label found has inside = absurd has
   kid_texts (kid first content below rest) label found (inl (is, same)) inside =
       Contains-append_left (texts_of content ++ forest_texts below) (forest_texts rest) text

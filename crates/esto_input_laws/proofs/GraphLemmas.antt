@@ -80,11 +80,12 @@ module _ (Edge : ℕ → ℕ → Type 0) (count : ℕ) (within : IsWithin count 
   -- ---- the least walk of so many edges
 
   -- walks from different relations are in the order of these
-  in_order : (first second : ℕ) (one other : List ℕ) (to : ℕ) → IsWalk Edge first one to → IsWalk Edge second other to → length other ≡ length one → first < second
-      → IsAtMost one other
+  in_order : (first second : ℕ) (one other : List ℕ) (to : ℕ) → IsWalk Edge first one to → IsWalk Edge second other to → length other ≡ length one
+      → first < second → IsAtMost one other
   in_order first second [] other to walk walk' same less = IsAtMost-nil other
   in_order first second (x ∷ one) [] to walk walk' same less = absurd (omega (arith, same))
-  in_order first second (x ∷ one) (y ∷ other) to (next, is, edge, walk) (next', is', edge', walk') same less = IsAtMost-less x y one other (omega (arith, is, is', less))
+  in_order first second (x ∷ one) (y ∷ other) to (next, is, edge, walk) (next', is', edge', walk') same less = IsAtMost-less x y one other
+      (omega (arith, is, is', less))
 
   least_walk : (edges from to : ℕ) → Leads Edge from edges to → (relations : List ℕ) × IsLeastWalk Edge from edges to relations
   least_walk zero from to (relations, walk, long) =
@@ -152,8 +153,8 @@ module _ (Edge : ℕ → ℕ → Type 0) (count : ℕ) (within : IsWithin count 
           },
         )
     | inr none ↦ inr (λ relations cycle.
-        let (others, some, fits, walk) = short_walk Edge count within (length relations) start start relations (cycle_starts start relations cycle) (omega arith)
-        cycle.0 cycle.1 in
+        let (others, some, fits, walk) = short_walk Edge count within (length relations) start start relations (cycle_starts start relations cycle)
+        (omega arith) cycle.0 cycle.1 in
         absurd (any others some fits walk none))
   ]
     where

@@ -137,14 +137,16 @@ written (letter ∷ text) = by (cases_eq letter (letter_of true)) (cases_eq lett
 AreWide : ℕ → List (List Bool) → Type 0
 AreWide columns patterns = (pattern : List Bool) → Contains patterns pattern → length pattern ≡ columns
 
-wide_more : (columns : ℕ) (first : List Bool) (patterns : List (List Bool)) → length first ≡ columns → AreWide columns patterns → AreWide columns (first ∷ patterns)
+wide_more : (columns : ℕ) (first : List Bool) (patterns : List (List Bool)) → length first ≡ columns → AreWide columns patterns
+    → AreWide columns (first ∷ patterns)
 unfolding AreWide
 wide_more columns first patterns here later pattern inside = elim (Contains-cases first patterns pattern inside) [
   | inl same ↦ ap length (sym same) ∙ here
   | inr more ↦ later pattern more
 ]
 
-patterns_of : (columns : ℕ) (texts : List (List ℕ)) → Decided ((patterns : List (List Bool)) × (texts ≡ map written_pattern patterns) × AreWide columns patterns)
+patterns_of : (columns : ℕ) (texts : List (List ℕ))
+    → Decided ((patterns : List (List Bool)) × (texts ≡ map written_pattern patterns) × AreWide columns patterns)
 unfolding AreWide
 patterns_of columns [] = inl ([], refl, λ pattern inside. absurd (Contains-nil pattern inside))
 patterns_of columns (text ∷ texts) = by (written text) (patterns_of columns texts)
@@ -318,8 +320,8 @@ module _ (datasets : List Dataset) (are : AreDatasets datasets) where
 
   rule_read : (version : Version) (place : Place) (text : List ℕ) → Ends (λ rule. IsRuleOver arities (rule_of rule)) (reads_rule version place datasets text)
   rule_read version place text = elim (constraint_reading version (words_of datasets) arities vocabulary text) [
-    | inl (rule, is) ↦ ends_accepts (λ rule. IsRuleOver arities (rule_of rule)) (λ rule. IsConstraintReading version (words_of datasets) arities text rule) _ rule
-        is
+    | inl (rule, is) ↦ ends_accepts (λ rule. IsRuleOver arities (rule_of rule)) (λ rule. IsConstraintReading version (words_of datasets) arities text rule) _
+        rule is
         (rule_sound (words_of datasets) arities text vocabulary version rule is)
     | inr (fault, is) ↦ ends_rejects (λ rule. IsRuleOver arities (rule_of rule)) _ (λ error. (fault : TextFault)
         × IsConstraintFault version (words_of datasets) arities text fault

@@ -29,7 +29,8 @@ use Rattle.esto_mapping.specs.declared.dataset.Dataset.{Dataset}
 use Rattle.esto_catalog.specs.declared.fault.CatalogueError.{CatalogueError}
 use Rattle.esto_catalog.specs.declared.fault.CatalogueError.TheVariants.{OutOfMemory}
 use Rattle.esto_status.specs.declared.fault.CatalogueKind.{CatalogueKind}
-use Rattle.esto_status.specs.declared.fault.CatalogueKind.TheVariants.{UnknownKey, WrongType, Missing, BadName, SameName, BadModel, BadColumns, BadLayout, Unfit}
+use Rattle.esto_status.specs.declared.fault.CatalogueKind.TheVariants.{UnknownKey, WrongType, Missing, BadName, SameName, BadModel, BadColumns, BadLayout}
+use Rattle.esto_status.specs.declared.fault.CatalogueKind.TheVariants.{Unfit}
 use Rattle.esto_catalog.specs.declared.fault.Place.{Place}
 use Rattle.esto_status.specs.declared.fault.Section.TheVariants as section
 use Rattle.esto_catalog.specs.declared.row.Keys.{Keys}

@@ -211,8 +211,8 @@ covered zero at (b ∷ bytes) short = absurd (omega (arith, short))
 covered (suc fuel) at (b ∷ bytes) short = by (gap_of (b ∷ bytes)) (covered fuel)
   where
     -- a token behind a gap
-    behind : (gap rest : List ℕ) → b ∷ bytes ≡ gap ++ rest → IsGap gap rest → BeginsNoGap rest → rest ≢ [] → ((found : Option (TokenKind × ℕ)) × Lexes rest found)
-        → CoveredLater fuel
+    behind : (gap rest : List ℕ) → b ∷ bytes ≡ gap ++ rest → IsGap gap rest → BeginsNoGap rest → rest ≢ []
+        → ((found : Option (TokenKind × ℕ)) × Lexes rest found) → CoveredLater fuel
         → (tokens : List Token) × Covers at (b ∷ bytes) tokens
     behind gap rest e g n some (None, none) later =
         let token : Token = record { kind = Stray; start = at + length gap; end = (at + length gap) + length rest } in

@@ -1,6 +1,6 @@
 -- What is covered, and entries that are added where it is not.
-use Rattle.std.proofs.Common.{◌≡◌, ◌⊎◌, inl, inr, ℕ, ◌+◌, ◌<◌, ◌≤◌, Bool, List, [], ◌∷◌, ◌++◌, length, take, get_or, slice_get, Some, arith, Contains, refl, sym, ap, ◌∙◌, subst}
-use Rattle.std.proofs.Common.{ltb, true}
+use Rattle.std.proofs.Common.{◌≡◌, ◌⊎◌, inl, inr, ℕ, ◌+◌, ◌<◌, ◌≤◌, Bool, List, [], ◌∷◌, ◌++◌, length, take, get_or, slice_get, Some, arith, Contains, refl}
+use Rattle.std.proofs.Common.{sym, ap, ◌∙◌, subst, ltb, true}
 use Rattle.std.proofs.lemmas.Bool.{ltb-true}
 use Rattle.std.proofs.lemmas.Option.{slice_get_within}
 use Rattle.std.proofs.lemmas.List.{append_assoc, append-nil}

@@ -31,7 +31,8 @@ module _ (entries : List Entry) (groups : List Group) (are : AreGroups entries g
       → AreAllLive entries places (λ claim. SaysOne claim own goal)
   links_some own goal group inside group_says places same place entry at says =
       let own_group = says_same own goal group.claim group_says in
-      let it = (are.each group inside).live place entry at (same_both (Same own goal) entry.claim group.claim (says_same own goal entry.claim says) own_group) in
+      let it = (are.each group inside).live place entry at (same_both (Same own goal) entry.claim group.claim
+      (says_same own goal entry.claim says) own_group) in
       let its = it.3.0 in
       let its_says = same_says own goal its.claim (same_both group.claim (Same own goal) its.claim (same_back (Same own goal) group.claim own_group)
       (same_back its.claim group.claim it.3.2)) in
@@ -82,7 +83,8 @@ unlinked entries groups items own since found its_found are same same_found with
     let there = place-from_Contains groups it.0 it.1 in
     let inside = with_side there.0 it.0 there.1 (same_side entry.claim it.0.claim own it.2 side) in
     let live = (are.each it.0 it.1).live place entry at it.2 in
-    let below = old there.0 (subst (λ them. Contains them there.0) (sym same_found) inside) it.0 (read_items items groups there.0 it.0 same there.1) live.0 live.1 in
+    let below = old there.0 (subst (λ them. Contains them there.0) (sym same_found) inside) it.0 (read_items items groups there.0 it.0 same there.1) live.0
+    live.1 in
     let above = live.2 in
     omega (arith, below, above)
 

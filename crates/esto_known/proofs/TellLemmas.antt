@@ -20,7 +20,8 @@ use Rattle.esto_chase_laws.proofs.TakenLemmas.{taken-Const, taken_cases}
 -- ---- terms that tell
 
 pub taken-apart : (from to others : List Term) (term : Term) → (Contains from term → ⊥) → taken from to term ≡ taken from others term
-taken-apart from to others term apart = ap (unless_constant (out-Term term) term) (substituted-outside from to term apart ∙ sym (substituted-outside from others term apart))
+taken-apart from to others term apart = ap (unless_constant (out-Term term) term)
+    (substituted-outside from to term apart ∙ sym (substituted-outside from others term apart))
 
 -- whether the term is put in
 module _ (from these : List Term) (term : Term) where

@@ -103,7 +103,8 @@ touch_turn groups terms others start sets later place term other rows within is 
           let before = (so_far set).0 parts.0 in
           (before.0, zip_append (AreTouching groups set) (take place terms) (term ∷ []) (take place others) (other ∷ []) before.1 (parts.1, tt))),
       (λ (covers, row).
-          let parts = zip_split (AreTouching groups set) (take place terms) (term ∷ []) (take place others) (other ∷ []) (same_take terms others place rows) row in
+          let parts = zip_split (AreTouching groups set) (take place terms) (term ∷ []) (take place others) (other ∷ [])
+          (same_take terms others place rows) row in
           (step set).1 ((so_far set).1 (covers, parts.0), parts.1.0)),
     ))
 

@@ -1,5 +1,6 @@
 -- Whether a match is active, and whether some match is.
-use Rattle.std.proofs.Common.{◌≡◌, ℕ, ◌+◌, ◌*◌, ◌<◌, ◌≤◌, ◌⊎◌, ◌↔◌, Bool, true, false, not, IsTrue, List, [], ◌∷◌, length, get_or, take, map, Contains, IsSome, Some, Result, Ok, Err}
+use Rattle.std.proofs.Common.{◌≡◌, ℕ, ◌+◌, ◌*◌, ◌<◌, ◌≤◌, ◌⊎◌, ◌↔◌, Bool, true, false, not, IsTrue, List, [], ◌∷◌, length, get_or, take, map, Contains, IsSome}
+use Rattle.std.proofs.Common.{Some, Result, Ok, Err}
 use Rattle.std.specs.Result.{IfOk, OnOk}
 use Rattle.std.proofs.Common.{Bor, refl, sym, ap, subst, ◌∙◌, inl, inr, arith}
 use Rattle.std.specs.List.{slice_get}
@@ -82,7 +83,8 @@ module _ (body : List (Fact Term)) (known : Assignment) (flat : AreFlat body) (o
       sym (same (Plain variable) ((over variable).0 (subst IsSome (sym at) refl))) ∙ extends variable term at
 
   -- a match that extends to the head
-  pub tuple_told : (head facts : List (Fact Term)) (is_found : Bool) → Decides head facts known is_found → Tells known (Holds facts (tuple body head)) (not is_found)
+  pub tuple_told : (head facts : List (Fact Term)) (is_found : Bool) → Decides head facts known is_found
+      → Tells known (Holds facts (tuple body head)) (not is_found)
   tuple_told head facts true found = λ m keeps extends.
       (found.0, found.1, maps_agree m found.0 keeps found.1 extends found.2, found.3)
   tuple_told head facts false none = λ m keeps extends extension.
@@ -108,7 +110,8 @@ end_decides facts rule known true tells =
 end_decides facts rule known false tells = λ m keeps extends sends. tells m keeps extends
 
 -- under a denial each match is active
-pub denial_decides : (atoms facts : List (Fact Term)) (known : Assignment) (is : Bool) → DecidesActive facts (denial []) known atoms is → Decides atoms facts known is
+pub denial_decides : (atoms facts : List (Fact Term)) (known : Assignment) (is : Bool) → DecidesActive facts (denial []) known atoms is
+    → Decides atoms facts known is
 denial_decides atoms facts known true found = (found.0, found.1, found.2, found.3)
 denial_decides atoms facts known false none = none
 
@@ -163,7 +166,8 @@ module _ (facts : List (Fact Term)) (known : Assignment) (atom : Fact Term) (res
     λ mentioned. elim ((completes variable).1 mentioned) [
       | inl before ↦ inl ((now_known variable).1 (inl before))
       | inr at ↦ elim (Contains-cases atom rest at.0 at.1) [
-        | inl here ↦ inl ((now_known variable).1 (inr (atom, Contains-head atom [], subst (λ (a : Fact Term). Contains a.terms (Plain variable)) (sym here) at.2)))
+        | inl here ↦ inl ((now_known variable).1
+            (inr (atom, Contains-head atom [], subst (λ (a : Fact Term). Contains a.terms (Plain variable)) (sym here) at.2)))
         | inr later ↦ inr (at.0, later, at.2)
       ]
     ],

@@ -49,8 +49,8 @@ module _ (have : ContainedSetsHaveCertificates) (catalogues : CataloguesAreSound
       → HasAnswer (rules_of catalogue.rules) (IsFragmentAnswer (views_of catalogue.fragments) (candidate (plan_query plan) set))
   has_answer catalogue query plan planned set is =
       let (database, meets, (row, answer)) = satisfiable catalogue query plan planned in
-      let same = (equivalent (rules_of catalogue.rules) (views_of catalogue.fragments) (query_of query) (plan_query plan) set (form catalogue query plan planned)
-      (universal catalogue query plan planned) is.has_candidate is.safe).1 is.contained in
+      let same = (equivalent (rules_of catalogue.rules) (views_of catalogue.fragments) (query_of query) (plan_query plan) set
+      (form catalogue query plan planned) (universal catalogue query plan planned) is.has_candidate is.safe).1 is.contained in
       (database, meets, (row, same.1 database meets row answer))
 
   pub contained_have_one : ContainedSetsHaveOne

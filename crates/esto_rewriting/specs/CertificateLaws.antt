@@ -12,8 +12,8 @@ use Rattle.esto_rewriting.specs.Verify.{HasVerdict}
 
 -- ---- certificates that are accepted
 
--- Over each printed plan of a query, a set of its atoms that is safe, and whose candidate is contained in the query, has a certificate that is accepted, whether
--- it is listed or not.
+-- Over each printed plan of a query, a set of its atoms that is safe, and whose candidate is contained in the query, has a certificate that is accepted,
+-- whether it is listed or not.
 abbrev pub ContainedSetsHaveOne : Type 0
 ContainedSetsHaveOne = HoldsOfPlans (λ catalogue query plan. (set : List Bool)
     → IsSafelyContained (rules_of catalogue.rules) (views_of catalogue.fragments) (query_of query) (plan_query plan) set

@@ -1,6 +1,6 @@
 -- Rows that are the same set, by marks at the places where they stand.
-use Rattle.std.proofs.Common.{◌≡◌, ◌↔◌, inl, inr, ℕ, ◌+◌, ◌<◌, ◌≤◌, Bool, true, false, List, [], ◌∷◌, ◌++◌, length, get_or, set, take, Option, Some, None, slice_get, Contains, refl, sym, ap, ◌∙◌}
-use Rattle.std.proofs.Common.{subst, arith, is_some, IsTrue, MatchOption}
+use Rattle.std.proofs.Common.{◌≡◌, ◌↔◌, inl, inr, ℕ, ◌+◌, ◌<◌, ◌≤◌, Bool, true, false, List, [], ◌∷◌, ◌++◌, length, get_or, set, take, Option, Some, None}
+use Rattle.std.proofs.Common.{slice_get, Contains, refl, sym, ap, ◌∙◌, subst, arith, is_some, IsTrue, MatchOption}
 use Rattle.std.proofs.lemmas.Bool.{cases_order, false≢true}
 use Rattle.std.proofs.lemmas.Bool.Decides.{eqb_tells}
 use Rattle.std.proofs.lemmas.List.{get_or-set_same, get_or-set_other, take_all}
@@ -53,7 +53,8 @@ pub one_list_more : (rows others : List (List ℕ)) (at : ℕ) (row : List ℕ) 
 one_list_more rows others at row here there before =
     take-there rows at row here ∙ ap (λ it. it ++ row ∷ []) before ∙ sym (take-there others at row there)
 
-pub one_list : (rows others : List (List ℕ)) (count : ℕ) → length rows ≤ count → length rows ≡ length others → take count rows ≡ take count others → rows ≡ others
+pub one_list : (rows others : List (List ℕ)) (count : ℕ) → length rows ≤ count → length rows ≡ length others
+    → take count rows ≡ take count others → rows ≡ others
 one_list rows others count past long same =
     sym (take_all count rows past) ∙ same ∙ take_all count others (subst (λ it. it ≤ count) long past)
 

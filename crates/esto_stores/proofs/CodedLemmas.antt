@@ -59,7 +59,8 @@ pub cells_stop : (all left more : Row) (old mid new : List (List ℕ)) (codes af
 cells_stop all left more old mid new codes after cell text.NotUtf8 has e put = has.rest ∙ rw (e, put) refl
 cells_stop all left more old mid new codes after cell text.OutOfMemory has e put = tt
 
-pub cells_end : (all left : Row) (old texts : List (List ℕ)) (codes : List ℕ) → HasCells all left old texts codes → left ≡ [] → CodesCells all texts codes (Ok tt)
+pub cells_end : (all left : Row) (old texts : List (List ℕ)) (codes : List ℕ) → HasCells all left old texts codes → left ≡ []
+    → CodesCells all texts codes (Ok tt)
 cells_end all left old texts codes has e =
     let done : has.done ≡ all = sym (has.same ∙ ap (λ (l : Row). has.done ++ l) e ∙ append-nil has.done) in
     (subst (AreCodesOf texts codes) done has.own, has.rest ∙ ap are_texts e)
@@ -107,7 +108,8 @@ row_adds kind width taken cells old new row before after read (Err (content.Faul
 row_adds kind width taken cells old new row before after read (Err content.OutOfMemory) size coded grown put = tt
 
 -- What a loop over rows has coded so far: these rows were read, and their codes stand in the rows of codes.
-pub record HasRows (kind : FileKind) (width : ℕ) (taken : Row → Row) (all left : List Row) (old texts : List (List ℕ)) (arity : ℕ) (coded : CodedRows) : Type 0 where
+pub record HasRows (kind : FileKind) (width : ℕ) (taken : Row → Row) (all left : List Row) (old texts : List (List ℕ)) (arity : ℕ)
+    (coded : CodedRows) : Type 0 where
   pub rows : List Row
   pub read : HasRead kind width taken all left rows
   pub own : AreCodedRows texts coded.rows rows
@@ -141,8 +143,8 @@ rows_go kind width taken all left more old mid new arity before after cells has 
 rows_long : (texts : List (List ℕ)) (coded : List (List ℕ)) (rows : List Row) → AreCodedRows texts coded rows → length coded ≡ length rows
 rows_long texts coded rows are = sym (length-map coded (λ codes. map (slice_get texts) codes)) ∙ ap length are ∙ length-map rows (λ row. map Some row)
 
-pub rows_stop : (kind : FileKind) (width : ℕ) (taken : Row → Row) (all left more : List Row) (old mid new : List (List ℕ)) (arity : ℕ) (before after : CodedRows)
-    (cells : Row) (e : FileError) → HasRows kind width taken all left old mid arity before → left ≡ cells ∷ more
+pub rows_stop : (kind : FileKind) (width : ℕ) (taken : Row → Row) (all left more : List Row) (old mid new : List (List ℕ)) (arity : ℕ)
+    (before after : CodedRows) (cells : Row) (e : FileError) → HasRows kind width taken all left old mid arity before → left ≡ cells ∷ more
     → AddsRow kind width taken cells mid before new after (Err e)
     → FillsRows (map taken all) (first_fault kind width taken 1 all) arity new after (Err e)
 rows_stop kind width taken all left more old mid new arity before after cells (content.Fault found) has e adds =

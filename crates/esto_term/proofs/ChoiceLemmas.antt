@@ -77,7 +77,8 @@ decided_in {A} P decide (first ∷ rest) = by (decide first) (decided_in P decid
     ])
 
 -- whether each thing of a list has a property that is decided
-pub decided_each : {A : Type 0} (P : A → Type 0) → ((thing : A) → Decided (P thing)) → (things : List A) → Decided ((thing : A) → Contains things thing → P thing)
+pub decided_each : {A : Type 0} (P : A → Type 0) → ((thing : A) → Decided (P thing)) → (things : List A)
+    → Decided ((thing : A) → Contains things thing → P thing)
 decided_each P decide [] = inl (λ thing none. absurd (Contains-nil thing none))
 decided_each {A} P decide (first ∷ rest) = by (decide first) (decided_each P decide rest)
   where

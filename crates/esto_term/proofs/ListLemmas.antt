@@ -93,8 +93,8 @@ map_one m apart (x ∷ xs) (y ∷ ys) same =
     λ i. first i ∷ rest i
 
 -- two lists that one list is made of are of one length
-pub one_length : {X Y Z : Type 0} (m : X → Z) (other : Y → Z) (things : List X) (others : List Y) (made : List Z) → made ≡ map m things → made ≡ map other others
-    → length things ≡ length others
+pub one_length : {X Y Z : Type 0} (m : X → Z) (other : Y → Z) (things : List X) (others : List Y) (made : List Z) → made ≡ map m things
+    → made ≡ map other others → length things ≡ length others
 one_length m other things others made is is_other =
     sym (length-map things m) ∙ sym (ap length is) ∙ ap length is_other ∙ length-map others other
 

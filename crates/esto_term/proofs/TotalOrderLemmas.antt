@@ -67,7 +67,8 @@ in_order-sorted {A} {F} {g} {f} cmp total items sorted calls i j d le within =
     let lesser : A → A → Bool = λ one other. is_lt (cmp one other) in
     let weak : IsStrictWeakOrder lesser = ranks_by total (λ (item : A). item) in
     let up : IsSortedBy lesser items =
-    sorted lesser weak (always_returns_same g (λ a r. is_lt r ≡ is_lt (cmp a.0.now a.1.0.now)) f (λ a r f' k. (ap is_lt (calls a r f' k).0, (calls a r f' k).1))) in
+    sorted lesser weak (always_returns_same g (λ a r. is_lt r ≡ is_lt (cmp a.0.now a.1.0.now)) f
+    (λ a r f' k. (ap is_lt (calls a r f' k).0, (calls a r f' k).1))) in
     not_less (cmp (get_or items j d) (get_or items i d)) (sorted_far lesser weak items up i j d le within)
 
 -- ---- lists told apart where their items are

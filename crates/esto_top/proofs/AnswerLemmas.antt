@@ -58,7 +58,8 @@ module _ {V : Type 0} (constant : List ℕ → V) (base : Term → V) (base_keep
 
 -- ---- maps from one query to another
 
-pub maps_decided : (query other : ConjunctiveQuery) → AreFlat query.body → ((term : Term) → Contains query.head term → IsFlat term) → Decided (MapsTo query other)
+pub maps_decided : (query other : ConjunctiveQuery) → AreFlat query.body → ((term : Term) → Contains query.head term → IsFlat term)
+    → Decided (MapsTo query other)
 maps_decided query other flat flat_head = decided_as ((λ (m, keeps, has). (m, keeps, has.0, has.1)), (λ (m, keeps, sends, head). (m, keeps, (sends, head))))
     (map_decided Const (λ term. term) (λ text. refl) (terms_of query.body ++ query.head)
     (λ term inside. elim (Contains-append_cases (terms_of query.body) query.head term inside) [

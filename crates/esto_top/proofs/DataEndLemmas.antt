@@ -8,8 +8,8 @@ use Rattle.std.proofs.lemmas.List.Elements.{Contains-append_cases}
 use Rattle.esto_mapping.specs.Datasets.{relation_count}
 use Rattle.esto_mapping.specs.declared.dataset.Dataset.{Dataset}
 use Rattle.esto_course.specs.Course.{Course, judges, demands, gives, and_then, each}
-use Rattle.esto_data.specs.Datasets.{AreFactsOfFiles, AreNeeded, HasRelation, IsSourceAt, Names, OneNames, Source, demands_file, demands_files, loads, loads_files}
-use Rattle.esto_data.specs.Datasets.{loads_next, opens_dataset, opens_source, reads_data}
+use Rattle.esto_data.specs.Datasets.{AreFactsOfFiles, AreNeeded, HasRelation, IsSourceAt, Names, OneNames, Source, demands_file, demands_files, loads}
+use Rattle.esto_data.specs.Datasets.{loads_files, loads_next, opens_dataset, opens_source, reads_data}
 use Rattle.esto_status.specs.declared.limits.TheConstants.{DATA_LIMIT}
 use Rattle.esto_data.proofs.DatasetLemmas.{AreNeededBelow, needed_all, needed_more, needed_starts, sources_there}
 use Rattle.esto_fill.specs.Files.{dataset_fault}

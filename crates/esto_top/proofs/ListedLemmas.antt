@@ -14,7 +14,8 @@ each_listed P [] list = ([], λ thing. ((λ inside. absurd (Contains-nil thing i
 each_listed {X} {A} P (first ∷ rest) list =
     by (list first (Contains-head first rest)) (each_listed P rest (λ x inside. list x (Contains-rest first rest x inside)))
   where
-    by : Listed (P first) → Listed (λ (thing : A). (x : X) × Contains rest x × P x thing) → Listed (λ (thing : A). (x : X) × Contains (first ∷ rest) x × P x thing)
+    by : Listed (P first) → Listed (λ (thing : A). (x : X) × Contains rest x × P x thing)
+        → Listed (λ (thing : A). (x : X) × Contains (first ∷ rest) x × P x thing)
     by (ones, in_ones) (others, in_others) = (
       ones ++ others,
       λ thing. (

@@ -59,7 +59,8 @@ module _ {V : Type 0} (constant : List ℕ → V) (base : Term → V) (base_keep
   module _ (terms : List Term) (flat : (term : Term) → Contains terms term → IsFlat term) (pool : List V) (P : (Term → V) → Type 0)
       (decide : (m : Term → V) → Keeps constant m → Decided (P m))
       (among : (m : Term → V) → P m → (term : Term) → Contains terms term → Contains pool (m term))
-      (alike : (m other : Term → V) → Keeps constant m → Keeps constant other → ((term : Term) → Contains terms term → m term ≡ other term) → P m → P other) where
+      (alike : (m other : Term → V) → Keeps constant m → Keeps constant other → ((term : Term) → Contains terms term → m term ≡ other term) → P m
+      → P other) where
     variables : (free : List Term) × ((term : Term) → (Contains free term → Contains terms term × IsVariable term)
         × (Contains terms term × IsVariable term → Contains free term))
     variables = kept IsVariable terms (λ term inside. decided_variable term)

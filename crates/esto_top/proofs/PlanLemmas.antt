@@ -101,7 +101,8 @@ renamed_exists names rows head has_head = by (seen_exist (terms_read rows head))
         names = map (name_of names) seen;
         sound = ∣ keeps names rows head seen are_seen has_head ∣₁;
       },
-      renamed_is names rows head seen are_seen (map (renamed_atom (numbered 0 seen)) rows) (map (numbered 0 seen) head) (map (name_of names) seen) refl refl refl,
+      renamed_is names rows head seen are_seen (map (renamed_atom (numbered 0 seen)) rows) (map (numbered 0 seen) head)
+          (map (name_of names) seen) refl refl refl,
     )
 
 pub stated_exists : (names : List Name) (views : List ConjunctiveQuery) (end : ConjunctiveQuery)

@@ -132,7 +132,8 @@ module _ (laws : BelowLaws) (reasoning : ReasoningLaws) (catalogue : Catalogue) 
       has_head = has_head;
       has_body = λ none.
           let at = thing_at instance.body has.some.0 (omega (arith, Has-within set has.some.0 has.some.1, has.over)) in
-          Contains-nil at.0 (subst (λ (atoms : List (Fact Term)). Contains atoms at.0) none (chosen-from_Has set instance.body has.some.0 at.0 has.some.1 at.1));
+          Contains-nil at.0 (subst (λ (atoms : List (Fact Term)). Contains atoms at.0) none
+          (chosen-from_Has set instance.body has.some.0 at.0 has.some.1 at.1));
       flat_head = λ term inside. flat term (inr inside);
       flat_body = λ term inside. flat term (inl (Mentions-among (chosen set instance.body) instance.body term (chosen-among instance set) inside));
       safe = safe;

@@ -72,7 +72,8 @@ module _ (views : List ConjunctiveQuery) (query : ConjunctiveQuery) (expansion :
     spread-flat : (number : ℕ) (atom : Fact Term) → number < length query.body → slice_get query.body number ≡ Some atom
         → (term : Term) → Mentions (of.view number).body term → IsFlat (of.spread number term)
     spread-flat number atom below at term mentioned =
-        by ((are atom.relation (of.view number) (of.has_view number atom at)).flat_body term mentioned) (decided_contains decided_term (of.view number).head term)
+        by ((are atom.relation (of.view number) (of.has_view number atom at)).flat_body term mentioned)
+        (decided_contains decided_term (of.view number).head term)
       where
         by : IsFlat term → Decided (Contains (of.view number).head term) → IsFlat (of.spread number term)
         by (inl (text, is)) _ = inl (text, ap (of.spread number) is ∙ of.keeps number text)

@@ -99,8 +99,8 @@ module _ (files : Files) (catalogue : Catalogue) (stores : length catalogue.stor
       → EndsOrLacks (opens_fragments (Some files) catalogue numbers)
   fragments_end numbers below =
       each_ends (opens_next (Some files) catalogue) numbers 0 no_contents (λ place contents number inside.
-      ends_then (opens_fragment (Some files) catalogue number) (λ bytes. gives (with_content contents number bytes)) (fragment_ends number (below number inside))
-      (λ bytes _. gives_ends (with_content contents number bytes)))
+      ends_then (opens_fragment (Some files) catalogue number) (λ bytes. gives (with_content contents number bytes))
+      (fragment_ends number (below number inside)) (λ bytes _. gives_ends (with_content contents number bytes)))
 
 -- the fragments of a plan's atoms are the catalogue's
 pub atom_below : (plan : Plan) (fragments : List FragmentDef) → IsPlanOver plan fragments → (atom : Fact Term) → Contains (plan_query plan).body atom

@@ -32,7 +32,8 @@ module _ (files : Option Files) (catalogue : List ℕ) where
   -- and `fill` does more than that
   module _ (before after : Option Names) (rose : Type 0) (result : Result Reply Status) where
     pub task_fills : (task : Task) → Answers (over_catalogue files catalogue (serves files task)) rose result
-        → AsksIn before after (over_catalogue files catalogue (serves files task)) result → AnswersFill (asked_over catalogue task) files before after rose result
+        → AsksIn before after (over_catalogue files catalogue (serves files task)) result
+        → AnswersFill (asked_over catalogue task) files before after rose result
     task_fills (task.Fill fragment) answers asks = (answers, asks)
     task_fills (task.Query query (query_task.Compare left)) answers asks = tt
     task_fills (task.Query query query_task.Minimise) answers asks = tt

@@ -20,7 +20,8 @@ use Rattle.esto_stores.specs.Rows.{Row}
 use Rattle.esto_term.specs.declared.term.Term.{Term}
 use Rattle.esto_term.specs.declared.term.Term.TheVariants.{Const}
 use Rattle.esto_term.proofs.ChoiceLemmas.{Decided, decided_in, in_order, least_below}
-use Rattle.esto_term.proofs.ListLemmas.{Contains-nil, Contains-head, Contains-rest, Contains-cases, Contains-map, Contains-map_from, place-from_Contains, thing_at}
+use Rattle.esto_term.proofs.ListLemmas.{Contains-nil, Contains-head, Contains-rest, Contains-cases, Contains-map, Contains-map_from, place-from_Contains}
+use Rattle.esto_term.proofs.ListLemmas.{thing_at}
 use Rattle.esto_docs.specs.Rows.{text_in}
 use Rattle.esto_docs.proofs.RowLemmas.{text_constant}
 use Rattle.esto_top.specs.Ends.{Ends}
@@ -134,7 +135,8 @@ module _ (Rows : List Value → Type 0) (listed : Listed Rows) where
       is_own : (values : List Value) → Rows values → values ≡ map Text (row_of values)
       is_own values has = elim (node_or_texts values) [
         | inr is ↦ is
-        | inl (column, (place, node, _, at)) ↦ let (row, is) = only values has in absurd (no_node row place node (ap (λ them. slice_get them place) (sym is) ∙ at))
+        | inl (column, (place, node, _, at)) ↦ let (row, is) = only values has in
+            absurd (no_node row place node (ap (λ them. slice_get them place) (sym is) ∙ at))
       ]
         where
           no_node : (row : Row) (place node : ℕ) → slice_get (map Text row) place ≡ Some (Node node) → ⊥
@@ -142,16 +144,16 @@ module _ (Rows : List Value → Type 0) (listed : Listed Rows) where
           no_node (cell ∷ row) zero node at = let wrong : Text cell ≡ Node node = same_Some (Text cell) (Node node) at in cc
           no_node (cell ∷ row) (suc place) node at = no_node row place node at
 
-      into : (texts : List Row) → texts ≡ map row_of listed.0 → (rows : List Row) → ((row : Row) → Contains rows row ↔ Contains texts row) → (values : List Value)
-          → Rows values → (row : Row) × Contains rows row × (values ≡ map Text row)
+      into : (texts : List Row) → texts ≡ map row_of listed.0 → (rows : List Row) → ((row : Row) → Contains rows row ↔ Contains texts row)
+          → (values : List Value) → Rows values → (row : Row) × Contains rows row × (values ≡ map Text row)
       into texts are rows same values has = (
         row_of values,
         (same (row_of values)).1 (subst (λ them. Contains them (row_of values)) (sym are) (Contains-map row_of listed.0 values ((listed.1 values).1 has))),
         is_own values has,
       )
 
-      from : (texts : List Row) → texts ≡ map row_of listed.0 → (rows : List Row) → ((row : Row) → Contains rows row ↔ Contains texts row) → (values : List Value)
-          → ((row : Row) × Contains rows row × (values ≡ map Text row)) → Rows values
+      from : (texts : List Row) → texts ≡ map row_of listed.0 → (rows : List Row) → ((row : Row) → Contains rows row ↔ Contains texts row)
+          → (values : List Value) → ((row : Row) × Contains rows row × (values ≡ map Text row)) → Rows values
       from texts are rows same values (row, inside, is) =
           let (own, there, its) = Contains-map_from row_of listed.0 row (subst (λ them. Contains them row) are ((same row).0 inside)) in
           let has = (listed.1 own).0 there in

@@ -1,6 +1,6 @@
 -- The courses of `list` and of `run` over a union come to an end.
-use Rattle.std.proofs.Common.{◌≡◌, ◌≢◌, ◌⊎◌, inl, inr, ℕ, ◌-◌, ◌<◌, ◌≤◌, Bool, true, false, List, [], ◌∷◌, ◌++◌, length, Some, None, Option, slice_get, Contains, refl, sym}
-use Rattle.std.proofs.Common.{◌∙◌, subst, arith}
+use Rattle.std.proofs.Common.{◌≡◌, ◌≢◌, ◌⊎◌, inl, inr, ℕ, ◌-◌, ◌<◌, ◌≤◌, Bool, true, false, List, [], ◌∷◌, ◌++◌, length, Some, None, Option, slice_get}
+use Rattle.std.proofs.Common.{Contains, refl, sym, ◌∙◌, subst, arith}
 use Rattle.std.specs.List.{AllZip, filter, flat_map, list_any}
 use Rattle.std.specs.Prelude.{MatchOption}
 use Rattle.std.proofs.lemmas.Bool.{cases_eq, cases_lt}
@@ -47,8 +47,8 @@ use Rattle.esto_semantics.proofs.FactLemmas.{Mentions-among}
 use Rattle.esto_term.specs.declared.term.Term.{Term}
 use Rattle.esto_term.proofs.ChoiceLemmas.{Decided}
 use Rattle.esto_term.proofs.DistinctLemmas.{decided_contains}
-use Rattle.esto_term.proofs.ListLemmas.{Contains-at, Contains-nil, Contains-head, Contains-rest, Contains-cases, Contains-flat, Contains-filter_from, Contains-flat_from, Contains-map, Contains-map_from}
-use Rattle.esto_term.proofs.ListLemmas.{thing_at}
+use Rattle.esto_term.proofs.ListLemmas.{Contains-at, Contains-nil, Contains-head, Contains-rest, Contains-cases, Contains-flat, Contains-filter_from}
+use Rattle.esto_term.proofs.ListLemmas.{Contains-flat_from, Contains-map, Contains-map_from, thing_at}
 use Rattle.esto_term.proofs.ZipLemmas.{zip_right}
 use Rattle.esto_union.specs.Unions.{IsRewritingIn}
 use Rattle.esto_views.specs.Plans.{plan_query}
@@ -373,7 +373,8 @@ module _ (laws : BelowLaws) (catalogue : Catalogue) where
               ))) in
               (text.0, (first, at, text.1))
 
-      run_end_ends : (end : Option Clash) → MatchOption end (HavePlan members) (ClashAt members) → EndsOrLacks (runs_end (Some files) catalogue queries number members end)
+      run_end_ends : (end : Option Clash) → MatchOption end (HavePlan members) (ClashAt members)
+          → EndsOrLacks (runs_end (Some files) catalogue queries number members end)
       run_end_ends None have =
           ends_then (chooses_each members number) (runs_chosen (Some files) catalogue queries) (choice_ends laws.lists.picks number members have)
           (λ others goes. chosen_ends others (judges_accepted (AreChosen number members) (HasNoChoice members number) others goes))
@@ -391,7 +392,8 @@ module _ (laws : BelowLaws) (catalogue : Catalogue) where
           by (inl have) = (None, have)
           by (inr (clash, is)) = (Some clash, is)
 
-  pub union_run_ends : (files : Files) (queries : List Query) → queries ≢ [] → (number : Option ℕ) → EndsOrLacks (runs_union (Some files) catalogue queries number)
+  pub union_run_ends : (files : Files) (queries : List Query) → queries ≢ [] → (number : Option ℕ)
+      → EndsOrLacks (runs_union (Some files) catalogue queries number)
   union_run_ends files [] some number = absurd (some refl)
   union_run_ends files (first ∷ rest) some number =
       ends_judged (AreMembersOf catalogue (first ∷ rest)) (λ _. ⊥) (runs_members (Some files) catalogue (first ∷ rest) number) (members_exist (first ∷ rest))

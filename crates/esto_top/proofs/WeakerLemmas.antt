@@ -114,7 +114,8 @@ module _ {A : Type 0} (course other : Course Status A) (weaker : IsWeaker course
 -- ---- `fill`
 
 -- a file that is filled has a text that is made of its rows
-pub fill_weaker : (files : Option Files) (catalogue_name name : List ℕ) → IsWeaker (fill_course files catalogue_name name) (make_course files catalogue_name name)
+pub fill_weaker : (files : Option Files) (catalogue_name name : List ℕ)
+    → IsWeaker (fill_course files catalogue_name name) (make_course files catalogue_name name)
 fill_weaker files catalogue_name name =
     then_weaker _ _ _ (λ catalogue.
     then_weaker _ _ _ (λ number.

@@ -35,8 +35,8 @@ returns-clause-complete c = IfOk-weaker c.executable_products.result _ _ (λ it 
     let rules = rules_of c.args.catalogue.now.rules in
     let views = views_of c.args.catalogue.now.fragments in
     let patterns = patterns_of c.args.catalogue.now.fragments in
-    let onto = c.rewritings_map_onto_sets.ensures rules views patterns query plan other (plan_atoms-flat c.args.plan.now (c.plans_are_sound.ensures c.args.plan.now))
-    c.requires.universal
+    let onto = c.rewritings_map_onto_sets.ensures rules views patterns query plan other
+    (plan_atoms-flat c.args.plan.now (c.plans_are_sound.ensures c.args.plan.now)) c.requires.universal
     c.requires.satisfiable rewriting in (
       onto.0,
       onto.2,

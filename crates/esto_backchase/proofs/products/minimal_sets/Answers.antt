@@ -29,8 +29,8 @@ returns-clause-complete c other rewriting =
     let rules = rules_of c.args.catalogue.now.rules in
     let views = views_of c.args.catalogue.now.fragments in
     let patterns = patterns_of c.args.catalogue.now.fragments in
-    let onto = c.rewritings_map_onto_sets.ensures rules views patterns query plan other (plan_atoms-flat c.args.plan.now (c.plans_are_sound.ensures c.args.plan.now))
-    c.requires.universal c.requires.satisfiable rewriting in (
+    let onto = c.rewritings_map_onto_sets.ensures rules views patterns query plan other
+    (plan_atoms-flat c.args.plan.now (c.plans_are_sound.ensures c.args.plan.now)) c.requires.universal c.requires.satisfiable rewriting in (
       onto.0,
       onto.2,
       minimal-cover (IsRewriting rules views patterns query plan) (length plan.body) (λ set is. is.has_candidate.over) c.in_ok-sets.sets.sets

@@ -16,5 +16,5 @@ returns-in-Ok-clause-pages c =
     let most : (c.len-place.result * 64 + 64) * c.args.width ≤ c.args.many * c.args.width =
     mul-le-mul_right c.args.width (omega (arith, c.if-many-place-lt-PAGE.false, c.len-place.ensures, c.requires.within)) in
     subst (ArePagesOf c.args.rows.now c.args.width) (sym {A = List Page} c.in-Ok.ensures.items)
-    (page_more c.args.rows.now c.args.width c.len-place.result c.args.pages.now.items c.page_of.result (omega (arith, c.len-place.ensures)) c.requires.pages c.page_of.ensures
-    (omega (arith, most, c.requires.many)))
+    (page_more c.args.rows.now c.args.width c.len-place.result c.args.pages.now.items c.page_of.result (omega (arith, c.len-place.ensures)) c.requires.pages
+    c.page_of.ensures (omega (arith, most, c.requires.many)))

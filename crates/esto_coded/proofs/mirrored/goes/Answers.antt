@@ -8,8 +8,8 @@ use Rattle.esto_coded.proofs.mirrored.goes.Goals as goal
 pub returns-then-equal : goal.returns-then-equal
 returns-then-equal c told =
     c.places.invariant
-    ∙ renamed_at c.args.from.now c.args.to.now c.places.place c.args.term.now c.item.result.now c.item-then-equal.result.now c.item.ensures c.item-then-equal.ensures
-    (c.equal.ensures.0 c.if-equal.true)
+    ∙ renamed_at c.args.from.now c.args.to.now c.places.place c.args.term.now c.item.result.now c.item-then-equal.result.now c.item.ensures
+    c.item-then-equal.ensures (c.equal.ensures.0 c.if-equal.true)
     ∙ c.equal-then-equal.ensures.0 told
 
 pub places-preserved : goal.places-preserved

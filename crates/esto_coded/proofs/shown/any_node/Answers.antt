@@ -13,4 +13,5 @@ codes-preserved c =
     (λ past. let under = c.if-code-ge-FIRST_NODE.false in omega (arith, under, past)) c.codes.invariant
 
 pub returns : goal.returns
-returns c = is_not (λ found. each_seen (λ code. FIRST_NODE ≤ code → ⊥) c.args.codes.now c.codes.code-index c.codes-test.false c.codes.invariant found.0 found.1 found.2)
+returns c = is_not (λ found. each_seen (λ code. FIRST_NODE ≤ code → ⊥) c.args.codes.now c.codes.code-index c.codes-test.false
+    c.codes.invariant found.0 found.1 found.2)

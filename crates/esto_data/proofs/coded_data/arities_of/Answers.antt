@@ -16,4 +16,5 @@ returns c =
     let all = arities_of c.args.schema.now in
     c.relations.invariant
     ∙ take_all c.relations.relation all
-    (let long = length-map c.args.schema.now (λ (it : Relation). it.arity) in let past = c.relations-test.false in let count = c.len-relation-end.ensures.value in omega (arith, long, past, count))
+    (let long = length-map c.args.schema.now (λ (it : Relation). it.arity) in let past = c.relations-test.false in
+    let count = c.len-relation-end.ensures.value in omega (arith, long, past, count))

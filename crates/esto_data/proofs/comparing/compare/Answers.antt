@@ -69,13 +69,15 @@ pub compare_by_rule-requires-clause-there : goal.compare_by_rule-requires-clause
 compare_by_rule-requires-clause-there c =
     let left = c.requires.facts.1.held.left in
     let held = c.requires.rows.1 in
-    let first = rw c.in-Some-Rule.field-0-is at (rw c.in-Some-Rule.is at (c.in_ok-first_disagreement.ensures.found left.loaded left.stand held.rows held.coded)) in
+    let first = rw c.in-Some-Rule.field-0-is at (rw c.in-Some-Rule.is at (c.in_ok-first_disagreement.ensures.found left.loaded
+    left.stand held.rows held.coded)) in
     rule_within c.args.catalogue.now.rules c.in-Some-Rule.number first.rule first.there
 
 pub returns-in-Some-Rule : goal.returns-in-Some-Rule
 returns-in-Some-Rule c facts holds contents held =
     let left = holds.held.left in
-    let first = rw c.in-Some-Rule.field-0-is at (rw c.in-Some-Rule.is at (c.in_ok-first_disagreement.ensures.found left.loaded left.stand held.rows held.coded)) in
+    let first = rw c.in-Some-Rule.field-0-is at (rw c.in-Some-Rule.is at (c.in_ok-first_disagreement.ensures.found left.loaded
+    left.stand held.rows held.coded)) in
     let catalogue = c.args.catalogue.now in
     let wanted = c.args.trial.now.wanted in
     let stays : Stays c.args.coded c.first_disagreement.new.coded =

@@ -8,12 +8,14 @@ fragments-init c = texts_start c.args.coded.now.facts.texts c.args.rows.now c.ne
 pub add_texts-requires : goal.add_texts-requires
 add_texts-requires c =
     texts_there c.args.coded.now.facts.texts c.args.rows.now c.fragments.own-index c.own-item.result
-    (list_read c.args.rows.now c.items-own-items.result.now c.items-own-items.ensures c.fragments.own-index c.own-item.result c.fragments-test.true c.own-item.is) c.requires.0 c.requires.1
+    (list_read c.args.rows.now c.items-own-items.result.now c.items-own-items.ensures c.fragments.own-index c.own-item.result c.fragments-test.true
+    c.own-item.is) c.requires.0 c.requires.1
 
 pub fragments-preserved : goal.fragments-preserved
 fragments-preserved c =
     texts_go c.args.coded.now.facts.texts c.args.rows.now c.fragments.own-index c.fragments.texts c.fragments.invariant c.own-item.result
-    (list_read c.args.rows.now c.items-own-items.result.now c.items-own-items.ensures c.fragments.own-index c.own-item.result c.fragments-test.true c.own-item.is) c.add_texts.new.texts c.in_ok-add_texts.ensures
+    (list_read c.args.rows.now c.items-own-items.result.now c.items-own-items.ensures c.fragments.own-index c.own-item.result c.fragments-test.true
+    c.own-item.is) c.add_texts.new.texts c.in_ok-add_texts.ensures
 
 pub returns : goal.returns
 returns c =

@@ -48,8 +48,8 @@ returns-in_err-load_next-clause-answer g c =
     (files_stop (g.S.Shelf.files c.args.shelf.now) c.args.catalogue.now.datasets c.args.numbers.now (g.S.Shelf.asked c.args.shelf.now) c.numbers.number-index
     so_far.contents (g.S.Shelf.asked c.numbers.shelf) so_far.along number below read stops)
     c.numbers.invariant.1 c.in_err-load_next.ensures.later (omega arith))
-    (files_stop_asks (g.S.Shelf.files c.args.shelf.now) c.args.catalogue.now.datasets c.args.numbers.now (g.S.Shelf.asked c.args.shelf.now) c.numbers.number-index
-    so_far.contents (g.S.Shelf.asked c.numbers.shelf) so_far.along number below read (g.S.Shelf.asked c.load_next.new.shelf) _ asked)
+    (files_stop_asks (g.S.Shelf.files c.args.shelf.now) c.args.catalogue.now.datasets c.args.numbers.now (g.S.Shelf.asked c.args.shelf.now)
+    c.numbers.number-index so_far.contents (g.S.Shelf.asked c.numbers.shelf) so_far.along number below read (g.S.Shelf.asked c.load_next.new.shelf) _ asked)
 
 pub numbers-preserved : goal.numbers-preserved
 numbers-preserved g c =

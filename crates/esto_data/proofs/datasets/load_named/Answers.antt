@@ -18,23 +18,25 @@ load_files-requires g c = sources_there c.args.catalogue.now.datasets 0 c.in_ok-
 
 pub returns-clause-answer : goal.returns-clause-answer
 returns-clause-answer g c =
-    loads_by (g.S.Shelf.files c.args.shelf.now) c.args.catalogue.now.datasets (Names c.args.body.now) c.in_ok-numbers.numbers c.in_ok-numbers.ensures (Asked (c.args.body.now ∷ []))
-    c.in_ok-demand_files.ensures _ _ _ c.load_files.result (rw c.in_ok-wanted.ensures at c.load_files.ensures.answer)
+    loads_by (g.S.Shelf.files c.args.shelf.now) c.args.catalogue.now.datasets (Names c.args.body.now) c.in_ok-numbers.numbers c.in_ok-numbers.ensures
+    (Asked (c.args.body.now ∷ [])) c.in_ok-demand_files.ensures _ _ _ c.load_files.result (rw c.in_ok-wanted.ensures at c.load_files.ensures.answer)
 
 pub returns-in_err-wanted-clause-asked : goal.returns-in_err-wanted-clause-asked
 returns-in_err-wanted-clause-asked g c =
-    load_exit_asks _ _ _ c.from_residual.result c.from_residual.ensures.1 (loads_want (g.S.Shelf.files c.args.shelf.now) c.args.catalogue.now.datasets (Names c.args.body.now) _)
+    load_exit_asks _ _ _ c.from_residual.result c.from_residual.ensures.1
+    (loads_want (g.S.Shelf.files c.args.shelf.now) c.args.catalogue.now.datasets (Names c.args.body.now) _)
 
 pub returns-in_err-numbers-clause-asked : goal.returns-in_err-numbers-clause-asked
 returns-in_err-numbers-clause-asked g c =
-    load_exit_asks _ _ _ c.from_residual-in_err-numbers.result c.from_residual-in_err-numbers.ensures.1 (loads_want (g.S.Shelf.files c.args.shelf.now) c.args.catalogue.now.datasets (Names c.args.body.now) _)
+    load_exit_asks _ _ _ c.from_residual-in_err-numbers.result c.from_residual-in_err-numbers.ensures.1
+    (loads_want (g.S.Shelf.files c.args.shelf.now) c.args.catalogue.now.datasets (Names c.args.body.now) _)
 
 pub returns-in_err-demand_files-clause-asked : goal.returns-in_err-demand_files-clause-asked
 returns-in_err-demand_files-clause-asked g c =
-    demand_exit_asks (g.S.Shelf.files c.args.shelf.now) c.args.catalogue.now.datasets (Names c.args.body.now) c.in_ok-numbers.numbers c.in_ok-numbers.ensures _ _
-    c.from_residual-in_err-demand_files.result c.from_residual-in_err-demand_files.ensures.1 c.in_err-demand_files.ensures _
+    demand_exit_asks (g.S.Shelf.files c.args.shelf.now) c.args.catalogue.now.datasets (Names c.args.body.now) c.in_ok-numbers.numbers c.in_ok-numbers.ensures _
+    _ c.from_residual-in_err-demand_files.result c.from_residual-in_err-demand_files.ensures.1 c.in_err-demand_files.ensures _
 
 pub returns-clause-asked : goal.returns-clause-asked
 returns-clause-asked g c =
-    loads_by_asks (g.S.Shelf.files c.args.shelf.now) c.args.catalogue.now.datasets (Names c.args.body.now) c.in_ok-numbers.numbers c.in_ok-numbers.ensures (Asked (c.args.body.now ∷ []))
-    c.in_ok-demand_files.ensures _ _ _ c.load_files.result (rw c.in_ok-wanted.ensures at c.load_files.ensures.answer)
+    loads_by_asks (g.S.Shelf.files c.args.shelf.now) c.args.catalogue.now.datasets (Names c.args.body.now) c.in_ok-numbers.numbers c.in_ok-numbers.ensures
+    (Asked (c.args.body.now ∷ [])) c.in_ok-demand_files.ensures _ _ _ c.load_files.result (rw c.in_ok-wanted.ensures at c.load_files.ensures.answer)

@@ -23,7 +23,8 @@ returns-in_err-text-clause-answer g c =
     at_exit _ _ c.from_residual-in_err-text.result c.from_residual-in_err-text.ensures.1
     (fill_unfilled (g.S.Shelf.files c.args.shelf.now) c.args.catalogue.now c.args.number _ stored.1 c.in_ok-coded.ensures.answer.0
     c.in_ok-coded.ensures.answer.1
-    _ _ (fills_all c.answers_rest_on_wanted_facts.ensures _ c.in_ok-coded.ensures.answer.0 c.in_ok-coded.ensures.answer.2.loaded.facts c.in_ok-coded.ensures.answer.2.leaves
+    _ _ (fills_all c.answers_rest_on_wanted_facts.ensures _ c.in_ok-coded.ensures.answer.0 c.in_ok-coded.ensures.answer.2.loaded.facts
+    c.in_ok-coded.ensures.answer.2.leaves
     (Err _) (c.in_err-text.ensures c.in_ok-coded.ensures.answer.2.loaded c.in_ok-coded.ensures.answer.2.stand _ stored.1)))
 
 pub returns-clause-answer : goal.returns-clause-answer
@@ -32,7 +33,8 @@ returns-clause-answer g c =
     (c.catalogues_are_sound.ensures c.args.catalogue.now).stored in
     fill_goes (g.S.Shelf.files c.args.shelf.now) c.args.catalogue.now c.args.number _ stored.1 c.in_ok-coded.ensures.answer.0
     c.in_ok-coded.ensures.answer.1 c.in_ok-text.text
-    (fills_all c.answers_rest_on_wanted_facts.ensures _ c.in_ok-coded.ensures.answer.0 c.in_ok-coded.ensures.answer.2.loaded.facts c.in_ok-coded.ensures.answer.2.leaves
+    (fills_all c.answers_rest_on_wanted_facts.ensures _ c.in_ok-coded.ensures.answer.0 c.in_ok-coded.ensures.answer.2.loaded.facts
+    c.in_ok-coded.ensures.answer.2.leaves
     (Ok c.in_ok-text.text) (c.in_ok-text.ensures c.in_ok-coded.ensures.answer.2.loaded c.in_ok-coded.ensures.answer.2.stand _ stored.1))
     (Done c.in_ok-text.text) refl
 
@@ -50,8 +52,8 @@ returns-in_err-text-clause-asked g c =
     handed_asks _ _ c.from_residual-in_err-text.result c.from_residual-in_err-text.ensures.1
     (fill_unfilled_asks (g.S.Shelf.files c.args.shelf.now) c.args.catalogue.now c.args.number _ stored.1 c.in_ok-coded.ensures.asked.0
     c.in_ok-coded.ensures.asked.1 _
-    (fills_all c.answers_rest_on_wanted_facts.ensures _ c.in_ok-coded.ensures.asked.0 c.in_ok-coded.ensures.asked.2.loaded.facts c.in_ok-coded.ensures.asked.2.leaves
-    (Err _) (c.in_err-text.ensures c.in_ok-coded.ensures.asked.2.loaded c.in_ok-coded.ensures.asked.2.stand _ stored.1)))
+    (fills_all c.answers_rest_on_wanted_facts.ensures _ c.in_ok-coded.ensures.asked.0 c.in_ok-coded.ensures.asked.2.loaded.facts
+    c.in_ok-coded.ensures.asked.2.leaves (Err _) (c.in_err-text.ensures c.in_ok-coded.ensures.asked.2.loaded c.in_ok-coded.ensures.asked.2.stand _ stored.1)))
 
 pub returns-clause-asked : goal.returns-clause-asked
 returns-clause-asked g c =
@@ -59,5 +61,6 @@ returns-clause-asked g c =
     (c.catalogues_are_sound.ensures c.args.catalogue.now).stored in
     fill_goes_asks (g.S.Shelf.files c.args.shelf.now) c.args.catalogue.now c.args.number _ stored.1 c.in_ok-coded.ensures.asked.0
     c.in_ok-coded.ensures.asked.1 c.in_ok-text.text
-    (fills_all c.answers_rest_on_wanted_facts.ensures _ c.in_ok-coded.ensures.asked.0 c.in_ok-coded.ensures.asked.2.loaded.facts c.in_ok-coded.ensures.asked.2.leaves
+    (fills_all c.answers_rest_on_wanted_facts.ensures _ c.in_ok-coded.ensures.asked.0 c.in_ok-coded.ensures.asked.2.loaded.facts
+    c.in_ok-coded.ensures.asked.2.leaves
     (Ok c.in_ok-text.text) (c.in_ok-text.ensures c.in_ok-coded.ensures.asked.2.loaded c.in_ok-coded.ensures.asked.2.stand _ stored.1))

@@ -13,7 +13,8 @@ numbers-init g c = (
   refl,
   omega arith,
   c.requires.over,
-  files_start (g.S.Shelf.files c.args.shelf.now) c.args.catalogue.now.datasets c.args.numbers.now (g.S.Shelf.asked c.args.shelf.now) c.new-files.result c.new-files.ensures,
+  files_start (g.S.Shelf.files c.args.shelf.now) c.args.catalogue.now.datasets c.args.numbers.now (g.S.Shelf.asked c.args.shelf.now)
+      c.new-files.result c.new-files.ensures,
   subst (λ it. IsCodedFrom c.args.catalogue.now.datasets c.args.wanted.now it c.args.coded.now) (sym c.new-files.ensures) c.requires.nothing,
 )
 
@@ -35,7 +36,8 @@ returns-in_err-bytes-clause-answer g c =
     at_exit _ _ c.from_residual.result c.from_residual.ensures.1
     (end_stops (g.S.Shelf.faults c.args.shelf.now) (g.S.Shelf.faults c.numbers.shelf) (g.S.Shelf.faults c.load_next.new.shelf)
     (g.S.Shelf.faults c.load_next.new.shelf)
-    (files_stop (g.S.Shelf.files c.args.shelf.now) c.args.catalogue.now.datasets c.args.numbers.now (g.S.Shelf.asked c.args.shelf.now) c.numbers.number-index c.numbers.files (g.S.Shelf.asked c.numbers.shelf) c.numbers.invariant.3 number below read stops)
+    (files_stop (g.S.Shelf.files c.args.shelf.now) c.args.catalogue.now.datasets c.args.numbers.now (g.S.Shelf.asked c.args.shelf.now) c.numbers.number-index
+    c.numbers.files (g.S.Shelf.asked c.numbers.shelf) c.numbers.invariant.3 number below read stops)
     c.numbers.invariant.1 c.in_err-bytes.ensures.later (omega arith))
 
 pub returns-in_err-bytes-clause-asked : goal.returns-in_err-bytes-clause-asked
@@ -46,7 +48,9 @@ returns-in_err-bytes-clause-asked g c =
     let read = number_read c.args.numbers.now items c.numbers.number-index c.items-number-items.ensures c.numbers-test.true in
     let asked = rw c.numbers.invariant.0 at c.in_err-bytes.ensures.asked in
     handed_asks _ _ c.from_residual.result c.from_residual.ensures.1
-    (files_stop_asks (g.S.Shelf.files c.args.shelf.now) c.args.catalogue.now.datasets c.args.numbers.now (g.S.Shelf.asked c.args.shelf.now) c.numbers.number-index c.numbers.files (g.S.Shelf.asked c.numbers.shelf) c.numbers.invariant.3 number below read (g.S.Shelf.asked c.load_next.new.shelf) _ asked)
+    (files_stop_asks (g.S.Shelf.files c.args.shelf.now) c.args.catalogue.now.datasets c.args.numbers.now (g.S.Shelf.asked c.args.shelf.now)
+    c.numbers.number-index c.numbers.files (g.S.Shelf.asked c.numbers.shelf) c.numbers.invariant.3 number below read
+    (g.S.Shelf.asked c.load_next.new.shelf) _ asked)
 
 pub returns-in_err-push-clause-answer : goal.returns-in_err-push-clause-answer
 returns-in_err-push-clause-answer g c = at_exit _ _ c.from_residual-in_err-push.result c.from_residual-in_err-push.ensures.1 (is_free refl)
@@ -61,9 +65,10 @@ returns-in_err-push-clause-asked g c =
     let asked = rw c.numbers.invariant.0 at c.in_ok-bytes.ensures.asked in
     let later = g.S.Shelf.asked c.load_next.new.shelf in
     handed_asks _ _ c.from_residual-in_err-push.result c.from_residual-in_err-push.ensures.1
-    (files_want (g.S.Shelf.files c.args.shelf.now) c.args.catalogue.now.datasets c.args.numbers.now (g.S.Shelf.asked c.args.shelf.now) (c.numbers.number-index + 1)
-    (with_file c.numbers.files number c.in_ok-bytes.bytes) later
-    (files_go (g.S.Shelf.files c.args.shelf.now) c.args.catalogue.now.datasets c.args.numbers.now (g.S.Shelf.asked c.args.shelf.now) c.numbers.number-index c.numbers.files (g.S.Shelf.asked c.numbers.shelf) c.numbers.invariant.3 number below read c.in_ok-bytes.bytes goes later asked))
+    (files_want (g.S.Shelf.files c.args.shelf.now) c.args.catalogue.now.datasets c.args.numbers.now (g.S.Shelf.asked c.args.shelf.now)
+    (c.numbers.number-index + 1) (with_file c.numbers.files number c.in_ok-bytes.bytes) later
+    (files_go (g.S.Shelf.files c.args.shelf.now) c.args.catalogue.now.datasets c.args.numbers.now (g.S.Shelf.asked c.args.shelf.now) c.numbers.number-index
+    c.numbers.files (g.S.Shelf.asked c.numbers.shelf) c.numbers.invariant.3 number below read c.in_ok-bytes.bytes goes later asked))
 
 pub numbers-preserved : goal.numbers-preserved
 numbers-preserved g c =
@@ -78,8 +83,11 @@ numbers-preserved g c =
       c.in_ok-bytes.ensures.files ∙ c.numbers.invariant.0,
       omega (arith, c.numbers.invariant.1, c.in_ok-bytes.ensures.later),
       c.in_ok-bytes.ensures.over,
-      subst (λ it. IsAlongFiles (g.S.Shelf.files c.args.shelf.now) c.args.catalogue.now.datasets c.args.numbers.now (g.S.Shelf.asked c.args.shelf.now) (c.numbers.number-index + 1) it later) (sym pushed)
-          (files_go (g.S.Shelf.files c.args.shelf.now) c.args.catalogue.now.datasets c.args.numbers.now (g.S.Shelf.asked c.args.shelf.now) c.numbers.number-index c.numbers.files (g.S.Shelf.asked c.numbers.shelf) c.numbers.invariant.3 number below read c.in_ok-bytes.bytes goes later asked),
+      subst (λ it. IsAlongFiles (g.S.Shelf.files c.args.shelf.now) c.args.catalogue.now.datasets c.args.numbers.now (g.S.Shelf.asked c.args.shelf.now)
+          (c.numbers.number-index + 1) it later) (sym pushed)
+          (files_go (g.S.Shelf.files c.args.shelf.now) c.args.catalogue.now.datasets c.args.numbers.now (g.S.Shelf.asked c.args.shelf.now)
+          c.numbers.number-index c.numbers.files (g.S.Shelf.asked c.numbers.shelf) c.numbers.invariant.3 number below read
+          c.in_ok-bytes.bytes goes later asked),
       subst (λ it. IsCodedFrom c.args.catalogue.now.datasets c.args.wanted.now it c.load_next.new.coded) (sym pushed)
           (c.in_ok-bytes.ensures.loaded c.numbers.files c.numbers.invariant.4),
     )
@@ -87,12 +95,14 @@ numbers-preserved g c =
 pub returns-clause-answer : goal.returns-clause-answer
 returns-clause-answer g c =
     let le : length c.args.numbers.now ≤ c.numbers.number-index = omega (arith, c.numbers-test.false, ap length c.items-number-items.ensures) in
-    files_end (g.S.Shelf.files c.args.shelf.now) c.args.catalogue.now.datasets c.args.numbers.now (g.S.Shelf.asked c.args.shelf.now) c.numbers.number-index c.numbers.files (g.S.Shelf.asked c.numbers.shelf) c.numbers.invariant.3 le
+    files_end (g.S.Shelf.files c.args.shelf.now) c.args.catalogue.now.datasets c.args.numbers.now (g.S.Shelf.asked c.args.shelf.now) c.numbers.number-index
+    c.numbers.files (g.S.Shelf.asked c.numbers.shelf) c.numbers.invariant.3 le
 
 pub returns-clause-asked : goal.returns-clause-asked
 returns-clause-asked g c =
     let le : length c.args.numbers.now ≤ c.numbers.number-index = omega (arith, c.numbers-test.false, ap length c.items-number-items.ensures) in
-    files_end_asks (g.S.Shelf.files c.args.shelf.now) c.args.catalogue.now.datasets c.args.numbers.now (g.S.Shelf.asked c.args.shelf.now) c.numbers.number-index c.numbers.files (g.S.Shelf.asked c.numbers.shelf) c.numbers.invariant.3 le
+    files_end_asks (g.S.Shelf.files c.args.shelf.now) c.args.catalogue.now.datasets c.args.numbers.now (g.S.Shelf.asked c.args.shelf.now) c.numbers.number-index
+    c.numbers.files (g.S.Shelf.asked c.numbers.shelf) c.numbers.invariant.3 le
 
 pub returns-clause-loaded : goal.returns-clause-loaded
 returns-clause-loaded g c = c.numbers.invariant.4

@@ -8,11 +8,14 @@ files-init c = load_first c.args.catalogue.now.datasets c.args.wanted.now c.noth
 
 pub load_file-requires-clause-number : goal.load_file-requires-clause-number
 load_file-requires-clause-number c =
-    c.requires.numbers c.file-item.result (Contains-at c.args.files.now c.files.file-index c.file-item.result (file_read c.args.files.now c.items-file-items.result.now c.items-file-items.ensures c.files.file-index c.file-item.result c.files-test.true c.file-item.is))
+    c.requires.numbers c.file-item.result
+    (Contains-at c.args.files.now c.files.file-index c.file-item.result (file_read c.args.files.now c.items-file-items.result.now c.items-file-items.ensures
+    c.files.file-index c.file-item.result c.files-test.true c.file-item.is))
 
 pub load_file-requires-clause-readable : goal.load_file-requires-clause-readable
 load_file-requires-clause-readable c dataset =
-    c.requires.readable c.files.file-index c.file-item.result dataset (file_read c.args.files.now c.items-file-items.result.now c.items-file-items.ensures c.files.file-index c.file-item.result c.files-test.true c.file-item.is)
+    c.requires.readable c.files.file-index c.file-item.result dataset (file_read c.args.files.now c.items-file-items.result.now c.items-file-items.ensures
+    c.files.file-index c.file-item.result c.files-test.true c.file-item.is)
 
 pub files-preserved : goal.files-preserved
 files-preserved c =

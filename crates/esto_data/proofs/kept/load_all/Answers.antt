@@ -16,8 +16,8 @@ keep_files-requires-clause-sources g c = sources_there c.args.catalogue.now.data
 
 pub returns-clause-answer : goal.returns-clause-answer
 returns-clause-answer g c =
-    keeps_by (g.S.Shelf.files c.args.shelf.now) c.args.catalogue.now.datasets IsAny c.in_ok-numbers.numbers c.in_ok-numbers.ensures c.args.wanted.now c.in_ok-demand_files.ensures _
-    c.keep_files.new.coded c.keep_files.result c.keep_files.ensures.answer c.keep_files.ensures.loaded
+    keeps_by (g.S.Shelf.files c.args.shelf.now) c.args.catalogue.now.datasets IsAny c.in_ok-numbers.numbers c.in_ok-numbers.ensures c.args.wanted.now
+    c.in_ok-demand_files.ensures _ c.keep_files.new.coded c.keep_files.result c.keep_files.ensures.answer c.keep_files.ensures.loaded
 
 pub returns-in_err-numbers-clause-asked : goal.returns-in_err-numbers-clause-asked
 returns-in_err-numbers-clause-asked g c =
@@ -30,5 +30,6 @@ returns-in_err-demand_files-clause-asked g c =
 
 pub returns-clause-asked : goal.returns-clause-asked
 returns-clause-asked g c =
-    keeps_by_asks (g.S.Shelf.files c.args.shelf.now) c.args.catalogue.now.datasets IsAny c.in_ok-numbers.numbers c.in_ok-numbers.ensures c.args.wanted.now c.in_ok-demand_files.ensures _ _ _
+    keeps_by_asks (g.S.Shelf.files c.args.shelf.now) c.args.catalogue.now.datasets IsAny c.in_ok-numbers.numbers c.in_ok-numbers.ensures c.args.wanted.now
+    c.in_ok-demand_files.ensures _ _ _
     c.keep_files.new.coded c.keep_files.result c.keep_files.ensures.answer c.keep_files.ensures.asked c.keep_files.ensures.loaded

@@ -11,7 +11,8 @@ fragments-init g c = (
   refl,
   omega arith,
   stays_itself c.args.coded.now,
-  rows_start (g.S.Shelf.files c.args.shelf.now) c.args.catalogue.now (g.S.Shelf.asked c.args.shelf.now) c.args.coded.now.facts.texts c.new-rows.result c.new-rows.ensures,
+  rows_start (g.S.Shelf.files c.args.shelf.now) c.args.catalogue.now (g.S.Shelf.asked c.args.shelf.now) c.args.coded.now.facts.texts
+      c.new-rows.result c.new-rows.ensures,
 )
 
 pub open_rows-requires-clause-coded : goal.open_rows-requires-clause-coded
@@ -24,9 +25,11 @@ returns-in_err-open_rows-clause-answer g c =
     all_rows_exit (g.S.Shelf.files c.args.shelf.now) c.args.catalogue.now _ _ c.from_residual.result c.from_residual.ensures.1
     (end_stops (g.S.Shelf.faults c.args.shelf.now) (g.S.Shelf.faults c.fragments.shelf) (g.S.Shelf.faults c.open_rows.new.shelf)
     (g.S.Shelf.faults c.open_rows.new.shelf)
-    (rows_stop (g.S.Shelf.files c.args.shelf.now) c.args.catalogue.now (g.S.Shelf.asked c.args.shelf.now) c.fragments.number c.fragments.coded.facts.texts c.fragments.rows (g.S.Shelf.asked c.fragments.shelf) c.fragments.invariant.3 below stops.0)
+    (rows_stop (g.S.Shelf.files c.args.shelf.now) c.args.catalogue.now (g.S.Shelf.asked c.args.shelf.now) c.fragments.number c.fragments.coded.facts.texts
+    c.fragments.rows (g.S.Shelf.asked c.fragments.shelf) c.fragments.invariant.3 below stops.0)
     c.fragments.invariant.1 c.in_err-open_rows.ensures.later (omega arith))
-    (rows_stop_asks (g.S.Shelf.files c.args.shelf.now) c.args.catalogue.now (g.S.Shelf.asked c.args.shelf.now) c.fragments.number c.fragments.coded.facts.texts c.fragments.rows (g.S.Shelf.asked c.fragments.shelf) c.fragments.invariant.3 below (g.S.Shelf.asked c.open_rows.new.shelf) _ stops.1)
+    (rows_stop_asks (g.S.Shelf.files c.args.shelf.now) c.args.catalogue.now (g.S.Shelf.asked c.args.shelf.now) c.fragments.number c.fragments.coded.facts.texts
+    c.fragments.rows (g.S.Shelf.asked c.fragments.shelf) c.fragments.invariant.3 below (g.S.Shelf.asked c.open_rows.new.shelf) _ stops.1)
 
 pub fragments-preserved : goal.fragments-preserved
 fragments-preserved g c =
@@ -35,13 +38,15 @@ fragments-preserved g c =
       c.in_ok-open_rows.ensures.files ∙ c.fragments.invariant.0,
       omega (arith, c.fragments.invariant.1, c.in_ok-open_rows.ensures.later),
       stays_on _ _ _ c.fragments.invariant.2 c.in_ok-open_rows.ensures.stays,
-      rows_go (g.S.Shelf.files c.args.shelf.now) c.args.catalogue.now (g.S.Shelf.asked c.args.shelf.now) c.fragments.number c.fragments.coded.facts.texts c.fragments.rows (g.S.Shelf.asked c.fragments.shelf) c.fragments.invariant.3 below c.open_rows.new.coded.facts.texts c.open_rows.new.rows
+      rows_go (g.S.Shelf.files c.args.shelf.now) c.args.catalogue.now (g.S.Shelf.asked c.args.shelf.now) c.fragments.number c.fragments.coded.facts.texts
+          c.fragments.rows (g.S.Shelf.asked c.fragments.shelf) c.fragments.invariant.3 below c.open_rows.new.coded.facts.texts c.open_rows.new.rows
           opens.0 opens.1 opens.2 opens.3 opens.4 (g.S.Shelf.asked c.open_rows.new.shelf) opens.5,
     )
 
 pub returns-clause-answer : goal.returns-clause-answer
 returns-clause-answer g c =
-    rows_end (g.S.Shelf.files c.args.shelf.now) c.args.catalogue.now (g.S.Shelf.asked c.args.shelf.now) c.fragments.number c.fragments.coded.facts.texts c.fragments.rows (g.S.Shelf.asked c.fragments.shelf) c.fragments.invariant.3
+    rows_end (g.S.Shelf.files c.args.shelf.now) c.args.catalogue.now (g.S.Shelf.asked c.args.shelf.now) c.fragments.number c.fragments.coded.facts.texts
+    c.fragments.rows (g.S.Shelf.asked c.fragments.shelf) c.fragments.invariant.3
     (omega (arith, c.fragments-test.false, c.fragments.auto.number-end, c.len-number-end.ensures))
     (c.catalogues_are_sound.ensures c.args.catalogue.now).stored (Rises g.S.Shelf.faults c.args.shelf.now c.fragments.shelf)
 

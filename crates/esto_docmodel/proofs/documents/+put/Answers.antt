@@ -1,6 +1,7 @@
 use Rattle.std.proofs.Common.{arith, refl}
 use Rattle.std.proofs.lemmas.Result.{on_ok_weaker}
-use Rattle.esto_docmodel.proofs.EncodeLemmas.{value_facts, nothing_facts, fields_facts, items_facts, field_rest, item_rest, field_count, item_count, fields_counted, items_counted}
+use Rattle.esto_docmodel.proofs.EncodeLemmas.{value_facts, nothing_facts, fields_facts, items_facts, field_rest, item_rest, field_count, item_count}
+use Rattle.esto_docmodel.proofs.EncodeLemmas.{fields_counted, items_counted}
 use Rattle.esto_docmodel.proofs.EncodeLemmas.{value_inside, nothing_inside, fields_inside, items_inside, leaf_next, leaf_rising, row_next, row_rising}
 use Rattle.esto_docmodel.proofs.EncodeLemmas.{field_inside, item_inside}
 use Rattle.esto_docmodel.proofs.GainLemmas.{gains_both, gains_those, leads_start, leads_more, fields_end, items_end, room_stays}

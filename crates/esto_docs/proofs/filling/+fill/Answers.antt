@@ -11,9 +11,12 @@ use Rattle.esto_docmodel.specs.Patterns.{Entries, Matches}
 use Rattle.esto_docmodel.specs.declared.pattern.Entry.{Entry}
 use Rattle.esto_term.specs.declared.term.Term.{Term}
 use Rattle.esto_docs.specs.Filling.{value_node, cells_of, AreReady, Fills, FillsSome, tasks_of, with_path, value_text}
-use Rattle.esto_docs.proofs.FillingLemmas.{weight, end_weight, entry_some, cells_count, fills_items, fills_member, fills_memberless, fills_value, none_below, ready_value, some_starts, value_weight, fills_textless, fills_groupless, fills_group, ready_step, ready_group, some_goes, value_end, group_end, group_weight}
+use Rattle.esto_docs.proofs.FillingLemmas.{weight, end_weight, entry_some, cells_count, fills_items, fills_member, fills_memberless, fills_value, none_below}
+use Rattle.esto_docs.proofs.FillingLemmas.{ready_value, some_starts, value_weight, fills_textless, fills_groupless, fills_group, ready_step, ready_group}
+use Rattle.esto_docs.proofs.FillingLemmas.{some_goes, value_end, group_end, group_weight}
 use Rattle.esto_docs.proofs.HoldingLemmas.{textless, textful}
-use Rattle.esto_docs.proofs.FillingTurns.{all_done, closed_ready, opened_fills, group_lighter, rest_ready, rest_fills, rest_lighter, entry_ready, entry_fills, entry_lighter, items_more}
+use Rattle.esto_docs.proofs.FillingTurns.{all_done, closed_ready, opened_fills, group_lighter, rest_ready, rest_fills, rest_lighter, entry_ready, entry_fills}
+use Rattle.esto_docs.proofs.FillingTurns.{entry_lighter, items_more}
 use Rattle.std.proofs.lemmas.List.{nil_from_length, take_all}
 use Rattle.esto_docs.proofs.filling.+fill.Goals as goal
 

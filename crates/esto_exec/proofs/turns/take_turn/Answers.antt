@@ -35,8 +35,8 @@ returns-clause-under_way g c =
     on_ok_weaker c.follow_on.result
     (λ kept. subst (λ done. IsUnderWay (IsRowOf (λ number. get_or (map g.F.Fragment.rows c.args.fragments.now) number [])) c.args.steps.now.arities.now
     c.args.steps.now.gets.now c.args.steps.now.equations.now c.args.steps.now.head.now done c.follow_on.new.so_far.places c.follow_on.new.so_far.rows.rows)
-    (sym c.follow_on.ensures.done) (under_way_more (IsRowOf (λ number. get_or (map g.F.Fragment.rows c.args.fragments.now) number [])) c.args.steps.now.arities.now
-    c.args.steps.now.gets.now
+    (sym c.follow_on.ensures.done) (under_way_more (IsRowOf (λ number. get_or (map g.F.Fragment.rows c.args.fragments.now) number []))
+    c.args.steps.now.arities.now c.args.steps.now.gets.now
     c.args.steps.now.equations.now c.args.steps.now.head.now c.args.so_far.now.done c.own_get.new.done c.args.so_far.now.places c.own_get.new.places
     c.follow_on.new.so_far.places
     _ c.args.number c.item-get.result.now

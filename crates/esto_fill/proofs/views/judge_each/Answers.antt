@@ -26,7 +26,8 @@ returns-in-Err c =
 pub fragments-preserved : goal.fragments-preserved
 fragments-preserved c =
     holds_more (λ _ (fragment : FragmentDef). HaveTextsOnly (IsAnswer (query_of fragment.view) (database_of c.args.facts.now)))
-    c.items-fragment-items.result.now c.fragments.fragment-index c.fragment-item.result c.fragments-test.true c.fragment-item.is c.fragments.invariant c.in-Ok.ensures
+    c.items-fragment-items.result.now c.fragments.fragment-index c.fragment-item.result c.fragments-test.true c.fragment-item.is
+    c.fragments.invariant c.in-Ok.ensures
 
 pub returns : goal.returns
 returns c =

@@ -12,7 +12,8 @@ turns-preserved c = record {
   counted = added_at_counted c.turns.entries c.args.asked.now c.add_at.new.entries _ c.args.count c.requires.asked
       c.in_ok-add_at.ensures c.turns.invariant.counted;
   grown = λ rules follow. grown_turn rules c.args.count c.args.entries.now c.args.asked.now follow c.args.turns.now c.turns.turn-index _
-      c.turns-test.true (get_or_default c.args.turns.now c.turns.turn-index _ _ c.turns-test.true) c.turns.entries c.add_at.new.entries (c.turns.invariant.grown rules follow) c.in_ok-add_at.ensures;
+      c.turns-test.true (get_or_default c.args.turns.now c.turns.turn-index _ _ c.turns-test.true) c.turns.entries c.add_at.new.entries
+      (c.turns.invariant.grown rules follow) c.in_ok-add_at.ensures;
 }
 
 pub returns-clause-grown : goal.returns-clause-grown

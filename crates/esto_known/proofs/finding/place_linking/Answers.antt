@@ -17,8 +17,8 @@ pub places-preserved : goal.places-preserved
 places-preserved c =
     let some = c.places-test.true in
     let is : c.places.next - 1 + 1 ≡ c.places.next = omega (arith, some) in
-    seek_more c.args.keys.now.by_claim _ (claim_key (Same c.args.term.now c.args.other.now)) _ c.places.next (c.places.next - 1) c.before-next.result c.requires.by_claim
-    c.places.invariant is (λ holds. false≢true (sym c.if-links_at.false ∙ c.links_at.ensures.1 holds)) c.before-next.ensures.value
+    seek_more c.args.keys.now.by_claim _ (claim_key (Same c.args.term.now c.args.other.now)) _ c.places.next (c.places.next - 1) c.before-next.result
+    c.requires.by_claim c.places.invariant is (λ holds. false≢true (sym c.if-links_at.false ∙ c.links_at.ensures.1 holds)) c.before-next.ensures.value
 
 pub returns : goal.returns
 returns c = linking_none c.args.groups.now c.args.keys.now.by_claim c.args.term.now c.args.other.now c.places.next c.places-test.false c.places.invariant

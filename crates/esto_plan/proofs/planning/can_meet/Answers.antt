@@ -3,7 +3,8 @@ use Rattle.std.proofs.lemmas.Bool.{false≢true}
 use Rattle.std.proofs.lemmas.Option.{same_Some, slice_get-get_or, slice_get_within}
 use Rattle.esto_term.proofs.ListLemmas.{holds_all, holds_more}
 use Rattle.esto_steps.specs.Planned.{IsKnown}
-use Rattle.esto_plan.proofs.planning.can_meet.Goals.{else-column-len-via-then-column-len+then-item+else-not-is_known, else-column-len-via-then-column-len+else-item, else-column-len-via-else-column-len}
+use Rattle.esto_plan.proofs.planning.can_meet.Goals.{else-column-len-via-then-column-len+then-item+else-not-is_known}
+use Rattle.esto_plan.proofs.planning.can_meet.Goals.{else-column-len-via-then-column-len+else-item, else-column-len-via-else-column-len}
 use Rattle.esto_plan.proofs.planning.can_meet.Goals as goal
 
 pub columns-init : goal.columns-init

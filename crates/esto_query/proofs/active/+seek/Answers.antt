@@ -4,8 +4,8 @@ use Rattle.std.specs.List.{insert, remove}
 use Rattle.esto_term.proofs.ListLemmas.{Contains-nil}
 use Rattle.esto_query.specs.Active.{rule_of}
 use Rattle.esto_query.specs.Trails.{with_trail}
-use Rattle.esto_query.proofs.ActiveLemmas.{head_less, equality_told, tuple_told, over_at_end, end_decides, denial_decides, same_decides, same_concluded, concluded_next}
-use Rattle.esto_query.proofs.ActiveLemmas.{holds_without, holds_with, active_with, holds_more, holds_all}
+use Rattle.esto_query.proofs.ActiveLemmas.{head_less, equality_told, tuple_told, over_at_end, end_decides, denial_decides, same_decides, same_concluded}
+use Rattle.esto_query.proofs.ActiveLemmas.{concluded_next, holds_without, holds_with, active_with, holds_more, holds_all}
 use Rattle.esto_query.proofs.IndexLemmas.{place_at, place_read}
 use Rattle.esto_query.proofs.LeastLemmas.{flat_first, flat_rest}
 use Rattle.esto_query.proofs.OrderLemmas.{taken_same, taken_shorter, put_back, same_flat}

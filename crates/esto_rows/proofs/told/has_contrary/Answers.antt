@@ -20,12 +20,14 @@ pub read_row-requires : goal.read_row-requires
 read_row-requires c =
     let some = c.places-test.true in
     below_all c.args.rows.now.rows c.args.at (c.places.next - 1)
-    (walk_there (take c.args.at c.args.rows.now.rows) c.args.row.now (length c.args.index.now.last) c.places.next (c.places.next - 1) (omega (arith, some)) c.places.invariant)
+    (walk_there (take c.args.at c.args.rows.now.rows) c.args.row.now (length c.args.index.now.last) c.places.next (c.places.next - 1)
+    (omega (arith, some)) c.places.invariant)
 
 pub returns-then-is_same : goal.returns-then-is_same
 returns-then-is_same c =
     let some = c.places-test.true in
-    let within = walk_there (take c.args.at c.args.rows.now.rows) c.args.row.now (length c.args.index.now.last) c.places.next (c.places.next - 1) (omega (arith, some)) c.places.invariant in
+    let within = walk_there (take c.args.at c.args.rows.now.rows) c.args.row.now (length c.args.index.now.last) c.places.next (c.places.next - 1)
+    (omega (arith, some)) c.places.invariant in
     let there = taken_same c.args.rows.now.rows c.args.at (c.places.next - 1) c.read_row.new.codes within c.in_ok-read_row.ensures in
     is_not (λ found. c.requires.told c.args.row.now
     (subst (Contains (take c.args.at c.args.rows.now.rows)) (sym (c.is_same.ensures.0 c.if-is_same.true ∙ c.items.ensures))
@@ -34,7 +36,8 @@ returns-then-is_same c =
 pub returns-then-is_contrary : goal.returns-then-is_contrary
 returns-then-is_contrary c =
     let some = c.places-test.true in
-    let within = walk_there (take c.args.at c.args.rows.now.rows) c.args.row.now (length c.args.index.now.last) c.places.next (c.places.next - 1) (omega (arith, some)) c.places.invariant in
+    let within = walk_there (take c.args.at c.args.rows.now.rows) c.args.row.now (length c.args.index.now.last) c.places.next (c.places.next - 1)
+    (omega (arith, some)) c.places.invariant in
     let there = taken_same c.args.rows.now.rows c.args.at (c.places.next - 1) c.read_row.new.codes within c.in_ok-read_row.ensures in
     is_so (
       c.read_row.new.codes,
@@ -50,11 +53,12 @@ places-preserved c =
     let bucket = bucket_of count (drop 1 c.args.row.now) in
     let leads = c.requires.own.before (c.places.next - 1) bucket (c.places.invariant.own (c.places.next - 1) is) in
     walk_on (take c.args.at c.args.rows.now.rows) c.args.row.now count c.places.next (c.places.next - 1) c.before-next.result c.read_row.new.codes is
-    (subst (LeadsOn (map (bucket_of count) (map (drop 1) (take c.args.at c.args.rows.now.rows))) bucket (c.places.next - 1)) (sym (c.before-next.ensures.value leads.within)) leads)
-    (taken_same c.args.rows.now.rows c.args.at (c.places.next - 1) c.read_row.new.codes
+    (subst (LeadsOn (map (bucket_of count) (map (drop 1) (take c.args.at c.args.rows.now.rows))) bucket (c.places.next - 1))
+    (sym (c.before-next.ensures.value leads.within)) leads) (taken_same c.args.rows.now.rows c.args.at (c.places.next - 1) c.read_row.new.codes
     (walk_there (take c.args.at c.args.rows.now.rows) c.args.row.now count c.places.next (c.places.next - 1) is c.places.invariant) c.in_ok-read_row.ensures)
     (λ contrary. false≢true (sym c.if-is_contrary.false ∙ c.is_contrary.ensures.1 (subst (IsContrary c.args.row.now) (sym c.items-in-places.ensures) contrary)))
     c.places.invariant
 
 pub returns : goal.returns
-returns c = is_not (walk_end (take c.args.at c.args.rows.now.rows) c.args.row.now (length c.args.index.now.last) c.places.next c.places-test.false c.places.invariant)
+returns c = is_not (walk_end (take c.args.at c.args.rows.now.rows) c.args.row.now (length c.args.index.now.last) c.places.next
+    c.places-test.false c.places.invariant)

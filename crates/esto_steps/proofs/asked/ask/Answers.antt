@@ -22,7 +22,8 @@ pub returns-then-not-branch-clause-complete : goal.returns-then-not-branch-claus
 returns-then-not-branch-clause-complete g c = λ answered row among follows.
     absurd (names_false (get_or c.args.so_far.now.rows c.args.at []) c.args.sources.now c.name_codes.new.codes c.in_ok-name_codes.field-0
     c.in_ok-name_codes.ensures c.if-not-branch.true
-    (named_by c.args.get.now (g.F.Fragment.rows c.args.fragment.now) (get_or c.args.so_far.now.rows c.args.at []) c.args.sources.now c.requires.sources row follows))
+    (named_by c.args.get.now (g.F.Fragment.rows c.args.fragment.now) (get_or c.args.so_far.now.rows c.args.at []) c.args.sources.now
+    c.requires.sources row follows))
 
 pub returns-then-has-clause-kept : goal.returns-then-has-clause-kept
 returns-then-has-clause-kept g c = λ row has. has
@@ -35,8 +36,8 @@ returns-then-has-clause-answered g c = λ answered. answered
 
 pub returns-then-has-clause-complete : goal.returns-then-has-clause-complete
 returns-then-has-clause-complete g c =
-    seen_complete c.args.get.now (g.F.Fragment.rows c.args.fragment.now) (get_or c.args.so_far.now.rows c.args.at []) c.args.sources.now c.requires.sources c.items.result.now
-    (subst (NamesCodes (get_or c.args.so_far.now.rows c.args.at []) c.args.sources.now) (sym c.items.ensures)
+    seen_complete c.args.get.now (g.F.Fragment.rows c.args.fragment.now) (get_or c.args.so_far.now.rows c.args.at []) c.args.sources.now c.requires.sources
+    c.items.result.now (subst (NamesCodes (get_or c.args.so_far.now.rows c.args.at []) c.args.sources.now) (sym c.items.ensures)
     (names_true (get_or c.args.so_far.now.rows c.args.at []) c.args.sources.now c.name_codes.new.codes c.in_ok-name_codes.field-0
     c.in_ok-name_codes.ensures c.if-not-branch.false))
     c.args.seen.now.rows c.args.asked.now.rows (c.has.ensures c.if-has.true)

@@ -11,5 +11,5 @@ push_by_index-requires-clause-arity c = ap (λ (it : CodedRows). it.arity) c.in_
 
 pub returns : goal.returns
 returns c = λ row. subst
-    (λ (it : CodedRows). Contains it.rows row ↔ IsKept c.args.join.now.kept.now (IsJoin c.args.join.now.get.now c.args.so_far.now.rows c.args.rows.now.rows) row)
-    (sym c.into_rows.ensures) (c.in_ok-push_by_index.ensures row)
+    (λ (it : CodedRows). Contains it.rows row ↔ IsKept c.args.join.now.kept.now (IsJoin c.args.join.now.get.now c.args.so_far.now.rows c.args.rows.now.rows)
+    row) (sym c.into_rows.ensures) (c.in_ok-push_by_index.ensures row)

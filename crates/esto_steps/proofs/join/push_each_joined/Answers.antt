@@ -5,7 +5,8 @@ use Rattle.esto_steps.proofs.JoinLemmas.{joins_none, joins_more, joins_all}
 use Rattle.esto_steps.proofs.join.push_each_joined.Goals as goal
 
 pub rows-init : goal.rows-init
-rows-init c = (joins_none c.args.join.now.get.now c.args.join.now.kept.now c.args.so_far.now.rows c.args.rows.now.rows c.args.into.now.rows c.requires.none, refl)
+rows-init c = (joins_none c.args.join.now.get.now c.args.join.now.kept.now c.args.so_far.now.rows c.args.rows.now.rows c.args.into.now.rows c.requires.none,
+    refl)
 
 pub push_joined-requires-clause-there : goal.push_joined-requires-clause-there
 push_joined-requires-clause-there c = subst (λ it. c.rows.at < it) c.len-at-end.ensures c.rows-test.true
@@ -20,8 +21,8 @@ pub rows-preserved : goal.rows-preserved
 rows-preserved c =
     let below = subst (λ it. c.rows.at < it) c.len-at-end.ensures c.rows-test.true in
     let cells = thing_at c.args.so_far.now.rows c.rows.at below in (
-      joins_more c.args.join.now.get.now c.args.join.now.kept.now c.args.rows.now.rows c.rows.into.rows c.push_joined.new.into.rows c.args.so_far.now.rows c.rows.at
-          cells.0 below (sym (get_or_from_slice_get c.args.so_far.now.rows c.rows.at cells.0 cells.0 cells.1)) c.rows.invariant.0
+      joins_more c.args.join.now.get.now c.args.join.now.kept.now c.args.rows.now.rows c.rows.into.rows c.push_joined.new.into.rows c.args.so_far.now.rows
+          c.rows.at cells.0 below (sym (get_or_from_slice_get c.args.so_far.now.rows c.rows.at cells.0 cells.0 cells.1)) c.rows.invariant.0
           (c.in_ok-push_joined.ensures.rows cells.0 cells.1),
       c.in_ok-push_joined.ensures.arity ∙ c.rows.invariant.1,
     )

@@ -7,8 +7,8 @@ use Rattle.esto_steps.proofs.join.push_followers.Goals as goal
 pub places-init : goal.places-init
 places-init c = (
   (λ buckets are. let bucket = bucket_of (length c.args.index.now.last) c.args.buffers.now.key in
-      walk_start (λ place. IsKept c.args.join.now.kept.now (IsFollowerAt c.args.join.now.get.now c.args.buffers.now.cells c.args.rows.now.rows place)) buckets bucket
-      c.args.into.now.rows c.last_of-next.result
+      walk_start (λ place. IsKept c.args.join.now.kept.now (IsFollowerAt c.args.join.now.get.now c.args.buffers.now.cells c.args.rows.now.rows place)) buckets
+      bucket c.args.into.now.rows c.last_of-next.result
       (subst (LeadsOn buckets bucket (length buckets))
       (sym (c.last_of-next.ensures ∙ ap (λ key. get_or c.args.index.now.last (bucket_of (length c.args.index.now.last) key) 0) c.items.ensures))
       (are.last bucket))),
@@ -26,8 +26,8 @@ places-preserved c = (
       let some = c.places-test.true in
       let is : c.places.next - 1 + 1 ≡ c.places.next = omega (arith, some) in
       let leads = are.before (c.places.next - 1) bucket (walked.own (c.places.next - 1) is) in
-      walk_on (λ place. IsKept c.args.join.now.kept.now (IsFollowerAt c.args.join.now.get.now c.args.buffers.now.cells c.args.rows.now.rows place)) buckets bucket
-      c.args.into.now.rows c.places.next (c.places.next - 1)
+      walk_on (λ place. IsKept c.args.join.now.kept.now (IsFollowerAt c.args.join.now.get.now c.args.buffers.now.cells c.args.rows.now.rows place)) buckets
+      bucket c.args.into.now.rows c.places.next (c.places.next - 1)
       c.before-next.result c.places.into.rows c.push_follower.new.into.rows is
       (subst (LeadsOn buckets bucket (c.places.next - 1)) (sym (c.before-next.ensures.value leads.within)) leads) walked
       (subst (λ cells. GainsOnly c.places.into.rows c.push_follower.new.into.rows (IsKept c.args.join.now.kept.now

@@ -21,8 +21,8 @@ returns-clause-rows c = on_ok_weaker c.push_followers.result
     (λ gains cells at. subst (λ it. GainsOnly c.args.into.now.rows c.push_followers.new.into.rows
     (IsKept c.args.join.now.kept.now (IsFollower c.args.join.now.get.now it c.args.rows.now.rows)))
     (same_Some c.read_row.new.codes cells (sym c.in_ok-read_row.ensures ∙ at))
-    (followers_found c.args.join.now.get.now c.args.join.now.kept.now c.read_row.new.codes c.args.rows.now.rows c.args.into.now.rows c.push_followers.new.into.rows
-    c.args.sources.now c.requires.found.0 c.args.index.now c.name_codes.new.codes
+    (followers_found c.args.join.now.get.now c.args.join.now.kept.now c.read_row.new.codes c.args.rows.now.rows c.args.into.now.rows
+    c.push_followers.new.into.rows c.args.sources.now c.requires.found.0 c.args.index.now c.name_codes.new.codes
     (subst (λ it. NamesCodes it c.args.sources.now c.name_codes.new.codes)
     (get_or_from_slice_get c.args.so_far.now.rows c.args.at c.read_row.new.codes [] c.in_ok-read_row.ensures)
     (names_true (get_or c.args.so_far.now.rows c.args.at []) c.args.sources.now c.name_codes.new.codes c.in_ok-name_codes.field-0

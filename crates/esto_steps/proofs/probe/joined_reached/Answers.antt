@@ -12,8 +12,8 @@ push_all_reached-requires-clause-arity c = ap (λ (it : CodedRows). it.arity) c.
 
 pub returns : goal.returns
 returns c = come_through c.in_ok-through.through c.into_rows.result c.then_some.result
-    (λ it. (row : List ℕ) → Contains it.rows row ↔ IsKept c.args.join.now.kept.now (IsJoin c.args.join.now.get.now c.args.so_far.now.rows c.args.rows.now.rows) row)
-    c.then_some.ensures
+    (λ it. (row : List ℕ) → Contains it.rows row ↔ IsKept c.args.join.now.kept.now (IsJoin c.args.join.now.get.now c.args.so_far.now.rows
+    c.args.rows.now.rows) row) c.then_some.ensures
     (λ all row. subst
-    (λ (it : CodedRows). Contains it.rows row ↔ IsKept c.args.join.now.kept.now (IsJoin c.args.join.now.get.now c.args.so_far.now.rows c.args.rows.now.rows) row)
-    (sym c.into_rows.ensures) (c.in_ok-through.ensures all row))
+    (λ (it : CodedRows). Contains it.rows row ↔ IsKept c.args.join.now.kept.now (IsJoin c.args.join.now.get.now c.args.so_far.now.rows c.args.rows.now.rows)
+    row) (sym c.into_rows.ensures) (c.in_ok-through.ensures all row))

@@ -8,7 +8,8 @@ use Rattle.esto_steps.proofs.probe.push_at_places.Goals as goal
 pub places-init : goal.places-init
 places-init c = (
   gains_start c.args.places.now
-      (λ place. IsKept c.args.join.now.kept.now (IsFollowerAt c.args.join.now.get.now c.args.buffers.now.cells c.args.rows.now.rows place)) c.args.into.now.rows,
+      (λ place. IsKept c.args.join.now.kept.now (IsFollowerAt c.args.join.now.get.now c.args.buffers.now.cells c.args.rows.now.rows place))
+      c.args.into.now.rows,
   refl,
   refl,
 )
@@ -18,7 +19,8 @@ push_follower-requires c = c.places.invariant.1 ∙ c.requires
 
 pub places-preserved : goal.places-preserved
 places-preserved c = (
-  gains_more (λ place. IsKept c.args.join.now.kept.now (IsFollowerAt c.args.join.now.get.now c.args.buffers.now.cells c.args.rows.now.rows place)) c.args.places.now
+  gains_more (λ place. IsKept c.args.join.now.kept.now (IsFollowerAt c.args.join.now.get.now c.args.buffers.now.cells c.args.rows.now.rows place))
+      c.args.places.now
       c.args.into.now.rows c.places.into.rows c.push_follower.new.into.rows c.places.place-index (get_or c.args.places.now c.places.place-index 0)
       c.places-test.true (get_or_default c.args.places.now c.places.place-index 0 (get_or c.args.places.now c.places.place-index 0) c.places-test.true)
       c.places.invariant.0

@@ -6,8 +6,8 @@ use Rattle.esto_stores.proofs.CodedLemmas.{HasRows}
 use Rattle.esto_stores.proofs.coded_table.add_records.Given as goal
 
 abbrev pub invariant-records : goal.invariant-records
-invariant-records l = Reads l.reader × HasRows kinds.Length l.header.width (cells_at l.header.places) (left_of l.fn.reader) (left_of l.reader) l.fn.codes l.codes
-    (length l.header.places) l.coded
+invariant-records l = Reads l.reader × HasRows kinds.Length l.header.width (cells_at l.header.places) (left_of l.fn.reader) (left_of l.reader) l.fn.codes
+    l.codes (length l.header.places) l.coded
 
 abbrev pub decreases-records : goal.decreases-records
 decreases-records l = length (left_of l.reader)

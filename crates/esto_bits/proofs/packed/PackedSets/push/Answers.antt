@@ -5,7 +5,8 @@ use Rattle.esto_bits.proofs.packed.PackedSets.push.Goals as goal
 
 pub note_page-requires-clause-within : goal.note_page-requires-clause-within
 note_page-requires-clause-within c =
-    let few = pages_within c.self.inside.words.items _ c.self.inside.many _ (width_some c.self.inside.count) c.self.invariant.packed.whole c.self.invariant.noted in
+    let few = pages_within c.self.inside.words.items _ c.self.inside.many _ (width_some c.self.inside.count)
+    c.self.invariant.packed.whole c.self.invariant.noted in
     omega (arith, few)
 
 pub note_page-requires-clause-pages : goal.note_page-requires-clause-pages

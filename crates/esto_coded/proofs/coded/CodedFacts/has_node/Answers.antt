@@ -6,7 +6,8 @@ use Rattle.esto_coded.proofs.coded.CodedFacts.has_node.Goals as goal
 pub returns-then-relation-len : goal.returns-then-relation-len
 returns-then-relation-len c = none_in (rows_in c.args.self.now.relations c.args.relation) c.args.column
     (ap (λ (it : Coded). rows_in it.relations c.args.relation) (sym c.self.view_is)
-    ∙ held_past c.self.inside.relations.items c.args.relation (subst (λ count. count ≤ c.args.relation) (c.len.ensures ∙ c.self.inside.relations.ok.0) c.if-relation-len.true))
+    ∙ held_past c.self.inside.relations.items c.args.relation (subst (λ count. count ≤ c.args.relation)
+    (c.len.ensures ∙ c.self.inside.relations.ok.0) c.if-relation-len.true))
 
 pub returns : goal.returns
 returns c = subst (λ (rows : List (List ℕ)). IsTrue c.node_at.result ↔ NodeIn rows c.args.column)

@@ -15,6 +15,6 @@ returns-in-None c = none_tells c.args.self.now c.self.inside.groups (Same c.args
     (λ group inside alike. c.in-None.ensures group inside (same_says c.args.term.now c.args.other.now group.claim alike))
 
 pub returns-in-Some : goal.returns-in-Some
-returns-in-Some c = group_tells c.args.self.now c.self.inside.groups (Same c.args.term.now c.args.other.now) c.in-Some.group.now c.args.product.now c.covered.result
-    (subst (λ them. AreGroups them c.self.inside.groups) c.self.view_is c.self.invariant) c.in-Some.ensures.0
+returns-in-Some c = group_tells c.args.self.now c.self.inside.groups (Same c.args.term.now c.args.other.now) c.in-Some.group.now c.args.product.now
+    c.covered.result (subst (λ them. AreGroups them c.self.inside.groups) c.self.view_is c.self.invariant) c.in-Some.ensures.0
     (says_same c.args.term.now c.args.other.now c.in-Some.group.now.claim c.in-Some.ensures.1) c.covered.ensures

@@ -43,7 +43,8 @@ returns-clause-ok c =
     }
 
 pub returns-in_err-coded-clause-fault : goal.returns-in_err-coded-clause-fault
-returns-in_err-coded-clause-fault c = fault_handed (IsRowIn c.args.shape.now c.args.bytes.now) _ (length c.args.fragment.now.view.head) c.code_store.new.codes _ c.from_residual.result c.from_residual.ensures.1 c.in_err-coded.ensures.rows
+returns-in_err-coded-clause-fault c = fault_handed (IsRowIn c.args.shape.now c.args.bytes.now) _ (length c.args.fragment.now.view.head) c.code_store.new.codes _
+    c.from_residual.result c.from_residual.ensures.1 c.in_err-coded.ensures.rows
 
 pub returns-clause-fault : goal.returns-clause-fault
 returns-clause-fault c = (c.in_ok-coded.ensures.rows.0, refl)
