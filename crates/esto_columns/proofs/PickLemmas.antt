@@ -1,8 +1,9 @@
 -- Places that are picked, part by part.
 use Rattle.std.proofs.Common.{◌≡◌, ℕ, suc, ◌+◌, ◌-◌, ◌<◌, ◌≤◌, Bool, true, false, cond, eqb, List, [], ◌∷◌, ◌++◌, length, get_or, take, drop, refl, sym, ap}
-use Rattle.std.proofs.Common.{◌∙◌, arith, slice_range, not, map, take-add}
-use Rattle.std.proofs.lemmas.List.{append_assoc, append-nil, take_more, take_all, get_or-drop, length-take, length-drop}
-use Rattle.std.proofs.lemmas.Bool.Decides.{Decides-eqb}
+use Rattle.std.proofs.Common.{◌∙◌, arith, slice_range, not, map, take-add, inl, inr}
+use Rattle.std.proofs.lemmas.List.{append_assoc, append-nil, take_more, take_all, get_or-drop, length-take, length-drop, get_or-take}
+use Rattle.std.proofs.lemmas.List.{take-append-le, drop-append-le}
+use Rattle.std.proofs.lemmas.Bool.Decides.{eqb_tells, Decides-eqb}
 use Rattle.std.proofs.lemmas.Simd.{length-chunk, get_or-chunk, none_from_empty_mask}
 use lib.Lanes.{mask_l, chunk}
 use Rattle.esto_columns.specs.Picked.{places_of}
@@ -77,6 +78,32 @@ among_none codes at code mask room is missed =
     ∙ none_placed at code (chunk at 8 codes) (λ k below. ap (λ it. eqb it code) (get_or-chunk at 8 codes k 0 (omega (arith, below, long)))
     ∙ none_from_empty_mask (λ x. eqb x code) codes at 8 0 room empty (at + k) (omega arith) (omega (arith, below, long)))
 
+-- a code that is larger than all codes stands in no part of them
+pub too_large : (codes : List ℕ) (from to code : ℕ) → ((place : ℕ) → get_or codes place 0 < 4294967296) → 4294967295 < code
+    → places_of from code (slice_range codes from to) ≡ []
+too_large codes from to code fits large = none_placed from code (slice_range codes from to) missed
+  where
+    missed : (k : ℕ) → k < length (slice_range codes from to) → eqb (get_or (slice_range codes from to) k 0) code ≡ false
+    missed k below =
+        let cut = length-take (to - from) (drop from codes) in
+        let held : get_or (slice_range codes from to) k 0 ≡ get_or codes (from + k) 0 =
+        get_or-take (to - from) (drop from codes) k 0 (omega (arith, below, cut)) ∙ get_or-drop from codes k 0 in
+        let small = fits (from + k) in
+        elim (eqb_tells (get_or codes (from + k) 0) code) [
+          | inl same ↦ absurd (let is = same.1 in omega (arith, is, small, large))
+          | inr apart ↦ ap (λ it. eqb it code) held ∙ apart.0
+        ]
+
+-- where the codes that a column begins with have no place of the code in a part, the column has none there
+pub begun_none : (codes column rest : List ℕ) (at end code : ℕ) → end ≡ at + 8 → at + 8 ≤ length codes → column ≡ codes ++ rest
+    → places_of at code (slice_range codes at (at + 8)) ≡ [] → places_of at code (slice_range column at end) ≡ []
+begun_none codes column rest at end code is inside begins none =
+    let long = length-drop at codes in
+    ap (λ n. places_of at code (slice_range column at n)) is ∙ ap (λ them. places_of at code (slice_range them at (at + 8))) begins
+    ∙ ap (λ them. places_of at code (take ((at + 8) - at) them)) (drop-append-le at codes rest (omega (arith, inside)))
+    ∙ ap (places_of at code) (take-append-le ((at + 8) - at) (drop at codes) rest (omega (arith, long, inside)))
+    ∙ none
+
 -- ---- turns
 
 pub push_place : (codes : List ℕ) (old now new : List ℕ) (from at code : ℕ) → from ≤ at → at < length codes
@@ -104,9 +131,8 @@ part_joined codes old now new at to code order below so_far is =
     ∙ append_assoc old (places_of 0 code (take at codes)) (places_of at code (slice_range codes at to))
     ∙ ap (λ them. old ++ them) (sym (placed_part codes at to code order below))
 
-pub all_joined : (codes column old now new : List ℕ) (at code : ℕ) → at ≤ length codes → codes ≡ column → now ≡ old ++ places_of 0 code (take at codes)
-    → new ≡ now ++ places_of at code (slice_range codes at (length codes))
-    → new ≡ old ++ places_of 0 code column
-all_joined codes column old now new at code inside same so_far is =
-    part_joined codes old now new at (length codes) code inside (omega arith) so_far is
-    ∙ ap (λ them. old ++ places_of 0 code them) (take_all (length codes) codes (omega arith) ∙ same)
+pub all_joined : (codes old now new : List ℕ) (at count code : ℕ) → at ≤ count → count ≡ length codes → now ≡ old ++ places_of 0 code (take at codes)
+    → new ≡ now ++ places_of at code (slice_range codes at count) → new ≡ old ++ places_of 0 code codes
+all_joined codes old now new at count code inside long so_far is =
+    part_joined codes old now new at count code inside (omega (arith, long)) so_far is
+    ∙ ap (λ them. old ++ places_of 0 code them) (take_all count codes (omega (arith, long)))

@@ -12,11 +12,12 @@ const FACTOR: u64 = 0x9E37_79B9_7F4A_7C15;
 
 /// An index of a list of keys, which are rows of codes: one key for each place, counted from 0. The places of each
 /// bucket of keys are a chain, from the last one to the first. A place stands here as one more than it is, and 0 ends a
-/// chain. `last` has for each bucket its last place, and `before` for each place the one before it.
+/// chain. `last` has for each bucket its last place, and `before` for each place the one before it. So an index has
+/// places for 4,294,967,295 keys at most: so many take tens of gigabytes.
 #[derive(Drop)]
 pub struct Index {
-    last: Places,
-    before: Places,
+    last: Values<u32>,
+    before: Values<u32>,
 }
 
 impl Model for Index {
@@ -58,7 +59,7 @@ fn bucket_of(key: &[u64], count: usize) -> usize
 }
 
 /// What stands at the place, or 0 past the end.
-fn item_at(places: &Places, at: usize) -> usize
+fn item_at(places: &Values<u32>, at: usize) -> u32
     ensures { result ≡ slice_index_or places.now at 0 }
 {
     match places.items().get(at) {
@@ -68,7 +69,7 @@ fn item_at(places: &Places, at: usize) -> usize
 }
 
 /// So many zeros.
-fn zeros(alloc: Global, count: usize) -> Result<Places, OutOfMemory>
+fn zeros(alloc: Global, count: usize) -> Result<Values<u32>, OutOfMemory>
     ensures long { IfOk result (λ it. length it ≡ count) }
     ensures zero { IfOk result (λ it. (at : ℕ) → slice_index_or it at 0 ≡ 0) }
 {
@@ -80,16 +81,16 @@ fn zeros(alloc: Global, count: usize) -> Result<Places, OutOfMemory>
 }
 
 /// One more than the place before this one on its chain, or 0.
-fn place_before(before: &Places, place: usize) -> usize
+fn place_before(before: &Values<u32>, place: usize) -> usize
     ensures within { result ≤ place }
     ensures value { slice_index_or before.now place 0 ≤ place
         → result ≡ slice_index_or before.now place 0 }
 {
-    item_at(before, place).min(place)
+    (item_at(before, place) as usize).min(place)
 }
 
-/// Puts the next place on the chain of the bucket.
-fn put(last: &mut Places, before: &mut Places, bucket: usize) -> Result<(), OutOfMemory>
+/// Puts the next place on the chain of the bucket, as far as it can be counted.
+fn put(last: &mut Values<u32>, before: &mut Values<u32>, bucket: usize) -> Result<(), OutOfMemory>
     requires { bucket < length last.old }
     ensures long { length last.new ≡ length last.old }
     ensures ok { OnOk result (record { last = last.new; before = before.new }
@@ -98,16 +99,16 @@ fn put(last: &mut Places, before: &mut Places, bucket: usize) -> Result<(), OutO
     ensures before { OnErr result (before.new ≡ before.old) }
 {
     let count = before.len();
-    if count == usize::MAX {
+    if count >= u32::MAX as usize {
         return Err(OutOfMemory);
     }
     before.push(item_at(last, bucket))?;
-    last.set(bucket, count + 1);
+    last.set(bucket, (count + 1) as u32);
     Ok(())
 }
 
 /// The places of a chain, from the last one, to which one leads that is one more, to the first.
-fn chain_of(alloc: Global, before: &Places, last: usize) -> Result<Vec<usize>, OutOfMemory>
+fn chain_of(alloc: Global, before: &Values<u32>, last: usize) -> Result<Vec<usize>, OutOfMemory>
     ensures { IfOk result (λ it. (buckets : List ℕ) (bucket : ℕ)
         → LeadBefore before.now buckets → LeadsOn buckets bucket (length buckets) last
         → reverse it.items ≡ places_of 0 bucket buckets) }
@@ -152,7 +153,7 @@ impl Index {
             (bucket_of (length self.now.last) key.now) 0 }
     {
         let bucket = bucket_of(key, self.last.len());
-        item_at(&self.last, bucket)
+        item_at(&self.last, bucket) as usize
     }
 
     /// One more than the place before this one in its bucket, or 0.

@@ -4,6 +4,7 @@
 
 mod codes;
 mod coding;
+mod column;
 mod finding;
 mod fragment;
 mod index;
@@ -17,6 +18,7 @@ mod text_key;
 
 pub use codes::Codes;
 pub use coding::{code_rows, code_taken_rows};
+pub use column::Column;
 pub use fragment::{Fragment, Input, Inputs, Ways};
 pub use index::Index;
 pub use laws::{coded_rows_stay_coded, rising_rows_are_one};
@@ -24,4 +26,3 @@ pub use picks::{Picks, select};
 pub use rows::Rows;
 pub use sorted::{sorted_rows, sorted_texts};
 pub use stored::StoredRows;
-pub use table::Column;

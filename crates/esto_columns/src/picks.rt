@@ -2,7 +2,7 @@
 ghost use Rattle.std.specs.Prelude.{◌≡◌, ◌+◌, ◌≤◌, ◌<◌, [], ◌++◌, length, slice_get, Some, OnOk, OnErr, false, slice_range, vec_len, vec_capacity};
 ghost use Rattle.esto_columns.specs.Picked.{PickList, places_of};
 
-use crate::table::Column;
+use crate::column::Column;
 use esto_term::OutOfMemory;
 use std::alloc::Global;
 use std::marker::Model;
@@ -31,44 +31,60 @@ impl Model for Picks {
 const LANES: usize = 8;
 
 /// Whether the code stands among the lanes from a place on.
-fn is_among(codes: &[u64], at: usize, code: u64) -> bool
+fn is_among(codes: &[u32], at: usize, code: u64) -> bool
     requires { at + 8 ≤ length codes.now }
     ensures { result ≡ false → places_of at code (slice_range codes.now at (at + 8)) ≡ [] }
 {
-    let lanes = u64x8::from_slice(&codes[at..]);
-    lanes.simd_eq(u64x8::splat(code)).to_bitmask() != 0
+    if code > u32::MAX as u64 {
+        return false;
+    }
+    let lanes = u32x8::from_slice(&codes[at..]);
+    lanes.simd_eq(u32x8::splat(code as u32)).to_bitmask() != 0
 }
 
-/// Puts the places of the code in a part of the codes at the end, where there is room.
-fn push_places(codes: &[u64], from: usize, to: usize, code: u64, places: &mut Vec<usize>)
+/// Whether the code may stand in the block from a place to another. It is looked for where all codes there are narrow.
+fn may_stand(column: &Column, at: usize, end: usize, code: u64) -> bool
+    requires { end ≡ at + 8 }
+    ensures { result ≡ false → places_of at code (slice_range column.now at end) ≡ [] }
+{
+    let codes = column.narrow();
+    if codes.len() < end {
+        return true;
+    }
+    is_among(codes, at, code)
+}
+
+/// Puts the places of the code in a part of the column at the end, where there is room.
+fn push_places(column: &Column, from: usize, to: usize, code: u64, places: &mut Vec<usize>)
     requires order { from ≤ to }
-    requires inside { to ≤ length codes.now }
+    requires inside { to ≤ length column.now }
     requires room { vec_len places.old + to ≤ vec_capacity places.old + from }
     ensures items { places.new.items
-        ≡ places.old.items ++ places_of from code (slice_range codes.now from to) }
+        ≡ places.old.items ++ places_of from code (slice_range column.now from to) }
     ensures len { vec_len places.new + from ≤ vec_len places.old + to }
     ensures capacity { vec_capacity places.new ≡ vec_capacity places.old }
 {
     'places: for at in from..to {
-        if codes[at] == code {
+        if column.item(at) == code {
             places.push_reserved(at);
         }
     }
 }
 
-/// Puts the places of the code among the lanes from a place on at the end, where there is room.
-fn push_block(codes: &[u64], at: usize, code: u64, places: &mut Vec<usize>)
-    requires inside { at + 8 ≤ length codes.now }
+/// Puts the places of the code in the block from a place to another at the end, where there is room.
+fn push_block(column: &Column, at: usize, end: usize, code: u64, places: &mut Vec<usize>)
+    requires block { end ≡ at + 8 }
+    requires inside { end ≤ length column.now }
     requires room { vec_len places.old + 8 ≤ vec_capacity places.old }
     ensures items { places.new.items
-        ≡ places.old.items ++ places_of at code (slice_range codes.now at (at + 8)) }
+        ≡ places.old.items ++ places_of at code (slice_range column.now at end) }
     ensures len { vec_len places.new ≤ vec_len places.old + 8 }
     ensures capacity { vec_capacity places.new ≡ vec_capacity places.old }
 {
-    if !is_among(codes, at, code) {
+    if !may_stand(column, at, end, code) {
         return;
     }
-    push_places(codes, at, at + LANES, code, places)
+    push_places(column, at, end, code, places)
 }
 
 /// Puts the places at which the column holds the code at the end, in rising order. It takes no memory.
@@ -78,13 +94,14 @@ pub fn select(column: &Column, code: u64, into: &mut Picks)
     ensures spare { length into.new.items + into.new.spare
         ≡ length into.old.items + into.old.spare }
 {
-    let codes = column.items();
+    let count = column.len();
     let mut at = 0;
-    'blocks: while codes.len() - at >= LANES {
-        push_block(codes, at, code, &mut into.places);
-        at += LANES;
+    'blocks: while count - at >= LANES {
+        let end = at + LANES;
+        push_block(column, at, end, code, &mut into.places);
+        at = end;
     }
-    push_places(codes, at, codes.len(), code, &mut into.places);
+    push_places(column, at, count, code, &mut into.places);
 }
 
 impl Picks {

@@ -4,8 +4,9 @@ ghost use Rattle.esto_columns.specs.CodedRows.{CodedRows};
 ghost use Rattle.esto_columns.specs.Columns.{HaveLength};
 ghost use Rattle.esto_columns.specs.Indexed.{IsIndexOf, AreAmongPlaces, key_at};
 
+use crate::column::Column;
 use crate::index::{Index, RowIndex};
-use crate::table::{Column, Table};
+use crate::table::Table;
 use esto_term::{List, OutOfMemory, Places, Values};
 use std::alloc::Global;
 use std::marker::Model;

@@ -3,12 +3,10 @@ ghost use Rattle.std.specs.Prelude.{◌≡◌, ℕ, List, [], ◌∷◌, ◌++�
 ghost use Rattle.esto_columns.specs.CodedRows.{CodedRows};
 ghost use Rattle.esto_columns.specs.Columns.{pushed, HaveLength};
 
+use crate::column::Column;
 use esto_term::{OutOfMemory, Replicate, Values};
 use std::alloc::Global;
 use std::marker::Model;
-
-/// A column: a code for each row.
-pub type Column = Values<u64>;
 
 /// Rows of codes, kept by columns, which contracts see as their arity and their list.
 #[derive(Drop)]
@@ -78,7 +76,7 @@ impl Table {
     {
         let mut columns = Vec::new(alloc);
         'columns: for _column in 0..arity {
-            let column = Values::with_room(alloc, room)?;
+            let column = Column::with_room(alloc, room)?;
             let Ok(()) = columns.push(column) else {
                 return Err(OutOfMemory);
             };

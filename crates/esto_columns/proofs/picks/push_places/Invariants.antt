@@ -4,5 +4,5 @@ use Rattle.esto_columns.proofs.picks.push_places.Given as goal
 
 abbrev pub invariant-places : goal.invariant-places
 invariant-places l =
-    (l.places.items ≡ l.initial.places.items ++ places_of l.from l.code (slice_range l.codes l.from l.at))
+    (l.places.items ≡ l.initial.places.items ++ places_of l.from l.code (slice_range l.column l.from l.at))
     × (vec_len l.places + l.from ≤ vec_len l.initial.places + l.at) × (vec_capacity l.places ≡ vec_capacity l.initial.places)

@@ -1,0 +1,104 @@
+//! Columns of codes.
+ghost use Rattle.std.specs.Prelude.{◌≡◌, ℕ, List, [], ◌∷◌, ◌++◌, ◌<◌, length, take, slice_get, Some, IfOk, OnOk, OnErr};
+
+use esto_term::{OutOfMemory, Replicate, Values};
+use std::alloc::Global;
+use std::marker::Model;
+
+/// A column: a code for each row, which contracts see as the list of its codes. Codes take four bytes each up to the
+/// first that is too large for them, and eight from it on.
+#[derive(Drop)]
+pub struct Column {
+    narrow: Values<u32>,
+    wide: Values<u64>,
+}
+
+impl Model for Column {
+    ghost use Rattle.std.specs.Prelude.{ℕ, List, ◌++◌, ◌+◌, ◌≤◌, length};
+
+    ghost Value = { List ℕ };
+
+    ghost view = { λ it. it.narrow ++ it.wide };
+
+    ghost invariant = { λ it. length it.narrow + length it.wide ≤ 18446744073709551615 };
+}
+
+impl Column {
+    /// No codes, which take no memory.
+    pub fn new(alloc: Global) -> Column
+        ensures { result ≡ [] }
+    {
+        Column {
+            narrow: Values::new(alloc),
+            wide: Values::new(alloc),
+        }
+    }
+
+    /// No codes, with memory for so many of four bytes each.
+    pub fn with_room(alloc: Global, room: usize) -> Result<Column, OutOfMemory>
+        ensures { IfOk result (λ it. it ≡ []) }
+    {
+        let narrow = Values::with_room(alloc, room)?;
+        Ok(Column {
+            narrow,
+            wide: Values::new(alloc),
+        })
+    }
+
+    /// How many codes the column has.
+    pub fn len(&self) -> usize
+        ensures { result ≡ length self.now }
+    {
+        self.narrow.len() + self.wide.len()
+    }
+
+    /// The code at a place, counted from 0.
+    pub fn item(&self, at: usize) -> u64
+        requires { at < length self.now }
+        ensures { slice_get self.now at ≡ Some result }
+    {
+        let narrow = self.narrow.len();
+        if at < narrow {
+            return self.narrow.item(at) as u64;
+        }
+        self.wide.item(at - narrow)
+    }
+
+    /// The codes of four bytes each, after which all others come.
+    pub(crate) fn narrow(&self) -> &[u32]
+        ensures { (rest : List ℕ) × (self.now ≡ result.now ++ rest) }
+    {
+        self.narrow.items()
+    }
+
+    /// Puts a code at the end.
+    pub fn push(&mut self, code: u64) -> Result<(), OutOfMemory>
+        ensures ok { OnOk result (self.new ≡ self.old ++ code ∷ []) }
+        ensures err { OnErr result (self.new ≡ self.old) }
+    {
+        if self.len() == usize::MAX {
+            return Err(OutOfMemory);
+        }
+        if self.wide.is_empty() && code <= u32::MAX as u64 {
+            return self.narrow.push(code as u32);
+        }
+        self.wide.push(code)
+    }
+
+    /// Keeps the first `count` codes, or all where there are fewer.
+    pub fn truncate(&mut self, count: usize)
+        ensures { self.new ≡ take count self.old }
+    {
+        let narrow = self.narrow.len();
+        self.narrow.truncate(count);
+        self.wide.truncate(count.saturating_sub(narrow));
+    }
+}
+
+impl Replicate for Column {
+    fn copy(&self, alloc: Global) -> Result<Column, OutOfMemory> {
+        let narrow = self.narrow.copy(alloc)?;
+        let wide = self.wide.copy(alloc)?;
+        Ok(Column { narrow, wide })
+    }
+}
