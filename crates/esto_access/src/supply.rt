@@ -1,5 +1,5 @@
 //! Access products.
-ghost use Rattle.std.specs.Prelude.{ℕ, ◌≡◌, ◌↔◌, List, [], length, replicate, slice_get, Some, IfOk, OnOk, IsTrue};
+ghost use Rattle.std.specs.Prelude.{ℕ, ◌≡◌, ◌↔◌, [], length, replicate, slice_get, Some, IfOk, OnOk, IsTrue};
 ghost use Rattle.esto_term.specs.Sets.{TellHolds};
 ghost use Rattle.esto_views.specs.Fragments.{patterns_of};
 ghost use Rattle.esto_views.specs.Plans.{plan_query};

@@ -4,7 +4,7 @@ ghost use Rattle.esto_constraint.specs.Graphs.{AreRanks};
 ghost use Rattle.esto_constraint.specs.Relations.{IsEdge};
 ghost use Rattle.esto_mapping.specs.Datasets.{words_of};
 ghost use Rattle.esto_query.specs.Schemas.{names_of};
-ghost use Rattle.esto_bench.specs.Case.{IsMadeCatalogue, made_dataset, made_datasets, made_schema, made_stores, numbered};
+ghost use Rattle.esto_bench.specs.Case.{IsMadeCatalogue, made_dataset, made_datasets, made_schema, made_stores};
 ghost use Rattle.esto_bench.specs.Made.{AreMadeFragments};
 
 use crate::case::MAX_SIZE;

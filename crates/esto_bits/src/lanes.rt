@@ -1,5 +1,5 @@
 //! Comparison of words, several at a time.
-ghost use Rattle.std.specs.Prelude.{ℕ, ◌≡◌, ◌↔◌, ◌<◌, ◌≤◌, ◌+◌, ◌*◌, ◌%◌, ◌^◌, length, slice_index_or, IsTrue};
+ghost use Rattle.std.specs.Prelude.{ℕ, ◌≡◌, ◌↔◌, ◌<◌, ◌≤◌, ◌+◌, ◌%◌, ◌^◌, length, slice_index_or, IsTrue};
 ghost use Rattle.esto_bits.specs.Words.{LackNoBit, LacksNone, LackNoneFrom, SomeWithin, SomeAround, IsWordWithin, IsWordAround, SomePlaceFrom, OneOfEight};
 
 use std::simd::prelude::*;

@@ -1,5 +1,5 @@
 //! Sets of one count in one vector of words.
-ghost use Rattle.std.specs.Prelude.{◌≡◌, ◌↔◌, ◌<◌, ◌+◌, ◌*◌, ◌++◌, ◌∷◌, [], Some, length, slice_get, IsTrue, IfOk, IfSome, OnOk, OnErr};
+ghost use Rattle.std.specs.Prelude.{◌≡◌, ◌↔◌, ◌<◌, ◌++◌, ◌∷◌, [], Some, length, slice_get, IsTrue, IfOk, IfSome, OnOk, OnErr};
 ghost use Rattle.esto_term.specs.Sets.{Covers};
 ghost use Rattle.esto_bits.specs.Kept.{HasSuperset, in_place_of_supersets, kept, unless_superset};
 ghost use Rattle.esto_bits.specs.Words.{AreWordsBelow, set_of};

@@ -2,7 +2,7 @@
 ghost use Rattle.std.specs.Prelude.{◌≡◌, ◌≤◌, length, IfOk, IfErr};
 ghost use Rattle.esto_course.specs.Course.{Stops};
 ghost use Rattle.esto_catalog.specs.Datasets.{AreDatasets, has_dataset, name_row, needs_columns, no_columns, columns_row};
-ghost use Rattle.esto_mapping.specs.Datasets.{relation_count, schema_of};
+ghost use Rattle.esto_mapping.specs.Datasets.{schema_of};
 ghost use Rattle.esto_catalog.specs.Datasets.{layout_and_file_rows, rows_after_name, reads_dataset, reads_datasets};
 ghost use Rattle.esto_catalog.specs.Rows.{IsAny, IsWant, Walks};
 ghost use Rattle.esto_catalog.specs.declared.whole.TheConstants.{MAX_ENTRIES};

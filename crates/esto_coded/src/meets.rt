@@ -1,5 +1,5 @@
 //! Whether facts meet a tuple rule or a denial.
-ghost use Rattle.std.specs.Prelude.{◌≡◌, ◌↔◌, [], ◌++◌, List, ℕ, length, Contains, IsTrue, IfOk, OnOk};
+ghost use Rattle.std.specs.Prelude.{◌≡◌, ◌↔◌, ◌++◌, List, ℕ, length, Contains, IsTrue, IfOk, OnOk};
 ghost use Rattle.esto_semantics.specs.Maps.{IsFixedBy};
 ghost use Rattle.esto_semantics.specs.Rules.{IsTupleRule, tuple, denial};
 ghost use Rattle.esto_semantics.specs.declared.fact.Fact.{Fact};

@@ -1,5 +1,5 @@
 //! The steps of a query over relations that are asked as a whole.
-ghost use Rattle.std.specs.Prelude.{◌≡◌, ◌++◌, ◌∷◌, [], Some, Contains, IfOk, OnOk, MatchOption};
+ghost use Rattle.std.specs.Prelude.{◌≡◌, ◌++◌, ◌∷◌, [], Contains, IfOk, OnOk, MatchOption};
 ghost use Rattle.std.specs.List.{AllZip};
 ghost use Rattle.esto_columns.specs.Interned.{Grows};
 ghost use Rattle.esto_steps.specs.Planned.{IsSource, IsNew, IsKnown};

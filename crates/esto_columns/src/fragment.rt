@@ -1,7 +1,6 @@
 //! What a fragment gives to an executor.
-ghost use Rattle.std.specs.Prelude.{◌≡◌, ◌<◌, ℕ, List, map, IfOk};
+ghost use Rattle.std.specs.Prelude.{◌≡◌, ℕ, List, map, IfOk};
 ghost use Rattle.std.specs.List.{filter};
-ghost use Rattle.esto_columns.specs.declared.fragment.Input.{Input};
 ghost use Rattle.esto_columns.specs.Asked.{Shape, IsAllowed, holds_all};
 ghost use Rattle.esto_columns.specs.Columns.{HaveLength};
 

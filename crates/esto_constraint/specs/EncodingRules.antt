@@ -1,5 +1,5 @@
 -- The names of the variables of the rules that the facts of documents and of keys meet.
-use Rattle.std.specs.Prelude.{ℕ, ◌+◌, List, [], ◌∷◌, ◌++◌, map, codes}
+use Rattle.std.specs.Prelude.{ℕ, List, [], ◌∷◌, ◌++◌, map, codes}
 use Rattle.esto_query.specs.declared.query.Name.{Name}
 use Rattle.esto_query.specs.declared.query.Name.TheVariants.{Given}
 use Rattle.esto_constraint.specs.declared.rule.Constraint.{Constraint}

@@ -1,5 +1,5 @@
 //! The matches of a pattern in a tree.
-ghost use Rattle.std.specs.Prelude.{◌≡◌, ◌↔◌, [], ◌∷◌, ◌+◌, ◌<◌, suc, ℕ, List};
+ghost use Rattle.std.specs.Prelude.{◌≡◌, ◌↔◌, [], ◌∷◌, ◌<◌, suc, ℕ, List};
 ghost use Rattle.std.specs.Prelude.{length, map, Contains, AllPairs, IfOk, OnOk};
 ghost use Rattle.esto_term.specs.declared.term.Term.{Term};
 ghost use Rattle.esto_term.specs.declared.term.Term.TheVariants.{Plain};

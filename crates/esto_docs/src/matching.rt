@@ -1,5 +1,5 @@
 //! Whether a layout has a place in a value, whatever the texts there.
-ghost use Rattle.std.specs.Prelude.{◌∷◌, [], false, map, Contains};
+ghost use Rattle.std.specs.Prelude.{◌∷◌, [], map, Contains};
 ghost use Rattle.serde_json.specs.View.{view};
 ghost use Rattle.esto_docmodel.specs.Forests.{Node};
 ghost use Rattle.esto_docmodel.specs.Shapes.{entries_of};

@@ -1,5 +1,5 @@
 //! The run of steps.
-ghost use Rattle.std.specs.Prelude.{◌≡◌, ◌↔◌, ◌<◌, List, ℕ, length, map, Contains, IfOk};
+ghost use Rattle.std.specs.Prelude.{◌≡◌, ◌↔◌, List, ℕ, length, map, Contains, IfOk};
 ghost use Rattle.esto_steps.specs.Meaning.{IsResult};
 ghost use Rattle.esto_steps.specs.Rows.{IsRowOf, held_by};
 ghost use Rattle.esto_exec.specs.Runnable.{AreRunnable};

@@ -1,5 +1,5 @@
 //! Cells of the rows that gets give, and what links say of them, whatever order the gets are taken in.
-ghost use Rattle.std.specs.Prelude.{◌≡◌, ◌==◌, ◌++◌, ◌∷◌, [], List, length, flat_map, take, cond, IfOk, OnOk};
+ghost use Rattle.std.specs.Prelude.{◌≡◌, ◌++◌, ◌∷◌, [], length, flat_map, take, cond, IfOk, OnOk};
 ghost use Rattle.esto_exec.specs.Slots.{side_from, side_of, equations_by, equations_from};
 ghost use Rattle.esto_exec.specs.Turns.{place_in, is_in, is_known, is_decided, source_in, side_slots, input_slots, equation_slots};
 ghost use Rattle.esto_exec.specs.Turns.{head_slots, needed_slots, is_among, kept_slots};

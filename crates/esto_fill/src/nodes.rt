@@ -1,7 +1,6 @@
 //! The columns of relations in which facts have nodes, and views whose rows have none.
 ghost use Rattle.std.specs.Prelude.{◌≡◌, ◌&&◌, ◌==◌, IsTrue, IfOk, OnOk};
 ghost use Rattle.std.specs.List.{list_any};
-ghost use Rattle.esto_term.specs.declared.term.Term.{Term};
 ghost use Rattle.esto_query.specs.Making.{query_of};
 ghost use Rattle.esto_views.specs.Fragments.{views_of};
 ghost use Rattle.esto_fill.specs.Nodes.{AddsColumn, AddsColumnsOf, AreFree, CoverNodes, IsFree, IsFreeAt, IsFreeIn, IsFreeView};

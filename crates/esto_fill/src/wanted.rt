@@ -1,5 +1,5 @@
 //! Which facts are wanted.
-ghost use Rattle.std.specs.Prelude.{◌≡◌, ◌==◌, [], ◌∷◌, ◌++◌, true, false, map, IfOk, OnOk};
+ghost use Rattle.std.specs.Prelude.{◌≡◌, [], ◌∷◌, ◌++◌, true, false, map, IfOk, OnOk};
 ghost use Rattle.std.specs.List.{list_any};
 ghost use Rattle.esto_docmodel.specs.declared.kept.KeptTexts.TheVariants as texts;
 ghost use Rattle.esto_query.specs.Making.{query_of};

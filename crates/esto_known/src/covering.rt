@@ -1,5 +1,5 @@
 //! Entries that are added only where they are not covered.
-ghost use Rattle.std.specs.Prelude.{◌≡◌, ◌↔◌, ◌<◌, List, Contains, length, IsTrue, OnOk};
+ghost use Rattle.std.specs.Prelude.{◌≡◌, ◌↔◌, List, Contains, length, IsTrue, OnOk};
 ghost use Rattle.esto_semantics.specs.Rules.{Rule};
 ghost use Rattle.esto_chase_laws.specs.WorldSteps.{IsCovered};
 ghost use Rattle.esto_chase_laws.specs.Worlds.{InWorld, AreOfCount};

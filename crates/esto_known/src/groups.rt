@@ -1,11 +1,10 @@
 //! Entries by their claims, one group for each claim.
-ghost use Rattle.std.specs.Prelude.{◌≡◌, ◌++◌, ◌∷◌, [], ◌<◌, ℕ, List, Some, Contains, length, slice_get, IfOk, OnOk, OnErr, MatchOption};
+ghost use Rattle.std.specs.Prelude.{◌≡◌, ◌++◌, ◌∷◌, [], ℕ, List, Some, Contains, length, slice_get, IfOk, OnOk, OnErr, MatchOption};
 ghost use Rattle.esto_columns.specs.Indexed.{IsIndexOf, AreAmongPlaces};
 ghost use Rattle.esto_semantics.specs.declared.fact.Fact.{Fact};
 ghost use Rattle.esto_term.specs.declared.term.Term.{Term};
 ghost use Rattle.esto_chase_laws.specs.Worlds.{AreOfCount, SaysOne};
 ghost use Rattle.esto_chase_laws.specs.declared.entry.Claim.TheVariants.{Fact as Stated};
-ghost use Rattle.esto_chase_laws.specs.declared.entry.Entry.{Entry};
 ghost use Rattle.esto_known.specs.Indexes.{AreKeysOf, HasSide};
 ghost use Rattle.esto_known.specs.Groups.{AreGroups, IsOfOne, claims_of};
 ghost use Rattle.esto_known.specs.declared.group.Group.{Group};

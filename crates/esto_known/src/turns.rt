@@ -1,5 +1,5 @@
 //! The order in which entries are added: small products first, so that few are added of which a smaller one comes later.
-ghost use Rattle.std.specs.Prelude.{◌<◌, length, IfOk};
+ghost use Rattle.std.specs.Prelude.{length, IfOk};
 ghost use Rattle.esto_known.specs.Turns.{AreTurnsOf};
 
 use esto_chase_laws::Entry;

@@ -1,5 +1,5 @@
 //! The weight of a set of a plan's atoms.
-ghost use Rattle.std.specs.Prelude.{◌≡◌, ◌<◌, slice_index_or};
+ghost use Rattle.std.specs.Prelude.{◌≡◌, slice_index_or};
 ghost use Rattle.esto_views.specs.Fragments.{weights_of};
 ghost use Rattle.esto_views.specs.Plans.{plan_query};
 ghost use Rattle.esto_list.specs.Items.{set_weight};

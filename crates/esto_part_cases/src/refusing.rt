@@ -1,5 +1,5 @@
 //! Steps that are run over fragments of which one finds memory wanting.
-ghost use Rattle.std.specs.Prelude.{◌≡◌, ◌<◌, [], ◌∷◌, map, IfOk};
+ghost use Rattle.std.specs.Prelude.{◌≡◌, [], ◌∷◌, map, IfOk};
 ghost use Rattle.esto_part_cases.specs.Refusing.{IsOpen, AreOpen, AskEach};
 
 use crate::reading::place;

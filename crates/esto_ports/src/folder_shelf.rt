@@ -1,5 +1,5 @@
 //! A shelf over the machine's files. It tells nothing of what they hold.
-ghost use Rattle.std.specs.Prelude.{◌≡◌, ◌<◌, ◌≤◌, ◌+◌, ◌^◌, length, take, None, IfOk, IfSome};
+ghost use Rattle.std.specs.Prelude.{◌≡◌, ◌<◌, ◌≤◌, ◌^◌, length, take, None, IfOk, IfSome};
 ghost use Rattle.esto_ports.specs.Fetch.{Fetches};
 ghost use Rattle.esto_ports.specs.FolderShelf.{CountsFetch};
 ghost use Rattle.esto_ports.specs.declared.folder_shelf.ReadError.TheVariants as read;

@@ -1,5 +1,5 @@
 //! Terms, and the numbers of variables.
-ghost use Rattle.std.specs.Prelude.{◌≡◌, [], ◌∷◌, ◌++◌, List, length, slice_get, Contains, Some, MatchOption, IfOk, IsTrue, ◌↔◌, IsUtf8};
+ghost use Rattle.std.specs.Prelude.{◌≡◌, [], ◌∷◌, ◌++◌, length, slice_get, Contains, Some, MatchOption, IfOk, IsTrue, ◌↔◌, IsUtf8};
 ghost use Rattle.std.specs.List.{AllByRecursion};
 ghost use Rattle.esto_query.specs.declared.query.Name.TheVariants.{Given, Hidden};
 ghost use Rattle.esto_text.specs.Faults.{IsTermIn};

@@ -1,7 +1,7 @@
 //! Paths.
 ghost use Rattle.std.specs.Prelude.{◌≡◌, ◌<◌, ℕ, [], ◌∷◌, length, IfOk, IfErr, MatchOption};
 ghost use Rattle.esto_text.specs.Grammar.{IsFirst, IsLater, IsPath};
-ghost use Rattle.esto_text.specs.Machine.{AnEntry, PathRest, class_at, Takes, Fails, EndsPath};
+ghost use Rattle.esto_text.specs.Machine.{AnEntry, PathRest, Takes, Fails, EndsPath};
 
 use crate::parts::{class_at, next_step, sign};
 use crate::stop::Stop;
