@@ -18,8 +18,9 @@ use esto_term::{OutOfMemory, TextRow, TextRows};
 use std::alloc::Global;
 use std::marker::Model;
 
-/// The first code of a node: the codes of texts stand below it.
-pub const FIRST_NODE: u64 = 9_223_372_036_854_775_808;
+/// The first code of a node: the codes of texts stand below it. So many texts take more than a hundred gigabytes, and the
+/// codes of as many nodes take four bytes each.
+pub const FIRST_NODE: u64 = 2_147_483_648;
 
 /// Facts over constants and plain terms, which are nodes, as rows of codes: contracts see the texts in the order of
 /// their codes, and for each relation its rows. For which facts they stand, read as a set, says `StandFor`, and in
