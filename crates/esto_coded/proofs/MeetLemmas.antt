@@ -248,9 +248,11 @@ module _ (body head : List (Fact Term)) (is : IsTupleRule body head) (one two : 
       let m = own.2.0 in
       let found = met m own.2.1 own.2.2 in
       let terms : own.0 ≡ map found.0 (frontier body head) =
-      own.2.3 ∙ map_agree m found.0 (frontier body head) (λ term among. found.2 term (frontier_body body head term among)) in
-      (own.0, codes_grow one.texts two.texts stays.grown own.0 row own.1,
-      (found.0, found.1, sends_both m found.0 body head facts own.2.2 found.2 found.3, terms))
+      own.2.3 ∙ map_agree m found.0 (frontier body head) (λ term among. found.2 term (frontier_body body head term among)) in (
+        own.0,
+        codes_grow one.texts two.texts stays.grown own.0 row own.1,
+        (found.0, found.1, sends_both m found.0 body head facts own.2.2 found.2 found.3, terms),
+      )
 
 pub tuple_answered : (body head : List (Fact Term)) → IsTupleRule body head → (shared : List Term) → shared ≡ frontier body head → (one two : Coded)
     → StaysFor one two → AreTelling two.texts → HaveTexts one.texts shared → (given : List (List ℕ)) (answer : Bool)

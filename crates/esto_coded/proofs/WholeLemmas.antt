@@ -282,8 +282,12 @@ get_named : (texts : List (List ℕ)) (bound : List Term) (atoms : List (Fact Te
 get_named texts bound atoms [] are get inside = absurd (Contains-nil get inside)
 get_named texts bound [] (first ∷ gets) are get inside = absurd are
 get_named texts bound (atom ∷ atoms) (first ∷ gets) are get inside = elim (Contains-cases first gets get inside) [
-  | inl same ↦ (atom, Contains-head atom atoms, ap (λ (it : Get). it.fragment) (sym same) ∙ (are.0).fragment,
-      ap (λ (it : Get). it.inputs) (sym same) ∙ (are.0).inputs)
+  | inl same ↦ (
+    atom,
+    Contains-head atom atoms,
+    ap (λ (it : Get). it.fragment) (sym same) ∙ (are.0).fragment,
+    ap (λ (it : Get). it.inputs) (sym same) ∙ (are.0).inputs,
+  )
   | inr later ↦ let found = get_named texts (bound ++ atom.terms) atoms gets are.1 get later in
       (found.0, Contains-rest atom atoms found.0 found.1, found.2, found.3)
 ]

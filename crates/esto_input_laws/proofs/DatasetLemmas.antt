@@ -35,9 +35,11 @@ facts_by_model : (model : DataModel) (dataset : Dataset) (bytes : List ℕ) (fir
 facts_by_model Table dataset bytes first =
     let (facts, are) = row_facts dataset.base (table_rows dataset.columns bytes) in
     (facts, are, rows_flat dataset.base (table_rows dataset.columns bytes) facts are)
-facts_by_model Documents dataset bytes first =
-    (facts_of dataset.base first (documents (file_trees dataset.layout bytes)), refl,
-    documents_flat dataset.base first (documents (file_trees dataset.layout bytes)))
+facts_by_model Documents dataset bytes first = (
+  facts_of dataset.base first (documents (file_trees dataset.layout bytes)),
+  refl,
+  documents_flat dataset.base first (documents (file_trees dataset.layout bytes)),
+)
 facts_by_model Keys dataset bytes first =
     let (facts, are) = row_facts dataset.base (key_rows bytes) in (facts, are, rows_flat dataset.base (key_rows bytes) facts are)
 

@@ -106,9 +106,12 @@ told_pushed rows row told none one inside other within contrary = elim (Contains
 pub taken_there : (rows : List (List ℕ)) (at place : ℕ) → place < length (take at rows)
     → (row : List ℕ) × (slice_get (take at rows) place ≡ Some row) × (slice_get rows place ≡ Some row)
 taken_there rows at place within =
-    let found = thing_at (take at rows) place within in
-    (found.0, found.1, subst (λ them. slice_get them place ≡ Some found.0) (take-append-drop at rows)
-    (at_left (take at rows) (drop at rows) place found.0 found.1))
+    let found = thing_at (take at rows) place within in (
+      found.0,
+      found.1,
+      subst (λ them. slice_get them place ≡ Some found.0) (take-append-drop at rows)
+          (at_left (take at rows) (drop at rows) place found.0 found.1),
+    )
 
 pub below_all : (rows : List (List ℕ)) (at place : ℕ) → place < length (take at rows) → place < length rows
 below_all rows at place within = let found = taken_there rows at place within in slice_get_within rows place found.0 found.2

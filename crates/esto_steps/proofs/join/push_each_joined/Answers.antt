@@ -5,8 +5,10 @@ use Rattle.esto_steps.proofs.JoinLemmas.{joins_none, joins_more, joins_all}
 use Rattle.esto_steps.proofs.join.push_each_joined.Goals as goal
 
 pub rows-init : goal.rows-init
-rows-init c = (joins_none c.args.join.now.get.now c.args.join.now.kept.now c.args.so_far.now.rows c.args.rows.now.rows c.args.into.now.rows c.requires.none,
-    refl)
+rows-init c = (
+  joins_none c.args.join.now.get.now c.args.join.now.kept.now c.args.so_far.now.rows c.args.rows.now.rows c.args.into.now.rows c.requires.none,
+  refl,
+)
 
 pub push_joined-requires-clause-there : goal.push_joined-requires-clause-there
 push_joined-requires-clause-there c = subst (λ it. c.rows.at < it) c.len-at-end.ensures c.rows-test.true

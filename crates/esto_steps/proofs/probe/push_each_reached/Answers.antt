@@ -5,8 +5,10 @@ use Rattle.esto_steps.proofs.JoinLemmas.{joins_none, joins_more, joins_all}
 use Rattle.esto_steps.proofs.probe.push_each_reached.Goals as goal
 
 pub rows-init : goal.rows-init
-rows-init c = (joins_none c.args.join.now.get.now c.args.join.now.kept.now c.args.so_far.now.rows c.args.rows.now.rows c.args.into.now.rows c.requires.none,
-    refl)
+rows-init c = (
+  joins_none c.args.join.now.get.now c.args.join.now.kept.now c.args.so_far.now.rows c.args.rows.now.rows c.args.into.now.rows c.requires.none,
+  refl,
+)
 
 pub push_reached-requires-clause-there : goal.push_reached-requires-clause-there
 push_reached-requires-clause-there c = subst (λ it. c.rows.at < it) c.len-at-end.ensures c.rows-test.true

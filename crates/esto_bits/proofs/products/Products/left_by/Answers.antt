@@ -5,8 +5,10 @@ use Rattle.esto_bits.proofs.JoinLemmas.{left_none, left_turn}
 use Rattle.esto_bits.proofs.products.Products.left_by.Goals as goal
 
 pub sets-init : goal.sets-init
-sets-init c = record { count = c.new-left.ensures.count ∙ c.count.ensures;
-    left = left_none c.args.others.now.sets c.args.self.now.sets _ c.new-left.ensures.empty }
+sets-init c = record {
+  count = c.new-left.ensures.count ∙ c.count.ensures;
+  left = left_none c.args.others.now.sets c.args.self.now.sets _ c.new-left.ensures.empty;
+}
 
 pub sets-preserved : goal.sets-preserved
 sets-preserved c = record {
