@@ -11,6 +11,7 @@ ghost use Rattle.esto_query.specs.Making.{query_of};
 ghost use Rattle.esto_views.specs.Contained.{MapsOntoOne};
 ghost use Rattle.esto_views.specs.Fragments.{views_of, patterns_of};
 ghost use Rattle.esto_views.specs.Plans.{plan_query, IsPlanOver};
+ghost use Rattle.esto_chase_laws.specs.Derived.{AreNew};
 ghost use Rattle.esto_chase_laws.specs.WorldSteps.{AreJoined};
 ghost use Rattle.esto_backchase.specs.Candidates.{Answers};
 ghost use Rattle.esto_condchase.specs.Evidence.{AreConsistent, AreEntriesOf, DecideAnswers};
@@ -87,8 +88,8 @@ fn listed_products(
 /// The listed sets of the plan under the catalogue's rules: the minimal sets of its atoms that are executable, and whose
 /// candidate is safe and equivalent to the query. Each query over fragments that is an executable rewriting maps onto a
 /// superset of one of them. The entries are those of the conditional chase of the plan's expansion: they say of each set
-/// of the plan's atoms what the catalogue's rules make of its part of the expansion. Their links are joined. Source: the
-/// backchase with provenance (Ileana, Cautis, Deutsch and Katsis 2014).
+/// of the plan's atoms what the catalogue's rules make of its part of the expansion. Their links are joined, and none is
+/// covered by those before it. Source: the backchase with provenance (Ileana, Cautis, Deutsch and Katsis 2014).
 pub fn minimal_sets(
     alloc: Global,
     plan: &Plan,
@@ -102,6 +103,7 @@ pub fn minimal_sets(
     requires satisfiable { IsSatisfiable (rules_of catalogue.now.rules) (query_of query.now) }
     ensures entries { IfOk result (λ it. AreEntriesOf catalogue.now.fragments catalogue.now.rules
         catalogue.now.ranks plan.now it.entries) }
+    ensures new { IfOk result (λ it. AreNew it.entries) }
     ensures joined { IfOk result (λ it. AreJoined it.entries it.entries) }
     ensures count { IfOk result (λ it. it.sets.count ≡ length plan.now.atoms) }
     ensures listed { IfOk result (λ it. (set : List Bool) → Contains it.sets.sets set

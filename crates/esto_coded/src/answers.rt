@@ -119,7 +119,7 @@ pub(crate) fn answers_over(
 impl CodedFacts {
     /// The answers of the query of that head and body over the facts, as rows of codes, in no stated order, where the
     /// same row may come more than once. Constants of the query get codes. The executor joins the body's atoms in an
-    /// order of its own. OutOfMemory comes too where more than 2^63 texts have codes.
+    /// order of its own. OutOfMemory comes too where more than 2^31 texts have codes.
     pub fn answers(
         &mut self,
         alloc: Global,

@@ -235,7 +235,7 @@ impl CodedFacts {
     /// body alone, and what is there more than once stays so. None comes with a tuple rule or a denial, nor where more
     /// than 65,536 codes come in, nor where memory is wanting for it. So codes are few in a part, and facts need not be.
     /// Constants of the rule get codes. Indexes are made of the relations that are joined for it, as by `index_joins`.
-    /// OutOfMemory comes too where more than 2^63 texts have codes.
+    /// OutOfMemory comes too where more than 2^31 texts have codes.
     pub fn judge(&mut self, alloc: Global, rule: &Constraint) -> Result<Verdict, OutOfMemory>
         ensures arities { arities_of self.new ≡ arities_of self.old }
         ensures facts { (facts : List (Fact Term))

@@ -12,8 +12,8 @@ const FACTOR: u64 = 0x9E37_79B9_7F4A_7C15;
 
 /// An index of a list of keys, which are rows of codes: one key for each place, counted from 0. The places of each
 /// bucket of keys are a chain, from the last one to the first. A place stands here as one more than it is, and 0 ends a
-/// chain. `last` has for each bucket its last place, and `before` for each place the one before it. So an index has
-/// places for 4,294,967,295 keys at most: so many take tens of gigabytes.
+/// chain. `last` has for each bucket its last place, and `before` for each place the one before it. Each takes four bytes,
+/// so an index has places for 4,294,967,295 keys at most, which take tens of gigabytes.
 #[derive(Drop)]
 pub struct Index {
     last: Values<u32>,

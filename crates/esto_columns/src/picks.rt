@@ -42,7 +42,8 @@ fn is_among(codes: &[u32], at: usize, code: u64) -> bool
     lanes.simd_eq(u32x8::splat(code as u32)).to_bitmask() != 0
 }
 
-/// Whether the code may stand in the block from a place to another. It is looked for where all codes there are narrow.
+/// Whether the code may stand in the block from a place to another. It is looked for where all codes there take four
+/// bytes; elsewhere it may.
 fn may_stand(column: &Column, at: usize, end: usize, code: u64) -> bool
     requires { end ≡ at + 8 }
     ensures { result ≡ false → places_of at code (slice_range column.now at end) ≡ [] }

@@ -7,6 +7,7 @@ ghost use Rattle.esto_constraint.specs.Constraints.{rules_of};
 ghost use Rattle.esto_constraint.specs.Graphs.{IsWithin, AreRanks};
 ghost use Rattle.esto_constraint.specs.Relations.{IsEdge};
 ghost use Rattle.esto_views.specs.Plans.{IsPlanOver};
+ghost use Rattle.esto_chase_laws.specs.Derived.{AreNew};
 ghost use Rattle.esto_chase_laws.specs.WorldSteps.{AreJoined};
 ghost use Rattle.esto_chase_laws.specs.Worlds.{AreOfCount};
 ghost use Rattle.esto_condchase.specs.Evidence.{AreEntriesOf, MatchesIn, OneMatchesIn};
@@ -22,7 +23,7 @@ use esto_views::{FragmentDefs, Plan, expand};
 use std::alloc::Global;
 
 /// The entries of the conditional chase of the plan's expansion over the fragments, under the rules, where the ranks are
-/// those of the rules' relations. Their links are joined.
+/// those of the rules' relations. Their links are joined, and none is covered by those before it.
 pub fn entries_of(
     alloc: Global,
     plan: &Plan,
@@ -34,6 +35,7 @@ pub fn entries_of(
     requires within { IsWithin (length ranks.now) (IsEdge (rules_of rules.now)) }
     requires ranks { AreRanks (IsEdge (rules_of rules.now)) (length ranks.now) ranks.now }
     ensures entries { IfOk result (AreEntriesOf fragments.now rules.now ranks.now plan.now) }
+    ensures new { IfOk result AreNew }
     ensures joined { IfOk result (λ entries. AreJoined entries entries) }
 {
     let expanded = expand(alloc, plan, fragments)?;

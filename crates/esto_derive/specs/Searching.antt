@@ -78,7 +78,7 @@ IsFoundIfOne entries set from to terms others body places =
     (AllZip (Linked (InWorld entries set)) others (map (taken from to) terms) × IsFound entries set from to body places)
     ⊎ (¬ (AllZip (Linked (InWorld entries set)) others (map (taken from to) terms)) × (places ≡ None))
 
--- The new places are the old ones, and such that the two terms are one by what they name.
+-- The old places are among the new ones, which name equalities of the world where these do, and the two terms are one by what they name.
 pub record AddsChain (entries : List Entry) (set : List Bool) (term other : Term) (old new : List ℕ) : Type 0 where
   pub keeps : (place : ℕ) → Contains old place → Contains new place
   pub are : AreLinks entries set old → AreLinks entries set new

@@ -11,7 +11,7 @@ use esto_prov::Claim;
 use esto_term::{List, OutOfMemory, Term};
 use std::alloc::Global;
 
-/// A term that is reached, and by which: the place of a term that was reached earlier, and that of an entry whose equality
+/// A term that is reached, and by what: the place of a term that was reached earlier, and that of an entry whose equality
 /// leads from there to it. The first term is reached by none.
 #[derive(Clone, Copy)]
 pub struct Reached<'a> {

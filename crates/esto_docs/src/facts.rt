@@ -244,7 +244,7 @@ fn put_whole<S: FactSink>(
 }
 
 /// Puts the facts of the document that a JSON value is into the sink, as `encode_document` of `esto_docmodel` puts those of
-/// its tree: the first number that is not used. OutOfMemory comes too where a relation or a node has no number of 64 bits.
+/// its tree, with numbers from `first` on; the answer is the first number that is not used. OutOfMemory comes too where a relation or a node has no number of 64 bits.
 /// After an error some of the facts may be put.
 pub fn put_document<S: FactSink>(
     alloc: Global,

@@ -32,7 +32,8 @@ pub record IsFollowing (rules : List Rule) (count : ℕ) (entries : List Entry) 
   pub follows : (expanded : List ExpandedFact) → Follows expanded rules entries entry.claim entry.product entry.reason
   pub counted : length entry.product ≡ count
 
--- The later entries are the earlier ones, and perhaps others after them, which follow and which none before them covers; and they cover each entry that is so.
+-- The later entries are the earlier ones, and perhaps others after them; they are derived, and new, where the earlier ones are; and they cover each entry that
+-- is so.
 pub record IsGrown (rules : List Rule) (entries : List Entry) (IsSo : Entry → Type 0) (later : List Entry) : Type 0 where
   pub more : (others : List Entry) × (later ≡ entries ++ others)
   pub derived : (expanded : List ExpandedFact) → AreDerived expanded rules entries → AreDerived expanded rules later

@@ -1,5 +1,7 @@
 //! The printed plan of a query, and its list.
 ghost use Rattle.std.specs.Prelude.{IfOk};
+ghost use Rattle.esto_chase_laws.specs.Derived.{AreNew};
+ghost use Rattle.esto_chase_laws.specs.WorldSteps.{AreJoined};
 ghost use Rattle.esto_condchase.specs.Evidence.{AreEntriesOf};
 ghost use Rattle.esto_status.specs.Answers.{Answers};
 ghost use Rattle.esto_rewriting.specs.Listing.{IsListOf, IsPlanned};
@@ -36,7 +38,8 @@ pub struct PlanList {
     pub entries: Entries,
 }
 
-/// The list of the plan, with the entries that it comes from.
+/// The list of the plan, with the entries that it comes from. Their links are joined, and none is covered by those before
+/// it.
 pub fn list_of(
     alloc: Global,
     plan: &Plan,
@@ -47,6 +50,8 @@ pub fn list_of(
     ensures list { IfOk result (λ it. IsListOf catalogue.now query.now plan.now it.listing) }
     ensures entries { IfOk result (λ it. AreEntriesOf catalogue.now.fragments catalogue.now.rules
         catalogue.now.ranks plan.now it.entries) }
+    ensures new { IfOk result (λ it. AreNew it.entries) }
+    ensures joined { IfOk result (λ it. AreJoined it.entries it.entries) }
 {
     planned_plans_are_universal();
     planned_plans_have_their_form();
