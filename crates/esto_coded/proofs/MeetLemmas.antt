@@ -1,19 +1,17 @@
 -- Whether facts meet a rule, by the codes of answers.
 use Rattle.std.proofs.Common.{◌≡◌, ◌↔◌, inl, inr, ℕ, Bool, true, false, cond, List, [], ◌∷◌, ◌++◌, map, length, get_or, Contains, refl, sym, ap, ◌∙◌}
-use Rattle.std.proofs.Common.{subst, arith, eqb, IsTrue, Result, Ok, Err}
+use Rattle.std.proofs.Common.{subst, arith, IsTrue, Result, Ok, Err, ◌+◌, ◌<◌, take, slice_get, Some}
 use Rattle.std.specs.List.{AllZip}
-use Rattle.std.specs.Cmp.Lexicographic.{pointwise}
 use Rattle.std.specs.Result.{IfOk}
 use Rattle.std.specs.Set.{is_member}
-use Rattle.std.proofs.lemmas.Bool.Decides.{Decides-eqb}
+use Rattle.std.proofs.lemmas.List.{get_or_default}
 use Rattle.std.proofs.lemmas.List.Elements.{Contains-append_left, Contains-append_right, Contains-append_cases}
-use Rattle.std.proofs.lemmas.Slice.Eq.{slice_eq-Decides}
 use Rattle.esto_term.specs.Order.{same_term}
 use Rattle.esto_term.specs.declared.list.OutOfMemory.{OutOfMemory}
 use Rattle.esto_term.specs.declared.term.Term.{Term}
 use Rattle.esto_term.specs.declared.term.Term.TheVariants.{Const}
 use Rattle.esto_term.proofs.ListLemmas.{Contains-nil, Contains-head, Contains-rest, Contains-cases, Contains-one, Contains-map, Contains-map_from}
-use Rattle.esto_term.proofs.ListLemmas.{agree-from_map, map_agree, place-from_Contains}
+use Rattle.esto_term.proofs.ListLemmas.{agree-from_map, map_agree, place-from_Contains, Contains-read, each_more}
 use Rattle.esto_term.proofs.ZipLemmas.{zip_left}
 use Rattle.esto_semantics.specs.Facts.{image, Mentions, terms_of}
 use Rattle.esto_semantics.specs.Maps.{AgreeOn, IsFlat, IsFixedBy, Keeps, Sends}
@@ -22,6 +20,8 @@ use Rattle.esto_semantics.specs.declared.fact.Fact.{Fact}
 use Rattle.esto_semantics.proofs.CanonicalLemmas.{Mentions-terms_of}
 use Rattle.esto_chase_laws.specs.Making.{frontier}
 use Rattle.esto_chase_laws.proofs.MakingLemmas.{in_terms-Decides, terms_of-Mentions, frontier_body, frontier_has}
+use Rattle.esto_columns.proofs.FindLemmas.{code_there}
+use Rattle.esto_rows.proofs.SameLemmas.{is_not}
 use Rattle.esto_coded.specs.Answered.{IsCodedAnswer, AreCodedAnswers}
 use Rattle.esto_coded.specs.Coded.{Coded, IsCodeOf, AreCodesOf, AreTelling, StandFor}
 use Rattle.esto_coded.specs.Met.{StaysFor, AnswersWhether}
@@ -135,14 +135,20 @@ equality_answered coded body left right rows answer tell known fixed answers tol
       (met own.2.0 own.2.1 own.2.2)),
 )
 
-pub agree_told : (rows : List (List ℕ)) (left right : List ℕ) (answer : Bool) → left ≡ map (λ row. get_or row 0 0) rows
-    → right ≡ map (λ row. get_or row 1 0) rows → answer ≡ pointwise eqb left right
-    → IsTrue answer ↔ ((row : List ℕ) → Contains rows row → get_or row 0 0 ≡ get_or row 1 0)
-agree_told rows left right answer is also tested =
-    let told = slice_eq-Decides Decides-eqb left right (pointwise eqb left right) refl in (
-      λ all row inside. agree-from_map (λ it. get_or it 0 0) (λ it. get_or it 1 0) rows row (sym is ∙ told.0 (sym tested ∙ all) ∙ also) inside,
-      λ each. tested ∙ told.1 (is ∙ map_agree (λ it. get_or it 0 0) (λ it. get_or it 1 0) rows each ∙ sym also),
-    )
+module _ (rows : List (List ℕ)) (left right : List ℕ) (is : left ≡ map (λ row. get_or row 0 0) rows) (also : right ≡ map (λ row. get_or row 1 0) rows)
+    (at one other : ℕ) (below : at < length rows) (here : slice_get left at ≡ Some one) (there : slice_get right at ≡ Some other) where
+  -- where the rows before a place have the same code in both columns, and the one there too, those up to it have
+  pub agree_more : one ≡ other → ((row : List ℕ) → Contains (take at rows) row → get_or row 0 0 ≡ get_or row 1 0)
+      → (row : List ℕ) → Contains (take (at + 1) rows) row → get_or row 0 0 ≡ get_or row 1 0
+  agree_more same =
+      each_more (λ row. get_or row 0 0 ≡ get_or row 1 0) rows at (get_or rows at []) below (get_or_default rows at [] (get_or rows at []) below)
+      (sym (code_there rows at 0 left one below is here) ∙ same ∙ code_there rows at 1 right other below also there)
+
+  -- where one row has two codes there, not each has the same
+  pub agree_not : (one ≡ other → ⊥) → IsTrue false ↔ ((row : List ℕ) → Contains rows row → get_or row 0 0 ≡ get_or row 1 0)
+  agree_not apart = is_not (λ each. apart (code_there rows at 0 left one below is here
+      ∙ each (get_or rows at []) (Contains-read rows at (get_or rows at []) below (get_or_default rows at [] (get_or rows at []) below))
+      ∙ sym (code_there rows at 1 right other below also there)))
 
 -- ---- tuple rules
 

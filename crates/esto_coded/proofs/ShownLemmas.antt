@@ -19,15 +19,15 @@ module _ (rows : List (List ℕ)) (arity column : ℕ) (long : (it : List ℕ) �
   node_within (row, inside, (code, at, past)) = subst (λ count. column < count) (long row inside) (slice_get_within row column code at)
 
   -- the codes of the column tell it
-  pub node_told : (codes given : List ℕ) (answer : Bool) → column < arity → codes ≡ map (λ row. get_or row column 0) rows → given ≡ codes
-      → IsTrue answer ↔ ((code : ℕ) × Contains given code × (FIRST_NODE ≤ code)) → IsTrue answer ↔ NodeIn rows column
-  node_told codes given answer within is same told = (
+  pub node_told : (codes : List ℕ) (answer : Bool) → column < arity → codes ≡ map (λ row. get_or row column 0) rows
+      → IsTrue answer ↔ ((code : ℕ) × Contains codes code × (FIRST_NODE ≤ code)) → IsTrue answer ↔ NodeIn rows column
+  node_told codes answer within is told = (
     λ yes. let found = told.0 yes in
-        let own = Contains-map_from (λ row. get_or row column 0) rows found.0 (subst (λ them. Contains them found.0) (same ∙ is) found.1) in
+        let own = Contains-map_from (λ row. get_or row column 0) rows found.0 (subst (λ them. Contains them found.0) is found.1) in
         (own.0, own.1, (found.0, slice_get-get_or own.0 column 0 (subst (λ count. column < count) (sym (long own.0 own.1)) within) ∙ ap Some own.2, found.2)),
     λ (row, inside, (code, at, past)). told.1 (
       code,
-      subst (λ them. Contains them code) (sym (same ∙ is)) (subst (Contains (map (λ it. get_or it column 0) rows))
+      subst (λ them. Contains them code) (sym is) (subst (Contains (map (λ it. get_or it column 0) rows))
           (get_or_from_slice_get row column code 0 at) (Contains-map (λ it. get_or it column 0) rows row inside)),
       past,
     ),

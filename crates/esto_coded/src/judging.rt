@@ -41,7 +41,14 @@ fn agree(rows: &Rows) -> bool
     ensures { IsTrue result ↔ ((row : List ℕ) → Contains rows.now.rows row
         → slice_index_or row 0 0 ≡ slice_index_or row 1 0) }
 {
-    rows.column(0).items() == rows.column(1).items()
+    let left = rows.column(0);
+    let right = rows.column(1);
+    'rows: for at in 0..rows.len() {
+        if left.item(at) != right.item(at) {
+            return false;
+        }
+    }
+    true
 }
 
 impl CodedFacts {

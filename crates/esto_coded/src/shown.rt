@@ -7,16 +7,16 @@ ghost use Rattle.esto_coded.specs.Shown.{HasNodeAt, LeastNode};
 ghost use Rattle.esto_coded.specs.declared.coded.TheConstants.{FIRST_NODE};
 
 use crate::coded::{CodedFacts, FIRST_NODE};
-use esto_columns::{Rows, sorted_texts};
+use esto_columns::{Column, Rows, sorted_texts};
 use esto_term::{OutOfMemory, TextRows};
 use std::alloc::Global;
 
-/// Whether one of the codes is that of a node.
-fn any_node(codes: &[u64]) -> bool
-    ensures { IsTrue result ↔ ((code : ℕ) × Contains codes.now code × (FIRST_NODE ≤ code)) }
+/// Whether one of the codes of the column is that of a node.
+fn any_node(column: &Column) -> bool
+    ensures { IsTrue result ↔ ((code : ℕ) × Contains column.now code × (FIRST_NODE ≤ code)) }
 {
-    'codes: for code in codes {
-        if *code >= FIRST_NODE {
+    'codes: for at in 0..column.len() {
+        if column.item(at) >= FIRST_NODE {
             return true;
         }
     }
@@ -31,7 +31,7 @@ fn node_at(rows: &Rows, column: usize) -> bool
     if column >= rows.arity() {
         return false;
     }
-    any_node(rows.column(column).items())
+    any_node(rows.column(column))
 }
 
 /// The least column, counted from 0, in which one of the rows has the code of a node.

@@ -12,7 +12,7 @@ use esto_keymodel::{key_row_fault, pair_facts};
 use esto_relmodel::table_facts;
 use esto_script::{Refused, each, parts, put, put_counted, text};
 use esto_semantics::Valuation;
-use esto_term::{List, Term, TextRow, TextRows, Values};
+use esto_term::{List, Term, TextRow, TextRows};
 use std::alloc::Global;
 use std::slice::from_ref;
 
@@ -80,7 +80,7 @@ fn add_codes(codes: &mut Codes, column: &mut Column, line: &str) -> Result<(), R
 
 // The codes of the words, in order.
 fn codes_of(alloc: Global, line: &str) -> Result<Column, Refused> {
-    let mut column = Values::new(alloc);
+    let mut column = Column::new(alloc);
     add_codes(&mut Codes::new(alloc), &mut column, line)?;
     Ok(column)
 }
@@ -93,10 +93,10 @@ fn firsts(alloc: Global, column: &Column) -> Result<Picks, Refused> {
     Ok(picks)
 }
 
-// A line of codes.
-fn put_column(rt: &HostRuntime, codes: &[u64]) {
-    'codes: for code in codes {
-        put_number(rt, *code);
+// A line of the column's codes.
+fn put_column(rt: &HostRuntime, column: &Column) {
+    'codes: for at in 0..column.len() {
+        put_number(rt, column.item(at));
     }
     put(rt, "\n");
 }
@@ -104,7 +104,7 @@ fn put_column(rt: &HostRuntime, codes: &[u64]) {
 // The columns of rows of codes, a line each.
 fn put_columns(rt: &HostRuntime, rows: &Rows) {
     'columns: for column in 0..rows.arity() {
-        put_column(rt, rows.column(column).items());
+        put_column(rt, rows.column(column));
     }
 }
 
@@ -124,7 +124,7 @@ pub fn put_coded(rt: &HostRuntime, alloc: Global, line: &str) -> Result<(), Refu
 /// The codes of the words, and then the places at which the first word's code stands.
 pub fn put_codes(rt: &HostRuntime, alloc: Global, line: &str) -> Result<(), Refused> {
     let column = codes_of(alloc, line)?;
-    put_column(rt, column.items());
+    put_column(rt, &column);
     let picks = firsts(alloc, &column)?;
     put_numbers(rt, picks.items());
     Ok(())

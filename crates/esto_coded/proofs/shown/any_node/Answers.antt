@@ -1,5 +1,5 @@
-use Rattle.std.proofs.Common.{◌≤◌, get_or, arith}
-use Rattle.std.proofs.lemmas.List.{get_or_default}
+use Rattle.std.proofs.Common.{◌<◌, ◌≤◌, sym, subst, arith}
+use Rattle.std.proofs.lemmas.Option.{get_or_from_slice_get}
 use Rattle.esto_term.proofs.ListLemmas.{each_more, each_seen}
 use Rattle.esto_coded.specs.declared.coded.TheConstants.{FIRST_NODE}
 use Rattle.esto_rows.proofs.SameLemmas.{is_not}
@@ -7,11 +7,11 @@ use Rattle.esto_coded.proofs.shown.any_node.Goals as goal
 
 pub codes-preserved : goal.codes-preserved
 codes-preserved c =
-    let code = get_or c.args.codes.now c.codes.code-index 0 in
-    each_more (λ it. FIRST_NODE ≤ it → ⊥) c.args.codes.now c.codes.code-index code c.codes-test.true
-    (get_or_default c.args.codes.now c.codes.code-index 0 code c.codes-test.true)
-    (λ past. let under = c.if-code-ge-FIRST_NODE.false in omega (arith, under, past)) c.codes.invariant
+    let code = c.item.result in
+    each_more (λ it. FIRST_NODE ≤ it → ⊥) c.args.column.now c.codes.at code (subst (λ it. c.codes.at < it) c.len-at-end.ensures c.codes-test.true)
+    (sym (get_or_from_slice_get c.args.column.now c.codes.at code code c.item.ensures))
+    (λ past. let under = c.if-item-ge-FIRST_NODE.false in omega (arith, under, past)) c.codes.invariant
 
 pub returns : goal.returns
-returns c = is_not (λ found. each_seen (λ code. FIRST_NODE ≤ code → ⊥) c.args.codes.now c.codes.code-index c.codes-test.false
-    c.codes.invariant found.0 found.1 found.2)
+returns c = is_not (λ found. each_seen (λ code. FIRST_NODE ≤ code → ⊥) c.args.column.now c.codes.at
+    (subst (λ it. it ≤ c.codes.at) c.len-at-end.ensures c.codes-test.false) c.codes.invariant found.0 found.1 found.2)

@@ -3,4 +3,4 @@ use Rattle.esto_coded.specs.declared.coded.TheConstants.{FIRST_NODE}
 use Rattle.esto_coded.proofs.shown.any_node.Given as goal
 
 abbrev pub invariant-codes : goal.invariant-codes
-invariant-codes l = (code : ℕ) → Contains (take l.code-index l.codes) code → FIRST_NODE ≤ code → ⊥
+invariant-codes l = (code : ℕ) → Contains (take l.at l.column) code → FIRST_NODE ≤ code → ⊥
