@@ -69,6 +69,7 @@ returns-clause-consistent c =
 pub returns-in_err-entries : goal.returns-in_err-entries
 returns-in_err-entries c = record {
   entries = IfOk-from_err _ _ c.from_residual.ensures.0;
+  new = IfOk-from_err _ _ c.from_residual.ensures.0;
   joined = IfOk-from_err _ _ c.from_residual.ensures.0;
   count = IfOk-from_err _ _ c.from_residual.ensures.0;
   listed = IfOk-from_err _ _ c.from_residual.ensures.0;
@@ -81,6 +82,7 @@ returns-in_err-entries c = record {
 pub returns-in_err-sets : goal.returns-in_err-sets
 returns-in_err-sets c = record {
   entries = IfOk-from_err _ _ c.from_residual-in_err-sets.ensures.0;
+  new = IfOk-from_err _ _ c.from_residual-in_err-sets.ensures.0;
   joined = IfOk-from_err _ _ c.from_residual-in_err-sets.ensures.0;
   count = IfOk-from_err _ _ c.from_residual-in_err-sets.ensures.0;
   listed = IfOk-from_err _ _ c.from_residual-in_err-sets.ensures.0;
