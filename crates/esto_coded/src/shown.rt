@@ -1,13 +1,14 @@
 //! Rows of codes as rows of texts.
 ghost use Rattle.std.specs.Prelude.{◌↔◌, ◌<◌, ◌≤◌, ℕ, List, length, Contains, IsTrue, IfOk};
 ghost use Rattle.esto_columns.specs.Interned.{AreCodesOf};
-ghost use Rattle.esto_columns.specs.Lent.{AreRising};
+ghost use Rattle.esto_rows.specs.Lent.{AreRising};
 ghost use Rattle.esto_coded.specs.Coded.{rows_in};
 ghost use Rattle.esto_coded.specs.Shown.{HasNodeAt, LeastNode};
 ghost use Rattle.esto_coded.specs.declared.coded.TheConstants.{FIRST_NODE};
 
 use crate::coded::{CodedFacts, FIRST_NODE};
-use esto_columns::{Column, Rows, sorted_texts};
+use esto_columns::{Column, Rows};
+use esto_rows::sorted_texts;
 use esto_term::{OutOfMemory, TextRows};
 use std::alloc::Global;
 

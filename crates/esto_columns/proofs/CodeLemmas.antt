@@ -1,14 +1,14 @@
 -- Texts that have codes.
-use Rattle.std.proofs.Common.{◌≡◌, inl, inr, ℕ, ◌+◌, ◌<◌, Bool, cond, List, [], ◌∷◌, ◌++◌, map, take, length, slice_get, Some, get_or, Contains}
+use Rattle.std.proofs.Common.{◌≡◌, inl, inr, ℕ, ◌+◌, ◌<◌, Bool, cond, List, [], ◌∷◌, ◌++◌, map, length, slice_get, Some, get_or, Contains}
 use Rattle.std.proofs.Common.{sym, ap, ◌∙◌, subst, arith}
 use Rattle.std.specs.Prelude.{IsUtf8}
 use Rattle.std.specs.Bool.{Decides}
 use Rattle.std.specs.List.{list_any}
-use Rattle.std.proofs.lemmas.List.{length-map, map-append, map_more, get_or-map}
+use Rattle.std.proofs.lemmas.List.{length-map, map-append, get_or-map}
 use Rattle.std.proofs.lemmas.List.Elements.{Contains-push_cases}
 use Rattle.esto_term.proofs.ListLemmas.{map_at}
 use Rattle.esto_term.proofs.PlaceLemmas.{item_at}
-use Rattle.esto_columns.specs.Interned.{AreCodesOf, AreTexts}
+use Rattle.esto_columns.specs.Interned.{AreTexts}
 use Rattle.esto_columns.proofs.NumberLemmas.{grown_by, distinct_grown}
 
 pub texts_grown : {X : Type 0} (seen : X → List ℕ) (wanted : List ℕ) (test : X → Bool) (told_of : (thing : X) → Decides (test thing) (seen thing ≡ wanted))
@@ -25,15 +25,6 @@ texts_grown seen wanted test told_of things new thing is e texts utf8 = record {
         ]
   ];
 }
-
--- the texts of the codes so far, with that of one more
-pub texts_pushed : {X : Type 0} (seen : X → List ℕ) (texts : List (List ℕ)) (row : List ℕ) (place : ℕ) (old new : List X) (thing : X)
-    → new ≡ old ++ thing ∷ [] → slice_get texts (get_or row place 0) ≡ Some (seen thing) → AreCodesOf texts (take place row) (map seen old)
-    → place < length row → AreCodesOf texts (take (place + 1) row) (map seen new)
-texts_pushed seen texts row place old new thing grown found so_far within =
-    map_more (slice_get texts) row place 0 within ∙ ap (λ it. it ++ slice_get texts (get_or row place 0) ∷ []) so_far
-    ∙ ap (λ it. map Some (map seen old) ++ it ∷ []) found
-    ∙ sym (ap (λ all. map Some (map seen all)) grown ∙ ap (map Some) (map-append seen old (thing ∷ [])) ∙ map-append Some (map seen old) (seen thing ∷ []))
 
 pub text_is_utf8 : {X : Type 0} (seen : X → List ℕ) (keys items : List X) (value : List (List ℕ)) → map seen keys ≡ value → items ≡ keys
     → (code : ℕ) (key : X) (bytes : List ℕ) → code < length value → key ≡ get_or items code key → bytes ≡ seen key

@@ -4,9 +4,6 @@ pub mod RowLemmas
 pub mod PickLemmas
 pub mod StoredLemmas
 pub mod CodingLemmas
-pub mod SortedLemmas
-pub mod LeadLemmas
 pub mod IndexLemmas
 pub mod RowIndexLemmas
 pub mod FindLemmas
-pub mod RisingLemmas

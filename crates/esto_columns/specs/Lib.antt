@@ -5,5 +5,3 @@ pub mod Picked
 pub mod Indexed
 pub mod Interned
 pub mod RowIndexes
-pub mod Lent
-pub mod Leads

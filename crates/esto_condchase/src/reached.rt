@@ -10,8 +10,8 @@ ghost use Rattle.esto_condchase.specs.declared.reached.Reached.{Reached};
 
 use esto_bits::Products;
 use esto_chase_laws::Claim;
-use esto_known::{Group, Groups, both, touch_all};
-use esto_prov::{followed, taken_terms};
+use esto_known::{Group, Groups, minimal_unions, touch_all};
+use esto_prov::{both, taken_terms};
 use esto_semantics::Atom;
 use esto_term::{List, OutOfMemory, Term, Terms, equal_terms, push};
 use std::alloc::Global;
@@ -73,7 +73,7 @@ fn add_new(
     ensures reach { OnOk result ((own : List Term) (set : List Bool) → Reach ones.new.items own set
         ↔ (Reach ones.old.items own set ⊎ IsReachedBy to sets.now.sets others.now.sets own set)) }
 {
-    let by = both(alloc, sets, others)?;
+    let by = minimal_unions(alloc, sets, others)?;
     push(ones, Reached { to, by })
 }
 
@@ -171,7 +171,7 @@ fn step_by(
         ↔ (Reach later.old.items to set
         ⊎ StepsBy groups.now from.now these.now atom.now one.now by.now.sets fact.now to set)) }
 {
-    let to = followed(alloc, &one.to, &fact.terms)?;
+    let to = both(alloc, one.to.items(), fact.terms.items())?;
     let needs = touching(
         alloc,
         groups,

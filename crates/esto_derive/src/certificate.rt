@@ -27,7 +27,7 @@ use esto_chase_laws::derived_entries_are_reasoned;
 use esto_condchase::entries_decide_answers;
 use esto_constraint::Constraint;
 use esto_mapping::Catalogue;
-use esto_prov::{Entries, Entry, followed, terms_of};
+use esto_prov::{Entries, Entry, both, terms_of};
 use esto_query::{Query, queries_are_sound};
 use esto_semantics::Atom;
 use esto_term::{Bytes, List, OutOfMemory, Terms};
@@ -39,7 +39,7 @@ fn head_and_body(alloc: Global, head: &Terms, body: &[Atom]) -> Result<Terms, Ou
     ensures { IfOk result (λ it. it ≡ head.now ++ terms_of body.now) }
 {
     let terms = terms_of(alloc, body)?;
-    followed(alloc, head, &terms)
+    both(alloc, head.items(), terms.items())
 }
 
 /// The targets, and then the terms of the facts at the places.
@@ -53,7 +53,7 @@ fn targets_and_facts(
     ensures { IfOk result (λ it. it ≡ targets.now ++ terms_at entries.now facts.now) }
 {
     let terms = terms_at(alloc, entries, facts)?;
-    followed(alloc, targets, &terms)
+    both(alloc, targets.items(), terms.items())
 }
 
 /// Entries of equalities in the world by which the targets are one with the head, and the terms of the facts at the places

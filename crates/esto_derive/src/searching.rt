@@ -9,7 +9,7 @@ ghost use Rattle.esto_chase_laws.specs.Worlds.{AreOfCount, InWorld, Linked};
 ghost use Rattle.esto_derive.specs.Searching.{AddsChain, AreAllLinks, AreLinks, IsFound, IsFoundAfter, IsFoundBy, IsFoundIfOne};
 
 use crate::world::World;
-use esto_prov::{Claim, Entry, followed, taken_terms};
+use esto_prov::{Claim, Entry, both, taken_terms};
 use esto_semantics::Atom;
 use esto_term::{List, OutOfMemory, Term, Terms};
 use std::alloc::Global;
@@ -132,8 +132,8 @@ impl World<'_> {
         if fact.relation != atom.relation || fact.terms.len() != atom.terms.len() {
             return Ok(None);
         }
-        let longer = followed(alloc, from, &atom.terms)?;
-        let met = followed(alloc, to, &fact.terms)?;
+        let longer = both(alloc, from.items(), atom.terms.items())?;
+        let met = both(alloc, to.items(), fact.terms.items())?;
         self.find_if_one(alloc, &longer, &met, &atom.terms, &fact.terms, rest)
     }
 

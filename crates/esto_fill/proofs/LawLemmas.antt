@@ -13,8 +13,8 @@ use Rattle.esto_docmodel.specs.Shapes.{entries_of}
 use Rattle.esto_docs.specs.Documents.{document, documents_text}
 use Rattle.esto_relmodel.specs.Once.{StandsBefore, AreEachOnce}
 use Rattle.esto_relmodel.specs.RowFacts.{row_fact, AreRowFacts}
-use Rattle.esto_columns.proofs.RisingLemmas.{one_by_before}
-use Rattle.esto_columns.specs.Lent.{RisingRowsAreOne}
+use Rattle.esto_rows.proofs.RisingLemmas.{one_by_before}
+use Rattle.esto_rows.specs.Lent.{RisingRowsAreOne}
 use Rattle.esto_semantics.specs.Facts.{Database}
 use Rattle.esto_semantics.specs.Queries.{ConjunctiveQuery, IsAnswer}
 use Rattle.esto_semantics.specs.Unions.{IsUnionAnswer}

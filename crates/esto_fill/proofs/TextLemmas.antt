@@ -10,7 +10,7 @@ use Rattle.std.proofs.lemmas.List.Elements.{Contains-push_cases, Contains-append
 use Rattle.std.proofs.lemmas.Bool.{cases_order}
 use Rattle.std.proofs.lemmas.Option.{slice_get_read, slice_get_within}
 use Rattle.esto_query.specs.Rows.{IsAscending, row_cmp}
-use Rattle.esto_columns.specs.Lent.{AreRising}
+use Rattle.esto_rows.specs.Lent.{AreRising}
 use Rattle.esto_query.specs.Making.{query_of}
 use Rattle.esto_semantics.specs.Facts.{Database}
 use Rattle.esto_semantics.specs.Maps.{AreFlat}

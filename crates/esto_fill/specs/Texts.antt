@@ -1,6 +1,6 @@
 -- Rows of values as rows of texts. A set of rows of values is given by a predicate.
 use Rattle.std.specs.Prelude.{◌≡◌, ◌↔◌, ℕ, suc, ◌<◌, ◌≤◌, List, Some, map, slice_get, Contains, Result, Ok, Err}
-use Rattle.esto_columns.specs.Lent.{AreRising}
+use Rattle.esto_rows.specs.Lent.{AreRising}
 use Rattle.esto_semantics.specs.Facts.{Database}
 use Rattle.esto_semantics.specs.Queries.{ConjunctiveQuery, IsAnswer}
 use Rattle.esto_semantics.specs.declared.fact.Value.{Value}

@@ -2,7 +2,7 @@
 ghost use Rattle.esto_fill.specs.Laws.{AnswersRestOnDatasets, AnswersRestOnWantedFacts, DocumentsAreLawful, LoadedAreFlat, FactsStand, FactsAreOne, FaultsAreOne, ReadableHaveNone, AnswersAreOne};
 ghost use Rattle.esto_fill.specs.Laws.{UnionAnswersAreOne, JudgementsAreOne, FillsAreOne, AuditsAreOne, AuditsAreOverFiles};
 
-use esto_columns::rising_rows_are_one;
+use esto_rows::rising_rows_are_one;
 use esto_semantics::databases_stand_for_facts;
 
 /// A law: what is loaded keeps what its description says.

@@ -29,5 +29,5 @@ pub use hashes::term_hash;
 pub use kept::{Kept, hash_at, places_met, telling_places, term_at};
 pub use known::Known;
 pub use live::{facts_of, has_later, links_of};
-pub use touching::{both, touch_all};
+pub use touching::{minimal_unions, touch_all};
 pub use way::Way;

@@ -11,7 +11,7 @@ use esto_term::{OutOfMemory, Replicate, Term};
 use std::alloc::Global;
 
 /// The minimal unions of one of the sets and one of the others.
-pub fn both(alloc: Global, sets: &Products, others: &Products) -> Result<Products, OutOfMemory>
+pub fn minimal_unions(alloc: Global, sets: &Products, others: &Products) -> Result<Products, OutOfMemory>
     requires { others.now.count ≡ sets.now.count }
     ensures count { IfOk result (λ it. it.count ≡ sets.now.count) }
     ensures covers { IfOk result (λ it. CoversBoth sets.now.sets others.now.sets it.sets) }
@@ -36,7 +36,7 @@ fn linked(
     let Some(group) = groups.linking(term, other) else {
         return Ok(Products::new(alloc, sets.count()));
     };
-    both(alloc, sets, &group.by)
+    minimal_unions(alloc, sets, &group.by)
 }
 
 /// Keeps of the sets those in whose worlds the two terms touch.

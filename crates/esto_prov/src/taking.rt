@@ -6,7 +6,7 @@ ghost use Rattle.esto_chase_laws.specs.Making.{made_for};
 ghost use Rattle.esto_chase_laws.specs.WorldMatches.{taken};
 ghost use Rattle.esto_prov.specs.Taking.{made_of};
 
-use crate::lists::{both, put_made, put_terms};
+use crate::lists::{put_made, put_terms};
 use esto_semantics::Atom;
 use esto_term::{List, OutOfMemory, Replicate, Term, Terms, has_term};
 use std::alloc::Global;
@@ -20,13 +20,6 @@ pub fn terms_of(alloc: Global, atoms: &[Atom]) -> Result<Terms, OutOfMemory>
         put_terms(alloc, atom.terms.items(), &mut terms)?;
     }
     Ok(terms)
-}
-
-/// The terms, and then the others, copied.
-pub fn followed(alloc: Global, terms: &Terms, others: &Terms) -> Result<Terms, OutOfMemory>
-    ensures { IfOk result (λ it. it ≡ terms.now ++ others.now) }
-{
-    both(alloc, terms.items(), others.items())
 }
 
 /// The term that a term meets first.

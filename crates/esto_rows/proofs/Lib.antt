@@ -1,3 +1,6 @@
 pub mod SameLemmas
+pub mod SortedLemmas
+pub mod LeadLemmas
+pub mod RisingLemmas
 pub mod ToldLemmas
 pub mod WantedLemmas

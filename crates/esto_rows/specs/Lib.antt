@@ -1,3 +1,5 @@
 pub mod Same
+pub mod Lent
+pub mod Leads
 pub mod Told
 pub mod Wanted

@@ -16,7 +16,7 @@ use Rattle.esto_term.proofs.ChoiceLemmas.{Decided, least_below, pairs_append}
 use Rattle.esto_term.proofs.ListLemmas.{Contains-at, Contains-nil, Contains-head, Contains-cases, at_left, place-from_Contains, thing_at}
 use Rattle.esto_term.proofs.PlaceLemmas.{take-item}
 use Rattle.esto_semantics.specs.Queries.{ConjunctiveQuery}
-use Rattle.esto_columns.proofs.RisingLemmas.{one_by_before}
+use Rattle.esto_rows.proofs.RisingLemmas.{one_by_before}
 use Rattle.esto_run.specs.Picks.{candidate_of}
 use Rattle.esto_run.specs.Used.{Uses, UsesFirst, AreUsed, AreUsedByAll, AddsUse, StandsFirst, AreFirsts, fragments_of}
 use Rattle.esto_run.specs.declared.picks.Pick.{Pick}

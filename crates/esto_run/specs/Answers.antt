@@ -5,7 +5,7 @@ use Rattle.esto_term.specs.declared.term.Term.TheOpen.{Term-F}
 use Rattle.esto_query.specs.declared.query.Name.{Name}
 use Rattle.esto_query.specs.declared.query.Name.TheVariants.{Given, Hidden}
 use Rattle.esto_query.specs.declared.query.Query.{Query}
-pub use Rattle.esto_columns.specs.Lent.{AreRising}
+pub use Rattle.esto_rows.specs.Lent.{AreRising}
 use Rattle.esto_stores.specs.Rows.{Row}
 use Rattle.esto_stores.specs.TableText.{table_text}
 

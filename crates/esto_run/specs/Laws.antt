@@ -15,7 +15,7 @@ use Rattle.esto_semantics.specs.declared.fact.Value.{Value}
 use Rattle.esto_semantics.specs.declared.fact.Value.TheVariants.{Text}
 use Rattle.esto_term.specs.declared.term.Term.{Term}
 use Rattle.esto_stores.specs.Rows.{Row}
-pub use Rattle.esto_columns.specs.Lent.{RisingRowsAreOne}
+pub use Rattle.esto_rows.specs.Lent.{RisingRowsAreOne}
 use Rattle.esto_run.specs.Opened.{AreOpened}
 use Rattle.esto_docs.specs.Stores.{IsFileRow}
 use Rattle.esto_run.specs.Used.{AreUsed, AreUsedByAll}

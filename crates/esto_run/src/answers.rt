@@ -1,13 +1,14 @@
 //! The text of a query's answers.
 ghost use Rattle.std.specs.Prelude.{◌≡◌, ◌<◌, ℕ, List, length, All, Contains, IfOk};
 ghost use Rattle.esto_term.specs.declared.term.Term.{out-Term};
-ghost use Rattle.esto_columns.specs.Lent.{lent_rows};
+ghost use Rattle.esto_rows.specs.Lent.{lent_rows};
 ghost use Rattle.esto_stores.specs.Rows.{Row};
 ghost use Rattle.esto_run.specs.Answers.{IsAnswersText, level_name, head_names, rows_text};
 ghost use Rattle.esto_run.specs.Coded.{IsCodedRow};
 
-use esto_columns::{Codes, Rows, sorted_rows};
+use esto_columns::{Codes, Rows};
 use esto_query::{Name, Names, Query};
+use esto_rows::sorted_rows;
 use esto_stores::{write_lent_records, write_records};
 use esto_term::{Bytes, List, OutOfMemory, Replicate, Term, Text, TextRow, TextRows};
 use std::alloc::Global;

@@ -17,7 +17,7 @@ mod unions;
 mod used;
 
 pub use answers::answers_text;
-pub use esto_columns::rising_rows_are_one;
+pub use esto_rows::rising_rows_are_one;
 pub use fragment_laws::{fragment_files_are_one, readable_fragments_are_opened};
 pub use fragments::open_fragments;
 pub use held::FragmentRows;

@@ -14,10 +14,11 @@ ghost use Rattle.esto_run.specs.Opened.{AreRowsFor, HaveTexts, held_of, rows_hel
 
 use crate::answers::coded_answers_text;
 use crate::held::FragmentRows;
-use esto_columns::{Codes, Rows, StoredRows, sorted_texts};
+use esto_columns::{Codes, Rows, StoredRows};
 use esto_exec::run_plan;
 use esto_plan::{plan_of, results_are_candidate_answers, results_have_texts};
 use esto_query::Query;
+use esto_rows::sorted_texts;
 use esto_semantics::chosen_atoms_are_named;
 use esto_term::{Bytes, OutOfMemory, TextRows};
 use esto_views::{FragmentDefs, Order, Plan};

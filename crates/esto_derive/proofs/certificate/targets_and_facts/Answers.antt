@@ -5,4 +5,4 @@ use Rattle.esto_derive.proofs.certificate.targets_and_facts.Goals as goal
 
 pub returns : goal.returns
 returns c =
-    IfOk-weaker c.followed.result _ _ (λ all is. is ∙ ap (λ (it : List Term). c.args.targets.now ++ it) c.in_ok-terms.ensures) c.followed.ensures
+    IfOk-weaker c.both.result _ _ (λ all is. is ∙ ap (λ (it : List Term). c.args.targets.now ++ it) c.in_ok-terms.ensures) c.both.ensures

@@ -1,6 +1,6 @@
 use Rattle.std.proofs.Common.{◌≡◌, All, length, ap, sym, subst, ◌∙◌}
 use Rattle.std.proofs.lemmas.Result.{IfOk-weaker}
-use Rattle.esto_columns.specs.Lent.{lent_rows}
+use Rattle.esto_rows.specs.Lent.{lent_rows}
 use Rattle.esto_run.specs.Answers.{rows_text}
 use Rattle.esto_run.proofs.RunLemmas.{all_long}
 use Rattle.esto_run.proofs.answers.coded_answers_text.Goals as goal

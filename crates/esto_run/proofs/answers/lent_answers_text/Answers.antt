@@ -1,7 +1,7 @@
 use Rattle.std.proofs.Common.{◌<◌, [], length, get_or, ap, sym, subst, ◌∙◌}
 use Rattle.std.proofs.lemmas.List.{get_or-map, length-map}
 use Rattle.std.proofs.lemmas.Result.{IfOk-weaker}
-use Rattle.esto_columns.specs.Lent.{lent_row, lent_rows}
+use Rattle.esto_rows.specs.Lent.{lent_row, lent_rows}
 use Rattle.esto_stores.specs.TableText.{table_text}
 use Rattle.esto_run.specs.Answers.{level_name}
 use Rattle.esto_term.specs.declared.term.Term.{out-Term}
