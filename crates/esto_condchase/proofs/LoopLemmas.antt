@@ -76,7 +76,8 @@ given_turn facts count place fact entries later it product within is it_is count
   ];
   given = λ other inside atoms in_atoms. elim (Contains-push_cases (take place facts) fact other
       (subst (λ its. Contains its other) (take-item facts place fact within is) inside)) [
-        | inl earlier ↦ InWorld-more entries later atoms (added_keeps entries later entry_of added) (Stated other.fact) (so_far.given other earlier atoms in_atoms)
+        | inl earlier ↦ InWorld-more entries later atoms (added_keeps entries later entry_of added) (Stated other.fact)
+            (so_far.given other earlier atoms in_atoms)
         | inr same ↦
             let here : InWorld later atoms (Stated it) =
             added_there entries later entry_of added atoms

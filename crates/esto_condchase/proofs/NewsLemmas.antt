@@ -14,7 +14,7 @@ use Rattle.esto_chase_laws.specs.Worlds.{InWorld}
 use Rattle.esto_chase_laws.specs.WorldSteps.{AreAnswered, AreJoined}
 use Rattle.esto_chase_laws.specs.declared.entry.Claim.TheVariants.{Fact as Stated, Same}
 use Rattle.esto_chase_laws.specs.declared.entry.Entry.{Entry}
-use Rattle.std.proofs.lemmas.List.Elements.{Contains-append_cases, Contains-append_right}
+use Rattle.std.proofs.lemmas.List.Elements.{Contains-append_right}
 use Rattle.std.proofs.Common.{Bool}
 use Rattle.std.specs.List.{AllZip}
 use Rattle.esto_term.proofs.ListLemmas.{Contains-head, Contains-rest}
@@ -25,7 +25,8 @@ use Rattle.esto_chase_laws.specs.Derived.{Claims, IsNamed}
 use Rattle.esto_chase_laws.specs.WorldMatches.{IsDirectMatch}
 use Rattle.esto_chase_laws.specs.declared.entry.Claim.{Claim}
 use Rattle.esto_chase_laws.proofs.LinkLemmas.{Touching-more}
-use Rattle.esto_condchase.specs.Ways.{IsFound, IsOldWay}
+use Rattle.esto_condchase.specs.Ways.{IsFound}
+use Rattle.esto_known.specs.KeptWays.{IsOldWay}
 use Rattle.esto_known.specs.declared.way.Way.{Way}
 use Rattle.esto_condchase.specs.News.{IsApart, IsSettled, AreFoundAnew}
 
@@ -128,13 +129,6 @@ module _ (entries : List Entry) (since : ℕ) (body : List (Fact Term)) (way : W
         (map (match_map body found.chosen) (terms_of body))
         (λ s t _ one. Touching-more link_held s t one) found.is_way.fits,
   )
-
-pub all_old : (way : Way) (since : ℕ) (facts links : List ℕ) → facts ≡ way.facts → links ≡ way.links → ((place : ℕ) → Contains facts place → place < since)
-    → ((place : ℕ) → Contains links place → place < since) → IsOldWay since way
-all_old way since facts links facts_are links_are by_facts by_links place inside = elim (Contains-append_cases way.facts way.links place inside) [
-  | inl here ↦ by_facts place (subst (λ it. Contains it place) (sym facts_are) here)
-  | inr there ↦ by_links place (subst (λ it. Contains it place) (sym links_are) there)
-]
 
 -- ---- from round to round
 

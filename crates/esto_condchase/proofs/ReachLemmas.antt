@@ -38,7 +38,7 @@ use Rattle.esto_known.specs.Told.{Tell}
 use Rattle.esto_known.specs.declared.group.Group.{Group}
 use Rattle.esto_condchase.specs.declared.reached.Reached.{Reached}
 use Rattle.esto_known.proofs.CoverLemmas.{covers_covered}
-use Rattle.esto_condchase.proofs.WayLemmas.{taken-new}
+use Rattle.esto_prov.proofs.MeetLemmas.{taken-new}
 
 -- ---- going on
 
@@ -127,7 +127,8 @@ module _ (from to terms these : List Term) (lengths : length from ≡ length to)
     | inr by ↦ by these told_to ∙ substituted_map (taken from to) these term inside
   ]
 
-  pub told_more : (more owns : List Term) (term : Term) → Contains terms term → taken (these ++ more) (told_to ++ owns) term ≡ taken (from ++ more) (to ++ owns) term
+  pub told_more : (more owns : List Term) (term : Term) → Contains terms term
+      → taken (these ++ more) (told_to ++ owns) term ≡ taken (from ++ more) (to ++ owns) term
   told_more more owns term inside = by (is_member same_term these term) (is_member-Decides same_term-Decides these term) refl
     where
       by : (answer : Bool) → Decides (is_member same_term these term) (Contains these term) → is_member same_term these term ≡ answer
@@ -140,7 +141,8 @@ module _ (from to terms these : List Term) (lengths : length from ≡ length to)
           let none : Contains these term → ⊥ = λ here. false≢true (sym is ∙ decides.1 here) in
           elim (tell.told term inside) [
             | inl here ↦ absurd (none here)
-            | inr apart ↦ taken-new these told_to more owns (sym (length-map these (taken from to))) term none ∙ sym (taken-new from to more owns lengths term apart)
+            | inr apart ↦ taken-new these told_to more owns (sym (length-map these (taken from to))) term none
+                ∙ sym (taken-new from to more owns lengths term apart)
           ]
 
 module _ (Holds : Claim → Type 0) (from to these : List Term) (rest : List (Fact Term)) (lengths : length from ≡ length to)
@@ -228,7 +230,8 @@ module _ (entries : List Entry) (groups : List Group) (are_groups : AreGroups en
   abbrev longer : List Term
   longer = from ++ atom.terms
 
-  longer_lengths : (to : List Term) (fact : Fact Term) → length from ≡ length to → length fact.terms ≡ length atom.terms → length longer ≡ length (to ++ fact.terms)
+  longer_lengths : (to : List Term) (fact : Fact Term) → length from ≡ length to → length fact.terms ≡ length atom.terms
+      → length longer ≡ length (to ++ fact.terms)
   longer_lengths to fact l same = rw (length-append, length-append) (omega (arith, l, same))
 
   pub lengths_turn : AreLong later_from later
@@ -375,7 +378,8 @@ pub led_turn : (entries : List Entry) (groups : List Group) → AreGroups entrie
     → place < length body → atom ≡ get_or body place atom → rest ≡ drop (place + 1) body → LedSoFar entries head body targets place from ones
     → IsNext groups atom rest from ones later_from later → LedSoFar entries head body targets (place + 1) later_from later
 led_turn entries groups are_groups head body targets place atom rest from ones later_from later within is rest_is so_far next =
-    let own : IsNext groups atom (drop (place + 1) body) from ones later_from later = subst (λ it. IsNext groups atom it from ones later_from later) rest_is next in
+    let own : IsNext groups atom (drop (place + 1) body) from ones later_from later =
+    subst (λ it. IsNext groups atom it from ones later_from later) rest_is next in
     let turn = leads_turn entries groups are_groups atom (drop (place + 1) body) from ones so_far.lengths later_from later own in
     let split : drop place body ≡ atom ∷ drop (place + 1) body = drop-item body place atom within is in
     record {
@@ -386,8 +390,8 @@ led_turn entries groups are_groups head body targets place atom rest from ones l
       lengths = lengths_turn entries groups are_groups atom (drop (place + 1) body) from ones so_far.lengths later_from later own;
     }
 
-pub led_all : (entries : List Entry) (head : List Term) (body : List (Fact Term)) (targets : List Term) (place : ℕ) (from : List Term) (ones items : List Reached)
-    (sets : List (List Bool)) → length body ≤ place → items ≡ ones → LedSoFar entries head body targets place from ones
+pub led_all : (entries : List Entry) (head : List Term) (body : List (Fact Term)) (targets : List Term) (place : ℕ) (from : List Term)
+    (ones items : List Reached) (sets : List (List Bool)) → length body ≤ place → items ≡ ones → LedSoFar entries head body targets place from ones
     → ((set : List Bool) → Covers sets set ↔ ((one : Reached) × Contains items one × Covers one.by.sets set))
     → (set : List Bool) → Covers sets set ↔ HasMatch (InWorld entries set) head body targets
 led_all entries head body targets place from ones items sets past same so_far exact set =

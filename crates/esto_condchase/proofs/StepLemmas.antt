@@ -1,8 +1,7 @@
 -- What goes on from a way: kept ways, places that tell, supports, and a fact's row.
-use Rattle.std.proofs.Common.{◌≡◌, ◌⊎◌, ◌<◌, ◌≤◌, ◌+◌, inl, inr, zero, suc, ℕ, Bool, true, false, cond, List, [], ◌∷◌, ◌++◌, length, map, take, get_or, slice_get}
-use Rattle.std.proofs.Common.{◌==◌}
+use Rattle.std.proofs.Common.{◌≡◌, ◌⊎◌, ◌<◌, ◌≤◌, ◌+◌, inl, inr, zero, suc, ℕ, Bool, true, false, cond, List, [], ◌∷◌, ◌++◌, length, map, take, get_or}
+use Rattle.std.proofs.Common.{slice_get, ◌==◌, Contains, Option, Some, refl, sym, ap, ◌∙◌, subst, arith}
 use Rattle.std.proofs.lemmas.Bool.Decides.{nat_tests}
-use Rattle.std.proofs.Common.{Contains, Option, Some, refl, sym, ap, ◌∙◌, subst, arith}
 use Rattle.std.specs.List.{AllZip}
 use Rattle.std.proofs.lemmas.List.{get_or_default, length-append, length-map}
 use Rattle.std.proofs.lemmas.List.Elements.{Contains-append_left, Contains-push, Contains-push_cases}
@@ -28,9 +27,9 @@ use Rattle.esto_chase_laws.proofs.TakenLemmas.{Fits-join}
 use Rattle.esto_condchase.proofs.WayLemmas.{IsUnion-more, last_more, fact_more, within_united, IsNamed-held}
 use Rattle.esto_condchase.proofs.JoinLemmas.{says_side}
 use Rattle.esto_condchase.specs.Ways.{Grown, IsTold, HasSupport, meets, IsLinkedFrom, TouchesFrom}
-use Rattle.esto_known.specs.KeptWays.{AreCounted, HasWay}
-use Rattle.esto_known.specs.Live.{AreAllLive, AreAllFacts, IsStale, AreFresh}
-use Rattle.esto_condchase.specs.Ways.{IsFreeLink, floor_of, PassesTo, PassesIn, IsPassedAt, IsLonger, IsSupport, AreLonger, AreSupports, ComesBy, Comes, extended, IsOldWay, GoesOn}
+use Rattle.esto_known.specs.KeptWays.{AreCounted, HasWay, IsOldWay}
+use Rattle.esto_known.specs.Live.{AreAllLive, AreAllFacts, IsFreeLink, IsStale, AreFresh}
+use Rattle.esto_condchase.specs.Ways.{floor_of, PassesTo, PassesIn, IsPassedAt, IsLonger, IsSupport, AreLonger, AreSupports, ComesBy, Comes, extended, GoesOn}
 use Rattle.esto_condchase.specs.declared.passing.Support.{Support}
 use Rattle.esto_known.specs.declared.way.Way.{Way}
 
@@ -58,7 +57,8 @@ grown_weaker Comes Goes old new weaker grown = record {
   come = λ it inside. elim (grown.come it inside) [ inl earlier ↦ inl earlier | inr here ↦ inr (weaker it here) ];
 }
 
-pub grown_all : {X : Type 0} (Comes : X → Type 0) (new : List X) (old : List X) → old ≡ [] → Grown Comes old new → (thing : X) → Contains new thing → Comes thing
+pub grown_all : {X : Type 0} (Comes : X → Type 0) (new : List X) (old : List X) → old ≡ [] → Grown Comes old new → (thing : X) → Contains new thing
+    → Comes thing
 grown_all Comes new old none grown thing inside =
     elim (grown.come thing inside) [ inl earlier ↦ absurd (Contains-nil thing (subst (λ it. Contains it thing) none earlier)) | inr here ↦ here ]
 
@@ -146,7 +146,7 @@ pub links_end : (entries : List Entry) (own goal : Term) (links : List ℕ) (flo
     → AreAllLive entries links (λ claim. SaysOne claim own goal)
     → ((place : ℕ) → Contains links place → (entry : Entry) → floor ≤ place → slice_get entries place ≡ Some entry → SaysOne entry.claim own goal
     → Within entry.product set → Found) → IsLinkedFrom entries floor set own goal → Found
-links_end entries own goal links floor start set Found live tried (place, entry, late, at, says, within) =
+links_end entries own goal links floor start set Found live tried (place, (entry, late, at, says, within)) =
     let it = live place entry at says in
     let bound = it.3 in
     tried it.0 it.2 it.1 (omega (arith, late, bound)) it.4 it.5 (λ number has. within number (it.6 number has))
@@ -262,20 +262,20 @@ module _ (entries : List Entry) (m : Term → Term) (terms owns : List Term) (at
 from_world : (entries : List Entry) (set : List Bool) (own goal : Term) → Touching (InWorld entries set) own goal → TouchesFrom entries 0 set own goal
 from_world entries set own goal (inl is) = inl is
 from_world entries set own goal (inr (inl (entry, inside, within, is))) =
-    let at = place-from_Contains entries entry inside in inr (at.0, entry, omega arith, at.1, inl is, within)
+    let at = place-from_Contains entries entry inside in inr (at.0, (entry, omega arith, at.1, inl is, within))
 from_world entries set own goal (inr (inr (entry, inside, within, is))) =
-    let at = place-from_Contains entries entry inside in inr (at.0, entry, omega arith, at.1, inr is, within)
+    let at = place-from_Contains entries entry inside in inr (at.0, (entry, omega arith, at.1, inr is, within))
 
 old_or_new : (entries : List Entry) (floor : ℕ) (set : List Bool) (own goal : Term) → Touching (InWorld entries set) own goal
     → Touching (InWorld (take floor entries) set) own goal ⊎ IsLinkedFrom entries floor set own goal
 old_or_new entries floor set own goal touches = elim (from_world entries set own goal touches) [
   | inl is ↦ inl (inl is)
-  | inr (place, entry, low, at, says, within) ↦ elim (cases_lt place floor) [
+  | inr (place, (entry, low, at, says, within)) ↦ elim (cases_lt place floor) [
     | inl early ↦ inl (inr (elim says [
       | inl is ↦ inl (entry, Contains-take entries floor place entry early at, within, is)
       | inr is ↦ inr (entry, Contains-take entries floor place entry early at, within, is)
     ]))
-    | inr late ↦ inr (place, entry, late, at, says, within)
+    | inr late ↦ inr (place, (entry, late, at, says, within))
   ]
 ]
 
@@ -361,10 +361,11 @@ anew_end entries m terms owns floor product Settled rows each set within passes 
               ] in
               elim (same_or_apart there.0 (m its.0)) [
                 | inl is ↦ inr (more (inl is))
-                | inr unlike ↦ elim (old_or_new entries floor set there.0 (m its.0) (passes_at entries m terms owns set passes count there.0 its.0 there.1 its.1)) [
-                  | inl old ↦ inr (more old)
-                  | inr link ↦ inl (each count (omega (arith, low)) set there.0 its.0 within passes there.1 its.1 unlike link)
-                ]
+                | inr unlike ↦ elim (old_or_new entries floor set there.0 (m its.0)
+                    (passes_at entries m terms owns set passes count there.0 its.0 there.1 its.1)) [
+                      | inl old ↦ inr (more old)
+                      | inr link ↦ inl (each count (omega (arith, low)) set there.0 its.0 within passes there.1 its.1 unlike link)
+                    ]
               ]
         ]
 
@@ -399,9 +400,9 @@ counted_union ways one other product same is counted =
 pub union_count : (one other product : List Bool) (count : ℕ) → length one ≡ count → length other ≡ count → product ≡ united one other → length product ≡ count
 union_count one other product count first second is = ap length is ∙ length-united one other (first ∙ sym second) ∙ first
 
-pub come_by : (entries : List Entry) (from terms its_to owns : List Term) (before : Way) (place : ℕ) (entry : Entry) (product : List Bool) (start support : Support)
-    (few : ℕ) → its_to ≡ before.to → length owns ≡ length terms → slice_get entries place ≡ Some entry → product ≡ united before.product entry.product
-    → start ≡ record { links = before.links; product = product } → few ≡ length owns
+pub come_by : (entries : List Entry) (from terms its_to owns : List Term) (before : Way) (place : ℕ) (entry : Entry) (product : List Bool)
+    (start support : Support) (few : ℕ) → its_to ≡ before.to → length owns ≡ length terms → slice_get entries place ≡ Some entry
+    → product ≡ united before.product entry.product → start ≡ record { links = before.links; product = product } → few ≡ length owns
     → IsSupport entries (meets from terms its_to owns) terms owns start few support
     → ComesBy entries from terms before place owns (extended before place owns support)
 come_by entries from terms its_to owns before place entry product start support few to_is rows at product_is start_is few_is its = (
@@ -414,7 +415,8 @@ come_by entries from terms its_to owns before place entry product start support 
       zip_by_places One owns (map (meets from terms its_to owns) terms) (rw length-map rows) (λ index own goal at_own at_goal.
       let within = slice_get_within owns index own at_own in
       let there = thing_at terms index (omega (arith, within, rows)) in
-      subst (One own) (same_Some (meets from terms its_to owns there.0) goal (sym (map_at (meets from terms its_to owns) terms index there.0 there.1) ∙ at_goal))
+      subst (One own) (same_Some (meets from terms its_to owns there.0) goal
+      (sym (map_at (meets from terms its_to owns) terms index there.0 there.1) ∙ at_goal))
       (its.touch index own there.0 (subst (λ n. index < n) (sym few_is) within) at_own there.1)) in
       record {
         lengths = rw (length-append, length-append) (omega (arith, way.lengths, rows));
@@ -439,7 +441,8 @@ pub kept_come : (entries : List Entry) (from terms its_to owns : List Term) (bef
     → ((support : Support) → Contains supports support → IsSupport entries (meets from terms its_to owns) terms owns start few support)
     → Grown (λ way. (support : Support) × Contains items support × (way ≡ extended before place owns support)) ways later
     → Grown (ComesBy entries from terms before place owns) ways later
-kept_come entries from terms its_to owns before place entry product start few supports items ways later to_is rows at product_is start_is few_is same its grown =
+kept_come entries from terms its_to owns before place entry product start few supports items ways later to_is rows at product_is start_is few_is
+    same its grown =
     grown_weaker (λ way. (support : Support) × Contains items support × (way ≡ extended before place owns support))
     (ComesBy entries from terms before place owns) ways later (λ way (support, inside, is). subst (ComesBy entries from terms before place owns) (sym is)
     (come_by entries from terms its_to owns before place entry product start support few to_is rows at product_is start_is few_is
@@ -565,7 +568,8 @@ supports_end entries m terms owns at floor Settled start few supports past its =
   go_on = λ set within passes. its.go_on set within (λ index own term below at_own. passes index own term (slice_get_within owns index own at_own) at_own);
 }
 
-pub entry_grown : (entries : List Entry) (from terms owns : List Term) (atom fact : Fact Term) (before : Way) (place : ℕ) (entry : Entry) (ways later : List Way)
+pub entry_grown : (entries : List Entry) (from terms owns : List Term) (atom fact : Fact Term) (before : Way) (place : ℕ) (entry : Entry)
+    (ways later : List Way)
     → terms ≡ atom.terms → owns ≡ fact.terms → slice_get entries place ≡ Some entry → entry.claim ≡ Stated fact → IsLike atom fact
     → Grown (ComesBy entries from terms before place owns) ways later → Grown (Comes entries from atom before) ways later
 entry_grown entries from terms owns atom fact before place entry ways later terms_is owns_is at states like grown =
@@ -583,8 +587,8 @@ pub entry_goes : (entries : List Entry) (from terms to owns : List Term) (atom f
     → ((set : List Bool) → Within before.product set → Within entry.product set → PassesIn entries (meets from terms to owns) terms owns set
     → IsTold entries sides places later (to ++ owns) set ⊎ ((0 < floor) × PassesIn (take floor entries) (meets from terms to owns) terms owns set))
     → GoesAt entries from atom sides places before later floor place
-entry_goes entries from terms to owns atom fact sides places before place floor entry later terms_is to_is owns_is at states there its its_fact set its_at its_states
-    like within its_within passes =
+entry_goes entries from terms to owns atom fact sides places before place floor entry later terms_is to_is owns_is at states there its its_fact set
+    its_at its_states like within its_within passes =
     let entry_is : entry ≡ its = same_Some entry its (sym at ∙ its_at) in
     let claims : Stated fact ≡ Stated its_fact = sym states ∙ ap (λ (it : Entry). it.claim) entry_is ∙ its_states in
     let fact_is : fact ≡ its_fact = cc in
@@ -616,8 +620,8 @@ pub passed_unlinked : (entries : List Entry) (m : Term → Term) (terms owns : L
     (read d read_term e goal : Term) (links : List ℕ) → at < length owns → at < length terms → read ≡ get_or owns at d → read_term ≡ get_or terms at e
     → goal ≡ m read_term → AreAllLive entries links (λ claim. SaysOne claim read goal) → ((place : ℕ) → Contains links place → place < floor)
     → IsPassedAt entries m terms owns floor product Settled at
-passed_unlinked entries m terms owns at floor product Settled read d read_term e goal links within within_terms read_is read_term_is goal_is live low set own term
-    in_set passes at_own at_term apart (place, entry, late, at_entry, says, entry_within) =
+passed_unlinked entries m terms owns at floor product Settled read d read_term e goal links within within_terms read_is read_term_is goal_is live low set
+    own term in_set passes at_own at_term apart (place, (entry, late, at_entry, says, entry_within)) =
     let own_is = read_is ∙ get_or_default owns at d read within in
     let its_is = read_term_is ∙ get_or_default terms at e read_term within_terms in
     let is_own : own ≡ read = same_Some own read (sym at_own ∙ item_at owns at read within own_is) in
@@ -647,7 +651,8 @@ pub all_old : (entries : List Entry) (m : Term → Term) (terms owns : List Term
     → ((at : ℕ) → at < few → IsPassedAt entries m terms owns floor [] (λ _. ⊥) at)
     → (set : List Bool) → PassesIn entries m terms owns set → PassesIn (take floor entries) m terms owns set
 all_old entries m terms owns floor few rows past each set passes =
-    elim (anew_end entries m terms owns floor [] (λ _. ⊥) rows (λ at below. each at (omega (arith, below, past))) set (λ number has. absurd (none_has 0 number has))
+    elim (anew_end entries m terms owns floor [] (λ _. ⊥) rows (λ at below. each at (omega (arith, below, past))) set
+    (λ number has. absurd (none_has 0 number has))
     passes) [ inl never ↦ absurd never | inr all ↦ all ]
 
 -- ---- what the earlier terms tell
@@ -679,7 +684,7 @@ stale_goes entries since from atom sides places before ways place old (early, st
   old,
   early,
   all_old entries (meets from atom.terms before.to fact.terms) atom.terms fact.terms since (length fact.terms) like.1 (omega arith)
-      (λ index below its own term in_set its_passes at_own at_term apart (link, linking, late, at_link, says, link_within).
+      (λ index below its own term in_set its_passes at_own at_term apart (link, (linking, late, at_link, says, link_within)).
       let low = stale entry fact at states own (Contains-at fact.terms index own at_own) link linking at_link
       (says_side linking.claim own (meets from atom.terms before.to fact.terms term) says) in
       absurd (omega (arith, low, late)))

@@ -91,8 +91,8 @@ module _ (rules : List Rule) (fragments : List FragmentDef) (rank : ℕ → ℕ)
           let given = (fragment_answers database row).0 (answers.equivalent.1 database meets row answer) in
           let received : (IsBroken Holds ⊎ IsDenied rules Holds) → ⊥ =
           (λ which. are.nowhere set which start.body are_facts database meets given.0 given.1 given.2) in
-          found expanded rules entries set start query are_rules are_facts (chosen-given_head plan expanded set sound_plan) are.given (are.sound set) (are.closed set)
-          (λ broken. received (inl broken)) (λ denied. received (inr denied)) (start_contained answers.equivalent.0)
+          found expanded rules entries set start query are_rules are_facts (chosen-given_head plan expanded set sound_plan) are.given (are.sound set)
+          (are.closed set) (λ broken. received (inl broken)) (λ denied. received (inr denied)) (start_contained answers.equivalent.0)
 
       pub told : IsSatisfiable rules query → Matched ↔ AnswersQuery rules (views_of fragments) query (plan_query plan) set
       told satisfiable = (to_answers, from_answers satisfiable)

@@ -1,30 +1,30 @@
 -- Ways that grow by one term, by a row, by an atom and by a body.
-use Rattle.std.proofs.Common.{◌≡◌, ◌⊎◌, ◌↔◌, ◌<◌, ◌≤◌, ◌+◌, inl, inr, ℕ, Bool, true, false, cond, List, [], ◌∷◌, ◌++◌, length, map, take, drop, get_or, slice_get, slice_range, ◌-◌}
-use Rattle.std.proofs.Common.{Contains, Some, refl, sym, ap, ◌∙◌, subst, arith}
+use Rattle.std.proofs.Common.{◌≡◌, ◌⊎◌, ◌↔◌, ◌<◌, ◌≤◌, ◌+◌, inl, inr, ℕ, Bool, true, false, List, [], ◌∷◌, ◌++◌, length, map, take, drop, get_or, slice_get}
+use Rattle.std.proofs.Common.{slice_range, ◌-◌, Contains, Some, refl, sym, ap, ◌∙◌, subst, arith}
 use Rattle.std.specs.List.{AllZip}
 use Rattle.std.proofs.lemmas.List.{append_assoc, length-drop, take_all, drop_all}
 use Rattle.std.proofs.lemmas.List.Elements.{Contains-append_cases, Contains-append_left, Contains-append_right, Contains-push, Contains-push_cases}
 use Rattle.std.proofs.lemmas.Option.{slice_get_within}
-use Rattle.esto_term.specs.declared.term.Term.{Term, out-Term}
+use Rattle.esto_term.specs.declared.term.Term.{Term}
 use Rattle.esto_term.specs.Order.{same_term}
 use Rattle.esto_semantics.proofs.TermLemmas.{same_term-Decides}
 use Rattle.std.specs.Bool.{Decides}
 use Rattle.std.specs.Set.{is_member}
 use Rattle.std.proofs.lemmas.Map.Made.{is_member-Decides}
 use Rattle.std.proofs.lemmas.Bool.{false≢true}
-use Rattle.esto_semantics.specs.Spreads.{substituted}
 use Rattle.esto_term.specs.Sets.{Has, Within, united}
 use Rattle.esto_semantics.specs.declared.fact.Fact.{Fact}
-use Rattle.esto_term.proofs.ListLemmas.{Contains-nil, Contains-head, Contains-rest, Contains-one, map_agree}
+use Rattle.esto_term.proofs.ListLemmas.{Contains-nil, Contains-head, Contains-one, map_agree}
 use Rattle.esto_term.proofs.SetLemmas.{has_united}
 use Rattle.esto_chase_laws.specs.Worlds.{InWorld}
 use Rattle.esto_semantics.specs.Facts.{terms_of}
-use Rattle.esto_chase_laws.specs.WorldMatches.{unless_constant, taken, IsDirectMatch}
+use Rattle.esto_chase_laws.specs.WorldMatches.{taken, IsDirectMatch}
 use Rattle.esto_chase_laws.specs.Derived.{Claims, IsNamed, IsUnion}
 use Rattle.esto_chase_laws.specs.declared.entry.Claim.{Claim}
 use Rattle.esto_chase_laws.specs.declared.entry.Claim.TheVariants.{Fact as Stated}
 use Rattle.esto_chase_laws.specs.declared.entry.Entry.{Entry}
 use Rattle.esto_chase_laws.proofs.TakenLemmas.{taken-stays}
+use Rattle.esto_prov.proofs.MeetLemmas.{taken-new}
 use Rattle.esto_condchase.specs.Ways.{AgreeOn, IsFound, AreFound}
 use Rattle.esto_known.specs.KeptWays.{AreCounted}
 use Rattle.esto_known.specs.Told.{Tell}
@@ -116,33 +116,6 @@ within_united one other atoms left right number has = elim ((has_united one othe
 
 -- ---- agreement on terms
 
--- of a term that stands in none of the first, the later places tell
-substituted-new : (from to more owns : List Term) → length from ≡ length to → (term : Term) → (Contains from term → ⊥)
-    → substituted (from ++ more) (to ++ owns) term ≡ substituted more owns term
-substituted-new [] [] more owns l term apart = refl
-substituted-new [] (target ∷ to) more owns l term apart = absurd (omega (arith, l))
-substituted-new (first ∷ from) [] more owns l term apart = absurd (omega (arith, l))
-substituted-new (first ∷ from) (target ∷ to) more owns l term apart = by (same_term term first) refl
-    (substituted-new from to more owns (omega (arith, l)) term (λ inside. apart (Contains-rest first from term inside)))
-  where
-    by : (answer : Bool) → same_term term first ≡ answer → substituted (from ++ more) (to ++ owns) term ≡ substituted more owns term
-        → cond answer target (substituted (from ++ more) (to ++ owns) term) ≡ substituted more owns term
-    by true told rest = absurd (apart (subst (Contains (first ∷ from)) (sym ((same_term-Decides term first).0 told)) (Contains-head first from)))
-    by false told rest = rest
-
-pub taken-new : (from to more owns : List Term) → length from ≡ length to → (term : Term) → (Contains from term → ⊥)
-    → taken (from ++ more) (to ++ owns) term ≡ taken more owns term
-taken-new from to more owns l term apart = ap (unless_constant (out-Term term) term) (substituted-new from to more owns l term apart)
-
--- what a term meets behind others
-pub met_behind : (from to terms owns : List Term) → length from ≡ length to → (term : Term) → (Contains from term → ⊥) → taken terms owns term
-    ≡ taken (from ++ terms) (to ++ owns) term
-met_behind from to terms owns l term apart = sym (taken-new from to terms owns l term apart)
-
-pub met_within : (from to terms owns : List Term) → length from ≡ length to → (term : Term) → Contains from term → taken from to term
-    ≡ taken (from ++ terms) (to ++ owns) term
-met_within from to terms owns l term inside = sym (taken-stays from to terms owns l term inside)
-
 -- going on by the same terms keeps the agreement
 pub AgreeOn-more : (terms from to others more owns : List Term) → length from ≡ length to → length from ≡ length others → AgreeOn terms from to others
     → AgreeOn terms (from ++ more) (to ++ owns) (others ++ owns)
@@ -170,7 +143,8 @@ AgreeOn-told from terms these to others tell agree term inside = elim (tell.told
   | inr apart ↦ taken-apart from to others term apart
 ]
 
-pub row_agrees : (One : Term → Term → Type 0) (terms from to others owns : List Term) → AgreeOn terms from to others → AllZip One owns (map (taken from others) terms)
+pub row_agrees : (One : Term → Term → Type 0) (terms from to others owns : List Term) → AgreeOn terms from to others
+    → AllZip One owns (map (taken from others) terms)
     → AllZip One owns (map (taken from to) terms)
 row_agrees One terms from to others owns agree row =
     subst (AllZip One owns) (map_agree (taken from others) (taken from to) terms (λ term inside. sym (agree term inside))) row
@@ -199,7 +173,12 @@ found_none entries live sides ways way are no_to no_facts no_links empty = rw ar
   where
     none : (atoms : List Bool) (chosen : List (Fact Term)) → IsDirectMatch (InWorld entries atoms) [] chosen → (it : Way) × Contains (way ∷ []) it
         × AgreeOn live [] it.to (terms_of chosen) × Within it.product atoms
-    none atoms [] matches = (way, Contains-head way [], (λ term _. taken-apart [] way.to [] term (Contains-nil term)), (λ number has. absurd (empty number has)))
+    none atoms [] matches = (
+      way,
+      Contains-head way [],
+      (λ term _. taken-apart [] way.to [] term (Contains-nil term)),
+      (λ number has. absurd (empty number has)),
+    )
     none atoms (fact ∷ chosen) matches = absurd matches.0
 
 -- the last fact of as many as the atoms

@@ -1,11 +1,11 @@
 -- Ways to match the first atoms of a body, with the entries that they use.
-use Rattle.std.specs.Prelude.{◌≡◌, ◌⊎◌, ◌<◌, ◌≤◌, ℕ, Bool, List, [], ◌∷◌, ◌++◌, length, map, replicate, false, take, Contains, Option, Some, slice_get}
+use Rattle.std.specs.Prelude.{◌≡◌, ◌⊎◌, ◌<◌, ℕ, Bool, List, [], ◌∷◌, ◌++◌, length, map, replicate, false, take, Contains, Option, Some, slice_get}
 use Rattle.std.specs.List.{AllZip}
 use Rattle.std.specs.Prelude.{◌==◌, cond}
 use Rattle.esto_term.specs.declared.term.Term.{Term}
 use Rattle.esto_term.specs.Sets.{Within}
 use Rattle.esto_semantics.specs.declared.fact.Fact.{Fact}
-use Rattle.esto_chase_laws.specs.Worlds.{InWorld, SaysOne}
+use Rattle.esto_chase_laws.specs.Worlds.{InWorld}
 use Rattle.esto_semantics.specs.Facts.{terms_of}
 use Rattle.esto_chase_laws.specs.WorldMatches.{IsLike, taken, Touching, Fits, IsDirectMatch}
 use Rattle.esto_chase_laws.specs.Derived.{Claims, IsNamed, IsUnion, IsEquality}
@@ -13,7 +13,8 @@ use Rattle.esto_chase_laws.specs.declared.entry.Claim.TheVariants.{Fact as State
 use Rattle.esto_chase_laws.specs.declared.entry.Entry.{Entry}
 use Rattle.esto_condchase.specs.declared.passing.Support.{Support}
 use Rattle.esto_known.specs.declared.way.Way.{Way}
-use Rattle.esto_known.specs.KeptWays.{HasWay}
+use Rattle.esto_known.specs.KeptWays.{HasWay, IsOldWay}
+use Rattle.esto_known.specs.Live.{IsFreeLink}
 
 -- The way that has matched nothing.
 abbrev pub empty_way : ℕ → Way
@@ -67,13 +68,7 @@ meets from terms to owns = taken (from ++ terms) (to ++ owns)
 
 -- In the set's world the two terms are one by an equality of an entry from a place on.
 abbrev pub IsLinkedFrom : List Entry → ℕ → List Bool → Term → Term → Type 0
-IsLinkedFrom entries floor set own goal =
-    (place : ℕ) × (entry : Entry) × floor ≤ place × (slice_get entries place ≡ Some entry) × SaysOne entry.claim own goal × Within entry.product set
-
--- The entry at the place, from a place on, is an equality of the terms, whose product is within the set.
-abbrev pub IsFreeLink : List Entry → ℕ → Term → Term → List Bool → ℕ → Type 0
-IsFreeLink entries floor own goal product place =
-    (entry : Entry) × floor ≤ place × (slice_get entries place ≡ Some entry) × SaysOne entry.claim own goal × Within entry.product product
+IsLinkedFrom entries floor set own goal = (place : ℕ) × IsFreeLink entries floor own goal set place
 
 -- The two terms are equal, or one by such an equality.
 abbrev pub TouchesFrom : List Entry → ℕ → List Bool → Term → Term → Type 0
@@ -136,10 +131,6 @@ ComesBy entries from terms before place owns way = (way.to ≡ before.to ++ owns
 abbrev pub Comes : List Entry → List Term → Fact Term → Way → Way → Type 0
 Comes entries from atom before way = (place : ℕ) × (fact : Fact Term) × Claims entries place (Stated fact) × IsLike atom fact
     × ComesBy entries from atom.terms before place fact.terms way
-
--- All entries that the way uses are among the first few.
-abbrev pub IsOldWay : ℕ → Way → Type 0
-IsOldWay since way = (place : ℕ) → Contains (way.facts ++ way.links) place → place < since
 
 -- The first few entries alone let the way go on with the fact, in the set's world.
 abbrev pub GoesOld : List Entry → ℕ → List Term → Fact Term → Way → Fact Term → List Bool → Type 0

@@ -104,9 +104,9 @@ fn next(
     add_all(alloc, entries, asked.items(), count)
 }
 
-/// The entries of the expanded facts and the rounds, to the end, where there are no entries yet: each entry follows from
-/// those before it, which do not cover it, each expanded fact is a fact of each world that has its atom, and no rule and no
-/// link asks for more.
+/// The entries of the expanded facts and the rounds, to the end, where there are no entries yet: each entry follows
+/// from those before it, which do not cover it, each expanded fact is a fact of each world that has its atom, and no
+/// rule and no link asks for more.
 fn rounds(
     alloc: Global,
     facts: &ExpandedFacts,
@@ -168,20 +168,20 @@ fn chased(
     ended.and(Ok(entries.into_list()))
 }
 
-/// The conditional chase of expanded facts: what the rules make of them in the world of each set of atoms, in one chase for
-/// all sets. An entry is a fact or an equality of two terms, with the set of atoms that it rests on; the world of a set has
-/// the entries whose products are within it. The facts have no made term, their atoms are below `atoms`, and the ranks are
-/// those of the rules' relations.
+/// The conditional chase of expanded facts: what the rules make of them in the world of each set of atoms, in one chase
+/// for all sets. An entry is a fact or an equality of two terms, with the set of atoms that it rests on; the world of a
+/// set has the entries whose products are within it. The facts have no made term, their atoms are below `atoms`, and
+/// the ranks are those of the rules' relations.
 ///
-/// Each round goes through the matches of all rules among the entries that stood when it began, modulo equalities, but for
-/// those that use none of the last round's, and through the links that meet; it adds what they ask for and no entry covers,
-/// small products first. An equality is an entry of its own and replaces nothing. A denial asks for nothing. The chase ends
-/// after a round that added nothing. Each expanded fact of an atom is a fact of each world that has the atom. Each world is
-/// closed: it meets each rule that is no denial, where linked terms count as one. It is sound: every database that meets the
-/// rules and receives the facts of the set's atoms receives the world. Where no two different constants are one in it and no
-/// denial's body has a match, it is a database that meets the rules; else no such database receives the set's facts. A term
-/// of a fact nests no deeper than the rank of the fact's relation. Source: the backchase with provenance (Ileana, Cautis,
-/// Deutsch and Katsis 2014).
+/// Each round goes through the matches of all rules among the entries that stood when it began, modulo equalities, but
+/// for those that use none of the last round's, and through the links that meet; it adds what they ask for and no entry
+/// covers, small products first. An equality is an entry of its own and replaces nothing. A denial asks for nothing.
+/// The chase ends after a round that added nothing. Each expanded fact of an atom is a fact of each world that has the
+/// atom. Each world is closed: it meets each rule that is no denial, where linked terms count as one. It is sound:
+/// every database that meets the rules and receives the facts of the set's atoms receives the world. Where no two
+/// different constants are one in it and no denial's body has a match, it is a database that meets the rules; else no
+/// such database receives the set's facts. A term of a fact nests no deeper than the rank of the fact's relation.
+/// Source: the backchase with provenance (Ileana, Cautis, Deutsch and Katsis 2014).
 pub fn chase_with_products(
     alloc: Global,
     facts: &ExpandedFacts,

@@ -22,8 +22,8 @@ use esto_term::OutOfMemory;
 use esto_views::{FragmentDefs, Plan, expand};
 use std::alloc::Global;
 
-/// The entries of the conditional chase of the plan's expansion over the fragments, under the rules, where the ranks are
-/// those of the rules' relations. Their links are joined, and none is covered by those before it.
+/// The entries of the conditional chase of the plan's expansion over the fragments, under the rules, where the ranks
+/// are those of the rules' relations. Their links are joined, and none is covered by those before it.
 pub fn entries_of(
     alloc: Global,
     plan: &Plan,
@@ -85,8 +85,8 @@ fn add_matching(
     add_others(alloc, products, own)
 }
 
-/// The minimal sets of the plan's atoms in whose worlds one of the queries has a match, head to head with the plan's head:
-/// the world of a set has one exactly where one of these is a subset of the set.
+/// The minimal sets of the plan's atoms in whose worlds one of the queries has a match, head to head with the plan's
+/// head: the world of a set has one exactly where one of these is a subset of the set.
 pub fn matching_products(
     alloc: Global,
     plan: &Plan,

@@ -123,8 +123,8 @@ fn link(
     more.push(entry)
 }
 
-/// Asks for the two terms to be one by the entries at two places, unless both are among the first few entries, or the sets
-/// cover the union of their products.
+/// Asks for the two terms to be one by the entries at two places, unless both are among the first few entries, or the
+/// sets cover the union of their products.
 fn join_two(
     alloc: Global,
     entries: &[Entry],
@@ -373,8 +373,8 @@ fn join_met(
     )
 }
 
-/// The same for a group and the one at the place, from either of its sides, unless the latter has something new and comes
-/// before the former.
+/// The same for a group and the one at the place, from either of its sides, unless the latter has something new and
+/// comes before the former.
 fn join_at(
     alloc: Global,
     entries: &[Entry],

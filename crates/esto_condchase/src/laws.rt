@@ -10,11 +10,11 @@ use esto_semantics::{
 };
 use esto_views::{matched_sets_are_contained, plans_are_sound};
 
-/// A law: a set of the atoms of a plan that is universal for a satisfiable query answers the query exactly where the set's
-/// world, by the entries, has a match of the query's body whose head is, place by place, one with the plan's head. Where
-/// the plan receives unions for the query, no set's world makes two different constants one or has a match of a denial's
-/// body. Where that is so, a set answers a part of a union exactly where its world has such a match of one of the union's
-/// queries.
+/// A law: a set of the atoms of a plan that is universal for a satisfiable query answers the query exactly where the
+/// set's world, by the entries, has a match of the query's body whose head is, place by place, one with the plan's
+/// head. Where the plan receives unions for the query, no set's world makes two different constants one or has a match
+/// of a denial's body. Where that is so, a set answers a part of a union exactly where its world has such a match of
+/// one of the union's queries.
 pub fn entries_decide_answers()
     ensures decide { EntriesDecideAnswers }
     ensures unions { EntriesDecideUnions }

@@ -5,12 +5,12 @@ ghost use Rattle.esto_term.specs.declared.term.Term.{Term};
 ghost use Rattle.esto_chase_laws.specs.Worlds.{AreOfCount};
 ghost use Rattle.esto_constraint.specs.Relations.{HasRelation};
 ghost use Rattle.esto_condchase.specs.News.{IsApart, IsSettled, AreFoundAnew};
-ghost use Rattle.esto_condchase.specs.Ways.{AreFound, IsOldWay};
+ghost use Rattle.esto_condchase.specs.Ways.{AreFound};
 ghost use Rattle.esto_known.specs.KeptWays.{AreCounted};
 
 use crate::ways::{match_next, matches_of};
 use esto_chase_laws::{Claim, Entry};
-use esto_known::{Known, Way, has_later};
+use esto_known::{Known, Way};
 use esto_prov::{both, terms_of};
 use esto_semantics::Atom;
 use esto_term::{List, OutOfMemory, Term};
@@ -50,13 +50,6 @@ fn has_news(entries: &[Entry], since: usize, body: &[Atom]) -> bool
         }
     }
     false
-}
-
-/// Whether the way uses an entry from a place on.
-pub fn is_new(way: &Way, since: usize) -> bool
-    ensures { result ≡ false → IsOldWay since way.now }
-{
-    has_later(way.facts.items(), since) || has_later(way.links.items(), since)
 }
 
 /// The ways that match the body, as far as they tell what the last atom's terms and those asked for meet.

@@ -1,19 +1,18 @@
 //! How a fact goes on from a way: the equalities by which its terms are one with what they have to meet.
-ghost use Rattle.std.specs.Prelude.{◌≡◌, ◌++◌, ◌∷◌, ◌<◌, ◌≤◌, MatchOption, ◌⊎◌, [], List, Some, Bool, Contains, length, slice_get, IsTrue, IfOk, IfSome, OnOk, ◌==◌, false, take};
+ghost use Rattle.std.specs.Prelude.{◌≡◌, ◌++◌, ◌∷◌, ◌<◌, ◌≤◌, ◌⊎◌, [], List, Some, Bool, Contains, length, slice_get, IsTrue, IfOk, OnOk, ◌==◌, false, take};
 ghost use Rattle.esto_term.specs.Sets.{Within};
-ghost use Rattle.esto_chase_laws.specs.WorldMatches.{taken};
 ghost use Rattle.esto_chase_laws.specs.Worlds.{AreOfCount, SaysOne};
 ghost use Rattle.esto_chase_laws.specs.declared.entry.Entry.{Entry};
 ghost use Rattle.esto_condchase.specs.declared.passing.Support.{Support};
-ghost use Rattle.esto_condchase.specs.Ways.{AreOneAt, Grown, IsTold, HasSupport, IsLonger, IsLinkedFrom, IsFreeLink, IsPassedAt, PassesIn, AreLonger, AreSupports, floor_of, meets};
+ghost use Rattle.esto_condchase.specs.Ways.{AreOneAt, Grown, IsTold, HasSupport, IsLonger, IsLinkedFrom, IsPassedAt, PassesIn, AreLonger, AreSupports, floor_of, meets};
 ghost use Rattle.esto_known.specs.KeptWays.{AreCounted};
 ghost use Rattle.esto_known.specs.Live.{AreAllLive};
 
 use esto_bits::RowBits;
 use esto_chase_laws::Entry;
-use esto_known::{Kept, Known, has_later, links_of, term_at};
-use esto_prov::{only, taken_term, union_of};
-use esto_term::{List, OutOfMemory, Places, Replicate, Term, has_term};
+use esto_known::{Kept, Known, free_link, has_later, link_at, links_of, term_at};
+use esto_prov::{met_first, only, union_of};
+use esto_term::{List, OutOfMemory, Places, Replicate, Term};
 use std::alloc::Global;
 
 /// The equalities that a way uses, and the union of all products that it rests on.
@@ -36,23 +35,6 @@ pub struct Step<'a> {
     pub sides: Option<(usize, usize)>,
     pub places: &'a [usize],
     pub key: u64,
-}
-
-/// What a term meets first, where the terms of an atom stand behind others.
-pub fn met_first<'a>(
-    from: &[Term],
-    to: &'a [Term],
-    terms: &[Term],
-    owns: &'a [Term],
-    term: &'a Term,
-) -> &'a Term
-    requires { length from.now ≡ length to.now }
-    ensures { result.now ≡ taken (from.now ++ terms.now) (to.now ++ owns.now) term.now }
-{
-    if has_term(from, term) {
-        return taken_term(from, to, term);
-    }
-    taken_term(terms, owns, term)
 }
 
 /// Whether what stands at the two sides' places is one already, by an entry whose product is within the set if not by
@@ -132,25 +114,6 @@ fn add_longer(
     next.push(longer)
 }
 
-/// The entry at the place, if it says that the two terms are one.
-fn link_at<'a>(known: &'a Known, own: &Term, goal: &Term, place: usize) -> Option<&'a Entry>
-    ensures { MatchOption result
-        ((entry : Entry) → slice_get known.now place ≡ Some entry
-        → ¬ (SaysOne entry.claim own.now goal.now))
-        (λ entry. (slice_get known.now place ≡ Some entry.now)
-        × SaysOne entry.now.claim own.now goal.now) }
-{
-    match known.items().get(place) {
-        None => None,
-        Some(entry) => {
-            if entry.claim.says_one(own, goal) {
-                return Some(entry);
-            }
-            None
-        }
-    }
-}
-
 /// Adds the support with the equality of the entry at the place more, if it is one of the two terms, from a place on.
 fn longer_at(
     alloc: Global,
@@ -182,49 +145,8 @@ fn longer_at(
     }
 }
 
-/// Whether the entry at the place says that the two terms are one, from a place on, and rests on no atom beyond the set.
-fn is_free(
-    known: &Known,
-    own: &Term,
-    goal: &Term,
-    floor: usize,
-    product: &RowBits,
-    place: usize,
-) -> bool
-    requires { AreOfCount (length product.now) known.now }
-    ensures { IsTrue result → IsFreeLink known.now floor own.now goal.now product.now place }
-{
-    if place < floor {
-        return false;
-    }
-    match link_at(known, own, goal, place) {
-        None => false,
-        Some(entry) => entry.product.within(product),
-    }
-}
-
-/// The place of an equality of the two terms, from a place on, that rests on no atom beyond the set, if there is one.
-fn free_link(
-    known: &Known,
-    own: &Term,
-    goal: &Term,
-    floor: usize,
-    product: &RowBits,
-    links: &[usize],
-) -> Option<usize>
-    requires { AreOfCount (length product.now) known.now }
-    ensures { IfSome result (λ at. IsFreeLink known.now floor own.now goal.now product.now at) }
-{
-    'links: for place in links {
-        if is_free(known, own, goal, floor, product, *place) {
-            return Some(*place);
-        }
-    }
-    None
-}
-
-/// Adds the support with one of the equalities of the two terms more. One that rests on no atom beyond those of the support is enough;
-/// else each is tried.
+/// Adds the support with one of the equalities of the two terms more. One that rests on no atom beyond those of the
+/// support is enough; else each is tried.
 fn longer(
     alloc: Global,
     step: &Step,

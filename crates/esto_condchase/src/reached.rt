@@ -52,7 +52,8 @@ fn add_at(
     ensures counted { OnOk result (AreReachedOf count ones.new.items) }
     ensures reach { OnOk result ((one : Reached) × (slice_get ones.old.items place ≡ Some one)
         × ((own : List Term) (set : List Bool) → Reach ones.new.items own set
-        ↔ (Reach ones.old.items own set ⊎ IsReachedBy one.to sets.now.sets others.now.sets own set))) }
+        ↔ (Reach ones.old.items own set
+        ⊎ IsReachedBy one.to sets.now.sets others.now.sets own set))) }
 {
     ones[place].by.add_both(alloc, sets, others)
 }

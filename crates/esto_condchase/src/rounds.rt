@@ -17,35 +17,13 @@ ghost use Rattle.esto_known.specs.declared.way.Way.{Way};
 
 use crate::joining::join;
 use crate::news::matches_since;
-use esto_bits::RowBits;
 use esto_chase_laws::{Claim, Entry, Reason};
 use esto_constraint::{Constraint, Egd, Tgd, frontier_of};
-use esto_known::{Known, Way, is_covered, same};
+use esto_known::{Known, Way, is_covered, same, support};
 use esto_prov::{both, made_fact, taken_term, taken_terms, terms_of};
-use esto_term::{List, OutOfMemory, Places, Replicate, Terms};
+use esto_term::{List, OutOfMemory, Terms};
 use std::alloc::Global;
 use std::slice;
-
-/// The entries that a way uses, those of its facts first.
-fn places_of(alloc: Global, way: &Way) -> Result<Places, OutOfMemory>
-    ensures { IfOk result (λ it. it ≡ way.now.facts ++ way.now.links) }
-{
-    let mut places = way.facts.copy(alloc)?;
-    'links: for place in way.links.items() {
-        places.push(*place)?;
-    }
-    Ok(places)
-}
-
-/// The way's product, and the entries that it uses.
-fn support(alloc: Global, way: &Way) -> Result<(RowBits, Places), OutOfMemory>
-    ensures { IfOk result (λ it.
-        (it.0 ≡ way.now.product) × (it.1 ≡ way.now.facts ++ way.now.links)) }
-{
-    let product = way.product.copy(alloc)?;
-    let places = places_of(alloc, way)?;
-    Ok((product, places))
-}
 
 /// Puts the entry of a claim that a rule asks for at a way.
 fn put_asked(
@@ -91,8 +69,8 @@ fn ask(
     put_asked(alloc, number, way, claim, more)
 }
 
-/// Asks for the facts of a tuple rule's head at a way, where the values of the terms that the head shares with the body are
-/// given.
+/// Asks for the facts of a tuple rule's head at a way, where the values of the terms that the head shares with the body
+/// are given.
 fn answer_head(
     alloc: Global,
     entries: &Known,
@@ -178,8 +156,8 @@ fn answer_equality(
     ask(alloc, entries, number, way, claim, more)
 }
 
-/// The direct matches of a tuple rule's body, but for those among the first few entries, as far as they tell what its head
-/// meets.
+/// The direct matches of a tuple rule's body, but for those among the first few entries, as far as they tell what its
+/// head meets.
 fn tuple_ways(
     alloc: Global,
     entries: &Known,
@@ -234,8 +212,8 @@ fn answer_tuple_at_each_way(
     Ok(())
 }
 
-/// Asks for what a tuple rule asks for at each of the ways, by the terms of its body and those that its head shares with
-/// it.
+/// Asks for what a tuple rule asks for at each of the ways, by the terms of its body and those that its head shares
+/// with it.
 fn find_terms_and_answer_tuple(
     alloc: Global,
     entries: &Known,
@@ -278,7 +256,8 @@ fn answer_tuple_rule(
     requires before { IsRuleAnswered (take since entries.now) entries.now number
         (tuple rule.now.body rule.now.head) }
     requires counts { AreOfCount count entries.now }
-    ensures grows { OnOk result (AsksMore (rules_of rules.now) count entries.now more.old more.new) }
+    ensures grows { OnOk result
+        (AsksMore (rules_of rules.now) count entries.now more.old more.new) }
     ensures answered { OnOk result
         (IsRuleAnswered entries.now (entries.now ++ more.new) number
         (tuple rule.now.body rule.now.head)) }
@@ -307,8 +286,8 @@ fn sides_of(alloc: Global, rule: &Egd) -> Result<Terms, OutOfMemory>
     )
 }
 
-/// The direct matches of an equality rule's body, but for those among the first few entries, and for those by which its two
-/// sides are one already, as far as they tell what the sides meet.
+/// The direct matches of an equality rule's body, but for those among the first few entries, and for those by which its
+/// two sides are one already, as far as they tell what the sides meet.
 fn equality_ways(
     alloc: Global,
     entries: &Known,
@@ -362,8 +341,8 @@ fn answer_equality_ways(
     Ok(())
 }
 
-/// Asks for what an equality rule asks for at all its direct matches, where what it asks for at those among the first few
-/// entries is there.
+/// Asks for what an equality rule asks for at all its direct matches, where what it asks for at those among the first
+/// few entries is there.
 fn answer_equalities(
     alloc: Global,
     entries: &Known,
@@ -379,7 +358,8 @@ fn answer_equalities(
     requires before { IsRuleAnswered (take since entries.now) entries.now number
         (equality rule.now.body rule.now.left rule.now.right) }
     requires counts { AreOfCount count entries.now }
-    ensures grows { OnOk result (AsksMore (rules_of rules.now) count entries.now more.old more.new) }
+    ensures grows { OnOk result
+        (AsksMore (rules_of rules.now) count entries.now more.old more.new) }
     ensures answered { OnOk result
         (IsRuleAnswered entries.now (entries.now ++ more.new) number
         (equality rule.now.body rule.now.left rule.now.right)) }
@@ -413,7 +393,8 @@ fn answer_rule(
     requires before { IsRuleAnswered (take since entries.now) entries.now number
         (rule_of rule.now) }
     requires counts { AreOfCount count entries.now }
-    ensures grows { OnOk result (AsksMore (rules_of rules.now) count entries.now more.old more.new) }
+    ensures grows { OnOk result
+        (AsksMore (rules_of rules.now) count entries.now more.old more.new) }
     ensures answered { OnOk result
         (IsRuleAnswered entries.now (entries.now ++ more.new) number (rule_of rule.now)) }
 {
@@ -428,8 +409,8 @@ fn answer_rule(
     }
 }
 
-/// Asks for what the rules ask for at all their direct matches, where what they ask for at those among the first few entries is
-/// there.
+/// Asks for what the rules ask for at all their direct matches, where what they ask for at those among the first few
+/// entries is there.
 fn answer_rules(
     alloc: Global,
     entries: &Known,
@@ -450,9 +431,9 @@ fn answer_rules(
     Ok(more)
 }
 
-/// What the rules and the links ask for among the entries and the entries do not cover yet: all of it follows from them, and
-/// in each world what the entries ask for is covered by them and by this. What the rules and the links ask for among the first
-/// few entries, those that stood when the last round began, is there already.
+/// What the rules and the links ask for among the entries and the entries do not cover yet: all of it follows from
+/// them, and in each world what the entries ask for is covered by them and by this. What the rules and the links ask
+/// for among the first few entries, those that stood when the last round began, is there already.
 pub fn round(
     alloc: Global,
     entries: &Known,

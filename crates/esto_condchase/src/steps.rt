@@ -1,5 +1,6 @@
-//! Goes on from ways by one atom, with each fact that is alike to it. A way is made only where no kept way tells the same.
-ghost use Rattle.std.specs.Prelude.{◌≡◌, ◌++◌, ◌∷◌, [], ◌⊎◌, ◌<◌, ℕ, List, Bool, true, false, MatchOption, Some, Contains, length, slice_get, take, IsTrue, IfOk, OnOk};
+//! Goes on from ways by one atom, with each fact that is alike to it. A way is made only where no kept way tells the
+//! same.
+ghost use Rattle.std.specs.Prelude.{◌≡◌, ◌++◌, [], ◌⊎◌, ◌<◌, ℕ, List, Bool, true, false, MatchOption, Some, Contains, length, slice_get, take, IsTrue, IfOk, OnOk};
 ghost use Rattle.esto_term.specs.declared.term.Term.{Term};
 ghost use Rattle.esto_term.specs.Sets.{Within, united};
 ghost use Rattle.esto_semantics.specs.declared.fact.Fact.{Fact};
@@ -13,23 +14,14 @@ ghost use Rattle.esto_condchase.specs.Ways.{Grown, IsTold, extended, meets, Pass
 ghost use Rattle.esto_known.specs.KeptWays.{AreCounted, HasWay};
 ghost use Rattle.esto_known.specs.Live.{AreAllFacts, AreFresh};
 
-use crate::news::is_new;
-use crate::passing::{Step, Support, is_old, is_settled, met_first, through_row};
+use crate::passing::{Step, Support, is_old, is_settled, through_row};
 use esto_bits::RowBits;
 use esto_chase_laws::Entry;
-use esto_known::{Kept, Known, Way, has_later, hash_at};
-use esto_prov::{both, like, union_of};
+use esto_known::{Kept, Known, Way, facts_with, has_later, hash_at, is_new};
+use esto_prov::{both, like, met_first, union_of};
 use esto_semantics::Atom;
 use esto_term::{List, OutOfMemory, Places, Replicate, Term};
 use std::alloc::Global;
-
-/// The places of the way's facts, and one more.
-fn facts_with(alloc: Global, before: &Way, place: usize) -> Result<Places, OutOfMemory>
-    ensures { IfOk result (λ it. it ≡ before.now.facts ++ place ∷ []) }
-{
-    let mut facts = before.facts.copy(alloc)?;
-    facts.push(place).and(Ok(facts))
-}
 
 /// A support of these equalities and this product.
 fn support_of(alloc: Global, links: &Places, product: &RowBits) -> Result<Support, OutOfMemory>
@@ -77,8 +69,8 @@ fn keep(
     ensures grown { OnOk result (Grown
         (λ way. way ≡ extended before.now place step.now.owns.now support.now)
         kept.old kept.new) }
-    ensures there { OnOk result (IsTold step.now.known.now step.now.sides step.now.places.now kept.new
-        (step.now.to.now ++ step.now.owns.now) support.now.product) }
+    ensures there { OnOk result (IsTold step.now.known.now step.now.sides step.now.places.now
+        kept.new (step.now.to.now ++ step.now.owns.now) support.now.product) }
 {
     if is_settled(step, &support.product, kept) {
         return Ok(());
@@ -188,7 +180,8 @@ fn pass_at(
     pass(alloc, step, before, place, at, floor, product, count, kept)
 }
 
-/// Keeps the ways that go on with the fact of the entry at a place, at some of its terms by an equality from a place on.
+/// Keeps the ways that go on with the fact of the entry at a place, at some of its terms by an equality from a place
+/// on.
 fn pass_anew(
     alloc: Global,
     step: &Step,
@@ -223,8 +216,8 @@ fn pass_anew(
     Ok(())
 }
 
-/// Keeps the ways that go on with the fact of the entry at a place, with a product, but where a floor is given for those that
-/// use no equality from there on.
+/// Keeps the ways that go on with the fact of the entry at a place, with a product, but where a floor is given for
+/// those that use no equality from there on.
 fn pass_within(
     alloc: Global,
     step: &Step,
@@ -265,8 +258,8 @@ fn pass_within(
     pass_anew(alloc, step, before, place, floor, product, count, kept)
 }
 
-/// The same with the product of the way and the entry, unless the row passes in no world, or with no equality from the floor
-/// on.
+/// The same with the product of the way and the entry, unless the row passes in no world, or with no equality from the
+/// floor on.
 fn pass_from(
     alloc: Global,
     step: &Step,
@@ -389,8 +382,8 @@ fn floor_for(new: bool, place: usize, since: usize) -> usize
     if new || place >= since { 0 } else { since }
 }
 
-/// Whether a kept way tells all that any way which goes on from this one can tell, with a product within this one's: true comes only
-/// where one does.
+/// Whether a kept way tells all that any way which goes on from this one can tell, with a product within this one's:
+/// true comes only where one does.
 fn tells_all(level: &Level, before: &Way, key: u64, kept: &Kept) -> bool
     requires lengths { length level.now.from.now ≡ length before.now.to }
     requires counted { AreCounted (length before.now.product) kept.now }

@@ -1,6 +1,6 @@
 -- Live entries of a claim: the places of its group.
 use Rattle.std.proofs.Common.{inl, inr, ap, ◌∙◌, ◌≡◌, ◌<◌, arith, ℕ, List, ◌++◌, Some, slice_get, Contains, sym, subst, ◌+◌, length, take, get_or}
-use Rattle.std.proofs.lemmas.List.Elements.{Contains-append_left, Contains-append_right, Contains-push_cases}
+use Rattle.std.proofs.lemmas.List.Elements.{Contains-append_cases, Contains-append_left, Contains-append_right, Contains-push_cases}
 use Rattle.std.proofs.lemmas.Option.{same_Some}
 use Rattle.esto_term.specs.declared.term.Term.{Term}
 use Rattle.esto_semantics.specs.declared.fact.Fact.{Fact}
@@ -14,7 +14,9 @@ use Rattle.esto_chase_laws.proofs.ClaimLemmas.{same_stated, says_same, same_says
 use Rattle.esto_known.specs.Indexes.{HasSide}
 use Rattle.esto_known.specs.Groups.{AreGroups}
 use Rattle.esto_known.specs.declared.group.Group.{Group}
+use Rattle.esto_known.specs.KeptWays.{IsOldWay}
 use Rattle.esto_known.specs.Live.{AreAllLive, AreAllFacts, AreFresh, IsUnlinked}
+use Rattle.esto_known.specs.declared.way.Way.{Way}
 use Rattle.esto_term.proofs.PlaceLemmas.{take-item}
 
 -- ---- live entries
@@ -108,3 +110,12 @@ below_more items at since item within is below before place inside =
       | inl earlier ↦ before place earlier
       | inr last ↦ subst (λ it. it < since) last below
     ]
+
+-- ---- ways among the first few
+
+pub way_old : (way : Way) (since : ℕ) (facts links : List ℕ) → facts ≡ way.facts → links ≡ way.links → ((place : ℕ) → Contains facts place → place < since)
+    → ((place : ℕ) → Contains links place → place < since) → IsOldWay since way
+way_old way since facts links facts_are links_are by_facts by_links place inside = elim (Contains-append_cases way.facts way.links place inside) [
+  | inl here ↦ by_facts place (subst (λ it. Contains it place) (sym facts_are) here)
+  | inr there ↦ by_links place (subst (λ it. Contains it place) (sym links_are) there)
+]

@@ -1,8 +1,9 @@
 -- Live entries of a claim, and what is new among them.
-use Rattle.std.specs.Prelude.{◌≡◌, ◌⊎◌, ◌<◌, ◌≤◌, ℕ, List, Contains, Some, slice_get}
+use Rattle.std.specs.Prelude.{◌≡◌, ◌⊎◌, ◌<◌, ◌≤◌, ℕ, Bool, List, Contains, Some, slice_get}
 use Rattle.esto_term.specs.declared.term.Term.{Term}
 use Rattle.esto_term.specs.Sets.{Within}
 use Rattle.esto_semantics.specs.declared.fact.Fact.{Fact}
+use Rattle.esto_chase_laws.specs.Worlds.{SaysOne}
 use Rattle.esto_chase_laws.specs.declared.entry.Claim.{Claim}
 use Rattle.esto_chase_laws.specs.declared.entry.Claim.TheVariants.{Fact as Stated}
 use Rattle.esto_chase_laws.specs.declared.entry.Entry.{Entry}
@@ -40,3 +41,8 @@ AreFresh entries since facts fresh = (place : ℕ) → Contains facts place → 
 -- Each of the places is one of the first few.
 abbrev pub AreOld : ℕ → List ℕ → Type 0
 AreOld since places = (place : ℕ) → Contains places place → place < since
+
+-- The entry at the place, from a place on, is an equality of the terms, whose product is within the set.
+abbrev pub IsFreeLink : List Entry → ℕ → Term → Term → List Bool → ℕ → Type 0
+IsFreeLink entries floor own goal product place =
+    (entry : Entry) × floor ≤ place × (slice_get entries place ≡ Some entry) × SaysOne entry.claim own goal × Within entry.product product

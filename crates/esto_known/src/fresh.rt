@@ -85,7 +85,8 @@ fn fact_of(known: &Known, place: usize) -> Option<&Atom>
     }
 }
 
-/// Whether the fact of the entry at the place may make something new of what is old: false comes only where it does not.
+/// Whether the fact of the entry at the place may make something new of what is old: false comes only where it does
+/// not.
 fn is_fresh(alloc: Global, known: &Known, place: usize, since: usize) -> Result<bool, OutOfMemory>
     ensures { IfOk result (λ it. it ≡ false → IsStale known.now since place) }
 {

@@ -11,8 +11,8 @@ use esto_chase_laws::{Claim, Entry};
 use esto_term::{OutOfMemory, Places, Replicate, Values};
 use std::alloc::Global;
 
-/// What is known of one claim: the claim, the places of its live entries, of which no later one covers an earlier, and the
-/// minimal ones of its entries' products.
+/// What is known of one claim: the claim, the places of its live entries, of which no later one covers an earlier, and
+/// the minimal ones of its entries' products.
 #[derive(Drop)]
 pub struct Group {
     pub claim: Claim,

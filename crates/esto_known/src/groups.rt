@@ -25,8 +25,9 @@ use std::mem;
 /// How many groups there is room for, at first.
 const ROOM: usize = 64;
 
-/// Groups of entries, which are found by their claims, those of facts by their relations, and those of equalities by the terms
-/// that are their sides. Contracts see the list of the groups. Where memory was wanting, there are none from then on.
+/// Groups of entries, which are found by their claims, those of facts by their relations, and those of equalities by
+/// the terms that are their sides. Contracts see the list of the groups. Where memory was wanting, there are none from
+/// then on.
 #[derive(Drop)]
 pub struct Groups {
     groups: Vec<Group>,

@@ -217,8 +217,8 @@ fn rules_out(group: &Group, product: &RowBits) -> bool {
     group.by.count() == product.count() && !group.by.covered(product)
 }
 
-/// Whether the way at the place has at these places what stands in the one row and the other behind it, with a product within the
-/// set.
+/// Whether the way at the place has at these places what stands in the one row and the other behind it, with a product
+/// within the set.
 fn covers_at(
     ways: &[Way],
     at: usize,
@@ -236,8 +236,8 @@ fn covers_at(
     }
 }
 
-/// Whether a way of the group has at these places what stands in the one row and the other behind it, with a product within the
-/// set: true comes only where one has.
+/// Whether a way of the group has at these places what stands in the one row and the other behind it, with a product
+/// within the set: true comes only where one has.
 fn covers_in(
     ways: &[Way],
     group: &Group,
@@ -260,8 +260,8 @@ fn covers_in(
     false
 }
 
-/// Ways that are kept, in groups by a hash of what they tell. Contracts see the list of the ways: that a way is found wherever
-/// one tells the same is not promised.
+/// Ways that are kept, in groups by a hash of what they tell. Contracts see the list of the ways: that a way is found
+/// wherever one tells the same is not promised.
 #[derive(Drop)]
 pub struct Kept {
     ways: List<Way>,
@@ -304,8 +304,8 @@ impl Kept {
         self.ways
     }
 
-    /// Whether a kept way of this key has at these places what stands in the one row and the other behind it, with a product
-    /// within the set: true comes only where one has.
+    /// Whether a kept way of this key has at these places what stands in the one row and the other behind it, with a
+    /// product within the set: true comes only where one has.
     pub fn covers(
         &self,
         key: u64,

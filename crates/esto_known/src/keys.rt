@@ -11,8 +11,9 @@ use esto_columns::Index;
 use esto_term::OutOfMemory;
 use std::alloc::Global;
 
-/// Indexes of claims, one place for each: by the claim, and twice by what else it is found by, a fact by its relation and an
-/// equality by its one side and by the other. Claims are found fast as long as there are not many more than the room.
+/// Indexes of claims, one place for each: by the claim, and twice by what else it is found by, a fact by its relation
+/// and an equality by its one side and by the other. Claims are found fast as long as there are not many more than the
+/// room.
 #[derive(Drop)]
 pub(crate) struct Keys {
     pub(crate) by_claim: Index,

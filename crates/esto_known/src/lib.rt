@@ -1,6 +1,6 @@
-//! Entries that are known, in groups by their claims: a group is found by its claim, a fact's by the relation, and an equality's by
-//! a term that is a side. With them what is live and what is new among entries, entries that are added only where they are not
-//! covered, and ways to match that are kept. Start from `Known`, `Groups` and `Kept`.
+//! Entries that are known, in groups by their claims: a group is found by its claim, a fact's by the relation, and an
+//! equality's by a term that is a side. With them what is live and what is new among entries, entries that are added
+//! only where they are not covered, and ways to match that are kept. Start from `Known`, `Groups` and `Kept`.
 #![tactic(auto)]
 
 mod covered;
@@ -28,6 +28,6 @@ pub use groups::Groups;
 pub use hashes::term_hash;
 pub use kept::{Kept, hash_at, places_met, telling_places, term_at};
 pub use known::Known;
-pub use live::{facts_of, has_later, links_of};
+pub use live::{facts_of, free_link, has_later, link_at, links_of};
 pub use touching::{minimal_unions, touch_all};
-pub use way::Way;
+pub use way::{Way, facts_with, is_new, support};

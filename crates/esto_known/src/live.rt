@@ -1,12 +1,15 @@
 //! Entries that a match may use: those of a relation, and those that say that two terms are one.
-ghost use Rattle.std.specs.Prelude.{◌≡◌, ℕ, Some, Contains, slice_get, IfOk, OnOk, MatchOption, IsTrue, false};
+ghost use Rattle.std.specs.Prelude.{◌≡◌, ℕ, Some, Contains, length, slice_get, IfOk, IfSome, OnOk, MatchOption, IsTrue, false};
 ghost use Rattle.esto_known.specs.declared.group.Group.{Group};
-ghost use Rattle.esto_chase_laws.specs.Worlds.{SaysOne};
-ghost use Rattle.esto_known.specs.Live.{AreAllLive, AreAllFacts, AreOld};
+ghost use Rattle.esto_chase_laws.specs.Worlds.{AreOfCount, SaysOne};
+ghost use Rattle.esto_chase_laws.specs.declared.entry.Entry.{Entry};
+ghost use Rattle.esto_known.specs.Live.{AreAllLive, AreAllFacts, AreOld, IsFreeLink};
 
 use crate::group::Group;
 use crate::known::Known;
 use crate::places::put_all;
+use esto_bits::RowBits;
+use esto_chase_laws::Entry;
 use esto_term::{OutOfMemory, Places, Term, Values};
 use std::alloc::Global;
 
@@ -61,6 +64,67 @@ pub fn links_of<'a>(known: &'a Known, own: &Term, goal: &Term) -> &'a [usize]
         None => &[],
         Some(group) => group.places.items(),
     }
+}
+
+/// The entry at the place, if it says that the two terms are one.
+pub fn link_at<'a>(known: &'a Known, own: &Term, goal: &Term, place: usize) -> Option<&'a Entry>
+    ensures { MatchOption result
+        ((entry : Entry) → slice_get known.now place ≡ Some entry
+        → ¬ (SaysOne entry.claim own.now goal.now))
+        (λ entry. (slice_get known.now place ≡ Some entry.now)
+        × SaysOne entry.now.claim own.now goal.now) }
+{
+    match known.items().get(place) {
+        None => None,
+        Some(entry) => {
+            if entry.claim.says_one(own, goal) {
+                return Some(entry);
+            }
+            None
+        }
+    }
+}
+
+/// Whether the entry at the place says that the two terms are one, from a place on, and rests on no atom beyond the
+/// set.
+fn is_free(
+    known: &Known,
+    own: &Term,
+    goal: &Term,
+    floor: usize,
+    product: &RowBits,
+    place: usize,
+) -> bool
+    requires { AreOfCount (length product.now) known.now }
+    ensures { IsTrue result → IsFreeLink known.now floor own.now goal.now product.now place }
+{
+    if place < floor {
+        return false;
+    }
+    match link_at(known, own, goal, place) {
+        None => false,
+        Some(entry) => entry.product.within(product),
+    }
+}
+
+/// The place of an equality of the two terms, from a place on, that rests on no atom beyond the set, if there is one.
+pub fn free_link(
+    known: &Known,
+    own: &Term,
+    goal: &Term,
+    floor: usize,
+    product: &RowBits,
+    links: &[usize],
+) -> Option<usize>
+    requires { AreOfCount (length product.now) known.now }
+    ensures { IfSome result (λ at. IsFreeLink known.now floor own.now goal.now product.now at) }
+{
+    'links: for place in links {
+        if is_free(known, own, goal, floor, product, *place) {
+            return Some(*place);
+        }
+    }
+    None
 }
 
 /// Whether one of the places is none of the first few.

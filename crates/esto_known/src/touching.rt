@@ -11,7 +11,11 @@ use esto_term::{OutOfMemory, Replicate, Term};
 use std::alloc::Global;
 
 /// The minimal unions of one of the sets and one of the others.
-pub fn minimal_unions(alloc: Global, sets: &Products, others: &Products) -> Result<Products, OutOfMemory>
+pub fn minimal_unions(
+    alloc: Global,
+    sets: &Products,
+    others: &Products,
+) -> Result<Products, OutOfMemory>
     requires { others.now.count ≡ sets.now.count }
     ensures count { IfOk result (λ it. it.count ≡ sets.now.count) }
     ensures covers { IfOk result (λ it. CoversBoth sets.now.sets others.now.sets it.sets) }

@@ -1,4 +1,5 @@
-//! The order in which entries are added: small products first, so that few are added of which a smaller one comes later.
+//! The order in which entries are added: small products first, so that few are added of which a smaller one comes
+//! later.
 ghost use Rattle.std.specs.Prelude.{length, IfOk};
 ghost use Rattle.esto_known.specs.Turns.{AreTurnsOf};
 

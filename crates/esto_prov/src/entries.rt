@@ -13,9 +13,9 @@ use esto_term::{List, OutOfMemory, Replicate};
 use std::alloc::Global;
 use std::marker::Model;
 
-/// Entries, in the order in which they were made. A reason names earlier entries only, all products are of one count, and
-/// the product of an entry is the union of the products that its reason names, or the one atom that it expands. Contracts
-/// see the list of the entries.
+/// Entries, in the order in which they were made. A reason names earlier entries only, all products are of one count,
+/// and the product of an entry is the union of the products that its reason names, or the one atom that it expands.
+/// Contracts see the list of the entries.
 #[derive(Drop)]
 pub struct Entries {
     entries: List<Entry>,
@@ -97,8 +97,8 @@ impl Entries {
         why_of(alloc, self.entries.items(), at)
     }
 
-    /// The minimal products of the entries with that claim, where an equality of two terms is one claim in either order.
-    /// Their count is that of all products, or 0 where there is no entry.
+    /// The minimal products of the entries with that claim, where an equality of two terms is one claim in either
+    /// order. Their count is that of all products, or 0 where there is no entry.
     pub fn products_of(&self, alloc: Global, claim: &Claim) -> Result<Products, OutOfMemory>
         ensures count { IfOk result (λ products. products.count ≡ count_of self.now) }
         ensures exact { IfOk result (λ products. (set : List Bool)
@@ -168,8 +168,8 @@ pub fn entries_are_reasoned(entries: &Entries)
     let _entries = entries.entries.items();
 }
 
-/// A law: the derivation of an entry that is derived from expanded facts by rules is a derivation of its claim from these
-/// facts by these rules. It names no entry.
+/// A law: the derivation of an entry that is derived from expanded facts by rules is a derivation of its claim from
+/// these facts by these rules. It names no entry.
 pub fn derivations_derive()
     ensures { DerivationsDerive }
 {}

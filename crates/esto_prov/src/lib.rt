@@ -10,5 +10,5 @@ mod why;
 pub use entries::{Entries, derivations_derive, entries_are_reasoned};
 pub use esto_chase_laws::{Chain, Claim, Entry, Reason};
 pub use lists::{both, like, only, put_terms, union_of};
-pub use taking::{made_fact, taken_term, taken_terms, terms_of};
+pub use taking::{made_fact, met_first, taken_term, taken_terms, terms_of};
 pub use why::{Why, Whys};

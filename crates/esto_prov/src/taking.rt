@@ -1,5 +1,5 @@
 //! What terms meet first, and what a rule makes.
-ghost use Rattle.std.specs.Prelude.{◌≡◌, ◌++◌, map, IfOk};
+ghost use Rattle.std.specs.Prelude.{◌≡◌, ◌++◌, length, map, IfOk};
 ghost use Rattle.esto_semantics.specs.Facts.{image, terms_of};
 ghost use Rattle.esto_semantics.specs.Spreads.{substituted};
 ghost use Rattle.esto_chase_laws.specs.Making.{made_for};
@@ -46,6 +46,23 @@ fn first_met<'a>(from: &[Term], to: &'a [Term], term: &'a Term) -> &'a Term
         }
     }
     term
+}
+
+/// What a term meets first, where the terms of an atom stand behind others.
+pub fn met_first<'a>(
+    from: &[Term],
+    to: &'a [Term],
+    terms: &[Term],
+    owns: &'a [Term],
+    term: &'a Term,
+) -> &'a Term
+    requires { length from.now ≡ length to.now }
+    ensures { result.now ≡ taken (from.now ++ terms.now) (to.now ++ owns.now) term.now }
+{
+    if has_term(from, term) {
+        return taken_term(from, to, term);
+    }
+    taken_term(terms, owns, term)
 }
 
 /// What the terms meet first.

@@ -8,14 +8,14 @@ use esto_chase_laws::{Entry, Reason};
 use esto_term::{List, OutOfMemory, Replicate};
 use std::alloc::Global;
 
-/// A derivation: the tree of a reason, in which each entry that the reason names stands with its own derivation. Contracts
-/// see it as a tree.
+/// A derivation: the tree of a reason, in which each entry that the reason names stands with its own derivation.
+/// Contracts see it as a tree.
 #[derive(Drop)]
 pub enum Why {
     /// The expanded fact of an atom, by the atom's number, at a place of its view's body.
     Expanded(usize, usize),
-    /// A step of the rule of that number, with the derivations of the facts of its body, in order, and then those of the
-    /// equalities that its match uses.
+    /// A step of the rule of that number, with the derivations of the facts of its body, in order, and then those of
+    /// the equalities that its match uses.
     Step(usize, Whys),
     /// A chain of equalities, with their derivations.
     Same(Whys),

@@ -10,7 +10,8 @@ use Rattle.esto_condchase.proofs.chase.chased.Goals as goal
 
 pub returns-clause-derived : goal.returns-clause-derived
 returns-clause-derived c = handed_on c.rounds-ended.result c.into_list.result c.and.result c.and.ensures _
-    (on_ok_weaker c.rounds-ended.result (subst (AreDerived c.args.facts.now (rules_of c.args.rules.now)) (sym c.into_list.ensures)) c.rounds-ended.ensures.derived)
+    (on_ok_weaker c.rounds-ended.result (subst (AreDerived c.args.facts.now (rules_of c.args.rules.now)) (sym c.into_list.ensures))
+    c.rounds-ended.ensures.derived)
 
 pub returns-clause-new : goal.returns-clause-new
 returns-clause-new c = handed_on c.rounds-ended.result c.into_list.result c.and.result c.and.ensures _

@@ -49,16 +49,16 @@ pub returns-then-len-before-clause-answered : goal.returns-then-len-before-claus
 returns-then-len-before-clause-answered c =
     let grown = grown_same c.items-in-rounds.result.now c.args.rules.now c.rounds.entries c.next.new.entries c.items-in-rounds.ensures
     c.in_ok-next.ensures.grown in
-    end_answered (rules_of c.args.rules.now) c.rounds.entries c.next.new.entries (turn_same c.args.facts.now (rules_of c.args.rules.now) c.args.atoms c.rounds.entries grown.0 c.next.new.entries grown.1
-    (sym c.len.ensures ∙ c.if-len-before.true ∙ c.len-before.ensures))
+    end_answered (rules_of c.args.rules.now) c.rounds.entries c.next.new.entries (turn_same c.args.facts.now (rules_of c.args.rules.now) c.args.atoms
+    c.rounds.entries grown.0 c.next.new.entries grown.1 (sym c.len.ensures ∙ c.if-len-before.true ∙ c.len-before.ensures))
     (answered_same c.items-in-rounds.result.now c.args.rules.now _ _ c.items-in-rounds.ensures c.in_ok-next.ensures.answered)
 
 pub returns-then-len-before-clause-joined : goal.returns-then-len-before-clause-joined
 returns-then-len-before-clause-joined c =
     let grown = grown_same c.items-in-rounds.result.now c.args.rules.now c.rounds.entries c.next.new.entries c.items-in-rounds.ensures
     c.in_ok-next.ensures.grown in
-    end_joined c.rounds.entries c.next.new.entries (turn_same c.args.facts.now (rules_of c.args.rules.now) c.args.atoms c.rounds.entries grown.0 c.next.new.entries grown.1
-    (sym c.len.ensures ∙ c.if-len-before.true ∙ c.len-before.ensures)) c.in_ok-next.ensures.joined
+    end_joined c.rounds.entries c.next.new.entries (turn_same c.args.facts.now (rules_of c.args.rules.now) c.args.atoms c.rounds.entries grown.0
+    c.next.new.entries grown.1 (sym c.len.ensures ∙ c.if-len-before.true ∙ c.len-before.ensures)) c.in_ok-next.ensures.joined
 
 pub rounds-smaller : goal.rounds-smaller
 rounds-smaller c =
@@ -87,7 +87,8 @@ rounds-preserved c =
       given = turn_given c.args.facts.now (rules_of c.args.rules.now) c.args.atoms c.rounds.entries grown.0 c.next.new.entries grown.1
           c.rounds.invariant.given;
       before = turn_answered (rules_of c.args.rules.now) c.rounds.entries grown.1.more.0 c.next.new.entries c.len-before.result is c.len-before.ensures
-          (subst (AreAnswered (rules_of c.args.rules.now) c.rounds.entries) is (answered_same c.items-in-rounds.result.now c.args.rules.now _ _ c.items-in-rounds.ensures c.in_ok-next.ensures.answered));
+          (subst (AreAnswered (rules_of c.args.rules.now) c.rounds.entries) is (answered_same c.items-in-rounds.result.now c.args.rules.now _ _
+          c.items-in-rounds.ensures c.in_ok-next.ensures.answered));
       joined_before = turn_joined c.rounds.entries grown.1.more.0 c.next.new.entries c.len-before.result is c.len-before.ensures
           (subst (AreJoined c.rounds.entries) is c.in_ok-next.ensures.joined);
     }

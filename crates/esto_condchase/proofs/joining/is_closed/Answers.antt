@@ -17,5 +17,5 @@ covered-requires c = c.requires c.in-Some.entry.now (Contains-at c.args.entries.
 
 pub returns-in-Some : goal.returns-in-Some
 returns-in-Some c closed entry at = subst (λ (it : Entry). Covers c.args.sets.now.sets it.product)
-    (same_Some c.in-Some.entry.now entry (sym (read_at c.args.entries.now c.args.place c.in-Some.entry.now c.in-Some.ensures.lookup.0 c.in-Some.ensures.lookup.1) ∙ at))
-    (c.covered.ensures.0 closed)
+    (same_Some c.in-Some.entry.now entry (sym (read_at c.args.entries.now c.args.place c.in-Some.entry.now c.in-Some.ensures.lookup.0
+    c.in-Some.ensures.lookup.1) ∙ at)) (c.covered.ensures.0 closed)

@@ -14,6 +14,7 @@ returns-clause-asks c = on_ok_weaker c.join_side-2.result (λ asks rules. AsksMo
     (c.in_ok-join_side.ensures.asks rules) (asks rules)) c.join_side-2.ensures.asks
 
 pub returns-clause-met : goal.returns-clause-met
-returns-clause-met c = on_ok_both c.join_side-2.result (λ asks met. inr (group_met c.args.entries.now c.join_side.new.more c.join_side-2.new.more c.args.groups.now
-    c.args.since c.args.number c.args.first.now.claim c.in-Same.left c.in-Same.right c.in-Same.is (asks []).kept c.in_ok-join_side.ensures.met met))
+returns-clause-met c = on_ok_both c.join_side-2.result (λ asks met. inr (group_met c.args.entries.now c.join_side.new.more c.join_side-2.new.more
+    c.args.groups.now c.args.since c.args.number c.args.first.now.claim c.in-Same.left c.in-Same.right c.in-Same.is (asks []).kept
+    c.in_ok-join_side.ensures.met met))
     c.join_side-2.ensures.asks c.join_side-2.ensures.met

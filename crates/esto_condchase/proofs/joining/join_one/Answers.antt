@@ -14,7 +14,8 @@ seconds-init c = record {
 }
 
 pub join_two-requires-clause-meet : goal.join_two-requires-clause-meet
-join_two-requires-clause-meet c = c.requires.meet _ (Contains-read c.args.seconds.now c.seconds.second-index _ c.seconds-test.true (get_or_default c.args.seconds.now c.seconds.second-index _ _ c.seconds-test.true))
+join_two-requires-clause-meet c = c.requires.meet _ (Contains-read c.args.seconds.now c.seconds.second-index _ c.seconds-test.true
+    (get_or_default c.args.seconds.now c.seconds.second-index _ _ c.seconds-test.true))
 
 pub join_two-requires-clause-counts : goal.join_two-requires-clause-counts
 join_two-requires-clause-counts c entry inside = c.requires.counts entry inside ∙ sym c.seconds.invariant.count
@@ -25,10 +26,12 @@ seconds-preserved c = record {
   tell = c.in_ok-join_two.ensures.tell;
   asks = λ rules. asks_on rules c.args.sets.now.count _ c.args.entries.now c.args.more.now _ _ c.seconds.invariant.count (c.seconds.invariant.asks rules)
       (c.in_ok-join_two.ensures.asks rules);
-  met = met_turn c.args.entries.now c.args.since c.seconds.more c.join_two.new.more c.args.first c.args.seconds.now c.seconds.second-index _ c.args.from.now c.args.to.now
-      c.seconds-test.true (get_or_default c.args.seconds.now c.seconds.second-index _ _ c.seconds-test.true) (c.in_ok-join_two.ensures.asks []).kept
+  met = met_turn c.args.entries.now c.args.since c.seconds.more c.join_two.new.more c.args.first c.args.seconds.now c.seconds.second-index _ c.args.from.now
+      c.args.to.now c.seconds-test.true
+      (get_or_default c.args.seconds.now c.seconds.second-index _ _ c.seconds-test.true) (c.in_ok-join_two.ensures.asks []).kept
       c.seconds.invariant.met c.in_ok-join_two.ensures.met;
 }
 
 pub returns-clause-met : goal.returns-clause-met
-returns-clause-met c second inside = c.seconds.invariant.met second (subst (λ it. Contains it second) (sym (take_all c.seconds.second-index c.args.seconds.now c.seconds-test.false)) inside)
+returns-clause-met c second inside = c.seconds.invariant.met second (subst (λ it. Contains it second)
+    (sym (take_all c.seconds.second-index c.args.seconds.now c.seconds-test.false)) inside)

@@ -25,12 +25,13 @@ longer-requires-clause-counted c = subst (λ n. AreCounted n c.args.kept.now) (s
 pub given-preserved : goal.given-preserved
 given-preserved c = rw (take-item c.args.given.now c.given.before-index c.before-item.result c.given-test.true c.before-item.is)
     (longer_turn c.args.step.now.known.now c.args.own.now c.args.goal.now c.args.floor
-    (IsTold c.args.step.now.known.now c.args.step.now.sides c.args.step.now.places.now c.args.kept.now (c.args.step.now.to.now ++ c.args.step.now.owns.now)) (take c.given.before-index c.args.given.now)
+    (IsTold c.args.step.now.known.now c.args.step.now.sides c.args.step.now.places.now c.args.kept.now (c.args.step.now.to.now ++ c.args.step.now.owns.now))
+    (take c.given.before-index c.args.given.now)
     c.given.next c.longer.new.next c.before-item.result c.given.invariant c.in_ok-longer.ensures.grown c.in_ok-longer.ensures.goes)
 
 pub returns : goal.returns
 returns c = longer_end c.args.step.now.known.now c.args.own.now c.args.goal.now c.args.floor
-    (IsTold c.args.step.now.known.now c.args.step.now.sides c.args.step.now.places.now c.args.kept.now (c.args.step.now.to.now ++ c.args.step.now.owns.now)) c.args.given.now c.given.next c.requires.apart
-    (subst (λ it. LongerSoFar c.args.step.now.known.now c.args.own.now c.args.goal.now c.args.floor
-    (IsTold c.args.step.now.known.now c.args.step.now.sides c.args.step.now.places.now c.args.kept.now (c.args.step.now.to.now ++ c.args.step.now.owns.now)) it c.given.next)
-    (take_all c.given.before-index c.args.given.now c.given-test.false) c.given.invariant)
+    (IsTold c.args.step.now.known.now c.args.step.now.sides c.args.step.now.places.now c.args.kept.now (c.args.step.now.to.now ++ c.args.step.now.owns.now))
+    c.args.given.now c.given.next c.requires.apart (subst (λ it. LongerSoFar c.args.step.now.known.now c.args.own.now c.args.goal.now c.args.floor
+    (IsTold c.args.step.now.known.now c.args.step.now.sides c.args.step.now.places.now c.args.kept.now (c.args.step.now.to.now ++ c.args.step.now.owns.now)) it
+    c.given.next) (take_all c.given.before-index c.args.given.now c.given-test.false) c.given.invariant)

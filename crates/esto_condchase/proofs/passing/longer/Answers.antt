@@ -28,10 +28,11 @@ links-preserved c =
     let Goes : List Support → ℕ → Type 0 = λ next place. (set : List Bool) (entry : Entry) → c.args.floor ≤ place
     → slice_get c.args.step.now.known.now place ≡ Some entry → SaysOne entry.claim c.args.own.now c.args.goal.now → Within c.args.before.now.product set
     → Within entry.product set → HasSupport next set
-    ⊎ IsTold c.args.step.now.known.now c.args.step.now.sides c.args.step.now.places.now c.args.kept.now (c.args.step.now.to.now ++ c.args.step.now.owns.now) set in
+    ⊎ IsTold c.args.step.now.known.now c.args.step.now.sides c.args.step.now.places.now c.args.kept.now
+    (c.args.step.now.to.now ++ c.args.step.now.owns.now) set in
     record {
-      grown = grown_then (IsLonger c.args.step.now.known.now c.args.own.now c.args.goal.now c.args.before.now) c.args.next.now c.links.next c.longer_at-in-links.new.next
-          c.links.invariant.grown c.in_ok-longer_at.ensures.grown;
+      grown = grown_then (IsLonger c.args.step.now.known.now c.args.own.now c.args.goal.now c.args.before.now) c.args.next.now c.links.next
+          c.longer_at-in-links.new.next c.links.invariant.grown c.in_ok-longer_at.ensures.grown;
       tried = each_more (Goes c.longer_at-in-links.new.next) c.args.links.now c.links.place-index _ c.links-test.true
           (get_or_default c.args.links.now c.links.place-index _ _ c.links-test.true) c.in_ok-longer_at.ensures.goes
           (λ place inside set entry late at says within its_within. elim (c.links.invariant.tried place inside set entry late at says within its_within) [
@@ -46,6 +47,8 @@ returns-clause-goes c set within link =
     (λ place inside entry late at says its_within. each_seen (λ place. (entry : Entry) → c.args.floor ≤ place
     → slice_get c.args.step.now.known.now place ≡ Some entry → SaysOne entry.claim c.args.own.now c.args.goal.now → Within entry.product set
     → HasSupport c.links.next set
-    ⊎ IsTold c.args.step.now.known.now c.args.step.now.sides c.args.step.now.places.now c.args.kept.now (c.args.step.now.to.now ++ c.args.step.now.owns.now) set) c.args.links.now c.links.place-index
-    c.links-test.false (λ its its_inside its_entry its_late its_at its_says in_set. c.links.invariant.tried its its_inside set its_entry its_late its_at its_says within in_set) place inside entry
+    ⊎ IsTold c.args.step.now.known.now c.args.step.now.sides c.args.step.now.places.now c.args.kept.now (c.args.step.now.to.now ++ c.args.step.now.owns.now)
+    set) c.args.links.now c.links.place-index
+    c.links-test.false (λ its its_inside its_entry its_late its_at its_says in_set. c.links.invariant.tried its its_inside set its_entry its_late its_at
+    its_says within in_set) place inside entry
     late at says its_within) link

@@ -23,9 +23,10 @@ pub returns : goal.returns
 returns c own term at_own at_term =
     longer_at_term c.args.step.now.known.now (meets c.args.step.now.from.now c.args.step.now.terms.now c.args.step.now.to.now c.args.step.now.owns.now)
     c.args.step.now.terms.now c.args.step.now.owns.now c.args.index c.args.floor
-    (IsTold c.args.step.now.known.now c.args.step.now.sides c.args.step.now.places.now c.args.kept.now (c.args.step.now.to.now ++ c.args.step.now.owns.now)) c.args.supports.now _
+    (IsTold c.args.step.now.known.now c.args.step.now.sides c.args.step.now.places.now c.args.kept.now (c.args.step.now.to.now ++ c.args.step.now.owns.now))
+    c.args.supports.now _
     _ c.index-step-index.result _ c.index-step-index-2.result c.met_first-goal.result.now own term at_own at_term c.requires.owns c.requires.terms
     refl refl c.met_first-goal.ensures
     (longer_items c.args.step.now.known.now _ c.met_first-goal.result.now c.args.floor
-    (IsTold c.args.step.now.known.now c.args.step.now.sides c.args.step.now.places.now c.args.kept.now (c.args.step.now.to.now ++ c.args.step.now.owns.now)) c.args.supports.now c.items.result.now _
-    c.items.ensures c.in_ok-supports.ensures)
+    (IsTold c.args.step.now.known.now c.args.step.now.sides c.args.step.now.places.now c.args.kept.now (c.args.step.now.to.now ++ c.args.step.now.owns.now))
+    c.args.supports.now c.items.result.now _ c.items.ensures c.in_ok-supports.ensures)

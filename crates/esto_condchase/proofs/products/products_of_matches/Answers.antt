@@ -7,4 +7,5 @@ products_among-products-requires-clause-groups c = groups_of c.args.entries.now 
 
 pub returns-clause-tell : goal.returns-clause-tell
 returns-clause-tell c =
-    IfOk-weaker c.products_among-products.result _ _ (λ found tell. tell c.args.entries.now c.in_ok-groups.ensures c.requires.joined) c.products_among-products.ensures.tell
+    IfOk-weaker c.products_among-products.result _ _ (λ found tell. tell c.args.entries.now c.in_ok-groups.ensures c.requires.joined)
+    c.products_among-products.ensures.tell

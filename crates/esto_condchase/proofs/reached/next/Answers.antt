@@ -13,8 +13,8 @@ steps_from-requires-clause-one c =
 pub ones-preserved : goal.ones-preserved
 ones-preserved c = record {
   counted = c.in_ok-steps_from.ensures.counted;
-  gathers = gathers_more (λ (key : List Term × List Bool) (one : Reached). StepsFrom c.args.groups.now c.args.from.now c.args.these.now c.args.atom.now one key.0
-      key.1) c.args.ones.now c.ones.one-index c.one-item.result (λ key. Reach c.ones.later.items key.0 key.1)
+  gathers = gathers_more (λ (key : List Term × List Bool) (one : Reached). StepsFrom c.args.groups.now c.args.from.now c.args.these.now c.args.atom.now one
+      key.0 key.1) c.args.ones.now c.ones.one-index c.one-item.result (λ key. Reach c.ones.later.items key.0 key.1)
       (λ key. Reach c.steps_from.new.later.items key.0 key.1) c.ones-test.true c.one-item.is c.ones.invariant.gathers
       (λ key. c.in_ok-steps_from.ensures.reach key.0 key.1);
 }

@@ -35,4 +35,5 @@ pub returns-clause-reach : goal.returns-clause-reach
 returns-clause-reach c to set =
     gathers_over_all (λ (key : List Term × List Bool) (group : Group). StepsWith c.args.groups.now c.args.from.now c.args.these.now c.args.atom.now
     c.args.one.now group key.0 key.1) c.args.groups.now (λ key. Reach c.args.later.now.items key.0 key.1) c.groups.group-index
-    (λ key. Reach c.groups.later.items key.0 key.1) (subst (λ them. length them ≤ c.groups.group-index) c.items-group-items.ensures c.groups-test.false) c.groups.invariant.gathers (to, set)
+    (λ key. Reach c.groups.later.items key.0 key.1) (subst (λ them. length them ≤ c.groups.group-index) c.items-group-items.ensures c.groups-test.false)
+    c.groups.invariant.gathers (to, set)

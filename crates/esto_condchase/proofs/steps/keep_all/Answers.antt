@@ -33,9 +33,11 @@ supports-preserved c =
     record {
       grown = grown_then Comes c.args.kept.now c.supports.kept c.keep.new.kept c.supports.invariant.grown
           (grown_weaker This Comes c.supports.kept c.keep.new.kept (λ way is. (c.support-item.result, inside, is)) c.in_ok-keep.ensures.grown);
-      there = each_more (λ (support : Support). IsTold c.args.step.now.known.now c.args.step.now.sides c.args.step.now.places.now c.keep.new.kept to support.product) c.args.supports.now
+      there = each_more (λ (support : Support). IsTold c.args.step.now.known.now c.args.step.now.sides c.args.step.now.places.now c.keep.new.kept to
+          support.product) c.args.supports.now
           c.supports.support-index c.support-item.result c.supports-test.true c.support-item.is c.in_ok-keep.ensures.there
-          (λ support its. told_kept c.args.step.now.known.now c.args.step.now.sides c.args.step.now.places.now c.supports.kept c.keep.new.kept to support.product c.in_ok-keep.ensures.grown.kept
+          (λ support its. told_kept c.args.step.now.known.now c.args.step.now.sides c.args.step.now.places.now c.supports.kept c.keep.new.kept to
+          support.product c.in_ok-keep.ensures.grown.kept
           (c.supports.invariant.there support its));
       counted = counted_grown c.args.count This c.supports.kept c.keep.new.kept c.in_ok-keep.ensures.grown
           (λ way is. ap (λ (it : Way). length it.product) is ∙ c.requires.supports c.support-item.result inside) c.supports.invariant.counted;

@@ -28,12 +28,12 @@ facts-preserved c =
     record {
       grown = grown_then (Comes entries from atom before) c.args.kept.now c.facts.kept c.match_entry.new.kept c.facts.invariant.grown
           c.in_ok-match_entry.ensures.grown;
-      tried = each_more (GoesSince entries since from atom sides places before c.match_entry.new.kept) c.tried_of-place-items.result.now c.facts.place-index _ c.facts-test.true
-          (get_or_default c.tried_of-place-items.result.now c.facts.place-index _ _ c.facts-test.true)
+      tried = each_more (GoesSince entries since from atom sides places before c.match_entry.new.kept) c.tried_of-place-items.result.now c.facts.place-index _
+          c.facts-test.true (get_or_default c.tried_of-place-items.result.now c.facts.place-index _ _ c.facts-test.true)
           (at_since entries from atom sides places before since c.floor_for-floor.result _ c.is_new-new.result c.match_entry.new.kept c.floor_for-floor.ensures
           c.is_new-new.ensures c.in_ok-match_entry.ensures.goes)
-          (λ place inside. since_kept entries from atom sides places before since place c.facts.kept c.match_entry.new.kept c.in_ok-match_entry.ensures.grown.kept
-          (c.facts.invariant.tried place inside));
+          (λ place inside. since_kept entries from atom sides places before since place c.facts.kept c.match_entry.new.kept
+          c.in_ok-match_entry.ensures.grown.kept (c.facts.invariant.tried place inside));
       counted = c.in_ok-match_entry.ensures.counted;
     }
 

@@ -24,11 +24,12 @@ returns-clause-grown c = on_ok_weaker c.keep_all.result
 
 pub returns-clause-there : goal.returns-clause-there
 returns-clause-there c = on_ok_both c.keep_all.result
-    (λ grown there set within passes. kept_there c.args.step.now.known.now (meets c.args.step.now.from.now c.args.step.now.terms.now c.args.step.now.to.now c.args.step.now.owns.now)
-    c.args.step.now.terms.now c.args.step.now.owns.now (c.args.step.now.to.now ++ c.args.step.now.owns.now) c.args.at c.args.floor
-    (length c.args.step.now.owns.now) c.args.step.now.sides c.args.step.now.places.now c.args.kept.now c.keep_all.new.kept c.in_ok-start.start c.in_ok-supports.supports
-    c.items.result.now c.items.ensures grown.kept c.in_ok-supports.ensures there set
-    (subst (λ it. Within it set) (sym (ap (λ (it : Support). it.product) c.in_ok-start.ensures)) within) passes) c.keep_all.ensures.grown c.keep_all.ensures.there
+    (λ grown there set within passes. kept_there c.args.step.now.known.now (meets c.args.step.now.from.now c.args.step.now.terms.now c.args.step.now.to.now
+    c.args.step.now.owns.now) c.args.step.now.terms.now c.args.step.now.owns.now (c.args.step.now.to.now ++ c.args.step.now.owns.now) c.args.at c.args.floor
+    (length c.args.step.now.owns.now) c.args.step.now.sides c.args.step.now.places.now c.args.kept.now c.keep_all.new.kept c.in_ok-start.start
+    c.in_ok-supports.supports c.items.result.now c.items.ensures grown.kept c.in_ok-supports.ensures there set
+    (subst (λ it. Within it set) (sym (ap (λ (it : Support). it.product) c.in_ok-start.ensures)) within) passes) c.keep_all.ensures.grown
+    c.keep_all.ensures.there
 
 pub returns-clause-counted : goal.returns-clause-counted
 returns-clause-counted c = on_ok_weaker c.keep_all.result

@@ -13,16 +13,22 @@ row-init c = record {
 
 pub row-preserved : goal.row-preserved
 row-preserved c = record {
-  grown = grown_then (ComesBy c.args.step.now.known.now c.args.step.now.from.now c.args.step.now.terms.now c.args.before.now c.args.place c.args.step.now.owns.now)
-      c.args.kept.now c.row.kept c.pass_at.new.kept c.row.invariant.grown c.in_ok-pass_at.ensures.grown;
+  grown = grown_then (ComesBy c.args.step.now.known.now c.args.step.now.from.now c.args.step.now.terms.now c.args.before.now c.args.place
+      c.args.step.now.owns.now) c.args.kept.now c.row.kept c.pass_at.new.kept c.row.invariant.grown c.in_ok-pass_at.ensures.grown;
   there = λ its below. elim (cases_order its c.row.at) [
-    | inl same ↦ subst (IsPassedAt c.args.step.now.known.now (meets c.args.step.now.from.now c.args.step.now.terms.now c.args.step.now.to.now c.args.step.now.owns.now) c.args.step.now.terms.now
-        c.args.step.now.owns.now c.args.floor c.args.product.now (IsTold c.args.step.now.known.now c.args.step.now.sides c.args.step.now.places.now c.pass_at.new.kept (c.args.step.now.to.now ++ c.args.step.now.owns.now))) (sym same)
+    | inl same ↦ subst (IsPassedAt c.args.step.now.known.now (meets c.args.step.now.from.now c.args.step.now.terms.now c.args.step.now.to.now
+        c.args.step.now.owns.now) c.args.step.now.terms.now
+        c.args.step.now.owns.now c.args.floor c.args.product.now (IsTold c.args.step.now.known.now c.args.step.now.sides c.args.step.now.places.now
+        c.pass_at.new.kept (c.args.step.now.to.now ++ c.args.step.now.owns.now))) (sym same)
         c.in_ok-pass_at.ensures.there
     | inr apart ↦ elim apart [
-      | inl lower ↦ passed_kept c.args.step.now.known.now (meets c.args.step.now.from.now c.args.step.now.terms.now c.args.step.now.to.now c.args.step.now.owns.now) c.args.step.now.terms.now c.args.step.now.owns.now its c.args.floor c.args.product.now
-          (IsTold c.args.step.now.known.now c.args.step.now.sides c.args.step.now.places.now c.row.kept (c.args.step.now.to.now ++ c.args.step.now.owns.now)) (IsTold c.args.step.now.known.now c.args.step.now.sides c.args.step.now.places.now c.pass_at.new.kept (c.args.step.now.to.now ++ c.args.step.now.owns.now))
-          (λ set. told_kept c.args.step.now.known.now c.args.step.now.sides c.args.step.now.places.now c.row.kept c.pass_at.new.kept (c.args.step.now.to.now ++ c.args.step.now.owns.now) set c.in_ok-pass_at.ensures.grown.kept)
+      | inl lower ↦ passed_kept c.args.step.now.known.now (meets c.args.step.now.from.now c.args.step.now.terms.now c.args.step.now.to.now
+          c.args.step.now.owns.now) c.args.step.now.terms.now c.args.step.now.owns.now its c.args.floor c.args.product.now
+          (IsTold c.args.step.now.known.now c.args.step.now.sides c.args.step.now.places.now c.row.kept (c.args.step.now.to.now ++ c.args.step.now.owns.now))
+          (IsTold c.args.step.now.known.now c.args.step.now.sides c.args.step.now.places.now c.pass_at.new.kept
+          (c.args.step.now.to.now ++ c.args.step.now.owns.now))
+          (λ set. told_kept c.args.step.now.known.now c.args.step.now.sides c.args.step.now.places.now c.row.kept c.pass_at.new.kept
+          (c.args.step.now.to.now ++ c.args.step.now.owns.now) set c.in_ok-pass_at.ensures.grown.kept)
           (c.row.invariant.there its lower)
       | inr above ↦ absurd (omega (arith, below, above))
     ]

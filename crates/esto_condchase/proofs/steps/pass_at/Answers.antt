@@ -8,10 +8,12 @@ pub returns-then-equal-clause-grown : goal.returns-then-equal-clause-grown
 returns-then-equal-clause-grown c = grown_same _ c.args.kept.now c.args.kept.now refl
 
 pub returns-then-equal-clause-there : goal.returns-then-equal-clause-there
-returns-then-equal-clause-there c = passed_equal c.args.step.now.known.now (meets c.args.step.now.from.now c.args.step.now.terms.now c.args.step.now.to.now c.args.step.now.owns.now)
+returns-then-equal-clause-there c = passed_equal c.args.step.now.known.now (meets c.args.step.now.from.now c.args.step.now.terms.now c.args.step.now.to.now
+    c.args.step.now.owns.now)
     c.args.step.now.terms.now c.args.step.now.owns.now c.args.at c.args.floor c.args.product.now _ c.index-step-at-2.result c.index-step-at.result
     c.met_first-goal.result.now c.requires.at (subst (λ n. c.args.at < n) c.requires.rows c.requires.at) c.index-step-at-2.is c.index-step-at.is
-    (c.met_first-goal.ensures ∙ ap (meets c.args.step.now.from.now c.args.step.now.terms.now c.args.step.now.to.now c.args.step.now.owns.now) (sym c.index-step-at.is)) (c.index-step-at-2.is ∙ c.equal.ensures.0 c.if-equal.true)
+    (c.met_first-goal.ensures ∙ ap (meets c.args.step.now.from.now c.args.step.now.terms.now c.args.step.now.to.now c.args.step.now.owns.now)
+    (sym c.index-step-at.is)) (c.index-step-at-2.is ∙ c.equal.ensures.0 c.if-equal.true)
 
 pub returns-clause-grown : goal.returns-clause-grown
 returns-clause-grown c = c.pass.ensures.grown

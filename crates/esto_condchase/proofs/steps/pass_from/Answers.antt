@@ -13,7 +13,8 @@ pub returns-then-is_old-clause-there : goal.returns-then-is_old-clause-there
 returns-then-is_old-clause-there c set within its_within passes = inr (c.is_old.ensures c.if-is_old.true set passes)
 
 pub union_of-requires : goal.union_of-requires
-union_of-requires c = c.requires.count ∙ sym (c.requires.counts c.args.entry.now (Contains-at c.args.step.now.known.now c.args.place c.args.entry.now c.requires.at))
+union_of-requires c = c.requires.count ∙ sym (c.requires.counts c.args.entry.now (Contains-at c.args.step.now.known.now c.args.place c.args.entry.now
+    c.requires.at))
 
 pub pass_within-requires-clause-product : goal.pass_within-requires-clause-product
 pass_within-requires-clause-product c = (c.args.entry.now, c.requires.at, c.in_ok-product.ensures)

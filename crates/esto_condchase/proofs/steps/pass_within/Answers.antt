@@ -44,10 +44,12 @@ pub returns-clause-there : goal.returns-clause-there
 returns-clause-there c = on_ok_weaker c.pass_anew.result (λ there.
     floor_goes c.args.step.now.known.now (meets c.args.step.now.from.now c.args.step.now.terms.now c.args.step.now.to.now c.args.step.now.owns.now)
     c.args.step.now.terms.now c.args.step.now.owns.now c.args.floor c.args.product.now
-    (IsTold c.args.step.now.known.now c.args.step.now.sides c.args.step.now.places.now c.pass_anew.new.kept (c.args.step.now.to.now ++ c.args.step.now.owns.now))
+    (IsTold c.args.step.now.known.now c.args.step.now.sides c.args.step.now.places.now c.pass_anew.new.kept
+    (c.args.step.now.to.now ++ c.args.step.now.owns.now))
     (anew_end c.args.step.now.known.now (meets c.args.step.now.from.now c.args.step.now.terms.now c.args.step.now.to.now c.args.step.now.owns.now)
     c.args.step.now.terms.now c.args.step.now.owns.now c.args.floor c.args.product.now
-    (IsTold c.args.step.now.known.now c.args.step.now.sides c.args.step.now.places.now c.pass_anew.new.kept (c.args.step.now.to.now ++ c.args.step.now.owns.now))
+    (IsTold c.args.step.now.known.now c.args.step.now.sides c.args.step.now.places.now c.pass_anew.new.kept
+    (c.args.step.now.to.now ++ c.args.step.now.owns.now))
     c.requires.rows there) (let apart = c.if-floor-eq0.false in grind (arith, nat_tests, apart))) c.pass_anew.ensures.there
 
 pub returns-clause-counted : goal.returns-clause-counted

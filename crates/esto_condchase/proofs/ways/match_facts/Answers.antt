@@ -4,7 +4,8 @@ use Rattle.esto_known.proofs.LiveLemmas.{fresh_items}
 use Rattle.esto_condchase.proofs.ways.match_facts.Goals as goal
 
 pub match_all-requires-clause-facts : goal.match_all-requires-clause-facts
-match_all-requires-clause-facts c = subst (AreAllFacts c.args.level.now.known.now c.args.level.now.atom.now.relation) (sym c.items-2.ensures) c.in_ok-facts.ensures
+match_all-requires-clause-facts c = subst (AreAllFacts c.args.level.now.known.now c.args.level.now.atom.now.relation) (sym c.items-2.ensures)
+    c.in_ok-facts.ensures
 
 pub match_all-requires-clause-fresh : goal.match_all-requires-clause-fresh
 match_all-requires-clause-fresh c = fresh_items c.args.level.now.known.now c.args.level.now.since c.in_ok-facts.facts c.items.result.now c.items-2.result.now

@@ -13,8 +13,8 @@ pub atoms-init : goal.atoms-init
 atoms-init c =
     let are = c.in_ok-ways.ensures in
     record {
-      found = found_none c.args.known.now (terms_of c.args.body.now ++ c.args.asked.now) c.args.sides.now c.in_ok-ways.ways (empty_way c.args.count) are refl refl refl
-          (λ number has. none_has c.args.count number has);
+      found = found_none c.args.known.now (terms_of c.args.body.now ++ c.args.asked.now) c.args.sides.now c.in_ok-ways.ways (empty_way c.args.count) are
+          refl refl refl (λ number has. none_has c.args.count number has);
       from_is = c.new-from.ensures;
       counted = counted_one c.args.count c.in_ok-ways.ways (empty_way c.args.count) are (length-replicate c.args.count false);
     }

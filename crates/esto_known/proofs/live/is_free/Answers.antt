@@ -1,6 +1,6 @@
 use Rattle.std.proofs.lemmas.Bool.{false≢true}
 use Rattle.esto_term.proofs.ListLemmas.{Contains-at}
-use Rattle.esto_condchase.proofs.passing.is_free.Goals as goal
+use Rattle.esto_known.proofs.live.is_free.Goals as goal
 
 pub returns-then-place-floor : goal.returns-then-place-floor
 returns-then-place-floor c free = absurd (false≢true free)

@@ -1,5 +1,5 @@
 use Rattle.std.proofs.Common.{◌≡◌, ◌++◌, take}
-use Rattle.esto_condchase.proofs.rounds.places_of.Given as goal
+use Rattle.esto_known.proofs.way.places_of.Given as goal
 
 abbrev pub invariant-links : goal.invariant-links
 invariant-links l = l.places ≡ l.way.facts ++ take l.place-index l.place-items

@@ -1,6 +1,6 @@
 use Rattle.std.proofs.Common.{◌≡◌, Some, slice_get, subst}
 use Rattle.esto_known.proofs.CoverLemmas.{read_at}
-use Rattle.esto_condchase.proofs.passing.link_at.Goals as goal
+use Rattle.esto_known.proofs.live.link_at.Goals as goal
 
 pub returns-then-says_one : goal.returns-then-says_one
 returns-then-says_one c = (

@@ -1,7 +1,7 @@
 use Rattle.std.proofs.Common.{◌++◌, ◌∷◌, [], ap, ◌∙◌}
 use Rattle.std.proofs.lemmas.Result.{on_ok_weaker}
 use Rattle.esto_known.proofs.DoneLemmas.{handed_on}
-use Rattle.esto_condchase.proofs.steps.facts_with.Goals as goal
+use Rattle.esto_known.proofs.way.facts_with.Goals as goal
 
 pub returns : goal.returns
 returns c = handed_on c.push.result _ c.and.result c.and.ensures _

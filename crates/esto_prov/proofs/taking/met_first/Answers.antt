@@ -1,7 +1,7 @@
 use Rattle.std.proofs.Common.{sym, ◌∙◌}
 use Rattle.std.proofs.lemmas.Bool.{false≢true}
-use Rattle.esto_condchase.proofs.WayLemmas.{met_behind, met_within}
-use Rattle.esto_condchase.proofs.passing.met_first.Goals as goal
+use Rattle.esto_prov.proofs.MeetLemmas.{met_behind, met_within}
+use Rattle.esto_prov.proofs.taking.met_first.Goals as goal
 
 pub returns-then-has_term : goal.returns-then-has_term
 returns-then-has_term c = c.taken_term.ensures

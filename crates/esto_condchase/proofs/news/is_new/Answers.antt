@@ -1,7 +1,0 @@
-use Rattle.esto_condchase.proofs.NewsLemmas.{all_old}
-use Rattle.esto_condchase.proofs.news.is_new.Goals as goal
-
-pub returns-else-has_later : goal.returns-else-has_later
-returns-else-has_later c = λ told.
-    all_old c.args.way.now c.args.since _ _ c.items.ensures c.items-else-has_later.ensures (c.has_later.ensures.old c.if-has_later.false)
-    (c.has_later-else-has_later.ensures.old told)
