@@ -33,8 +33,8 @@ module _ (entries : List Entry) (set : List Bool) where
   one_step place term next (inr claims) = back (in_world place (Same next term) claims) here
 
   is_link : (place : ℕ) (term next : Term) → SaysOneIn entries set place term next → IsLink entries set place
-  is_link place term next (inl claims) = (term, next, claims)
-  is_link place term next (inr claims) = (next, term, claims)
+  is_link place term next (inl (entry, at, within, is)) = (entry, at, (term, next, within, is))
+  is_link place term next (inr (entry, at, within, is)) = (entry, at, (next, term, within, is))
 
   claims_one : (place : ℕ) (term next : Term) → SaysOneIn entries set place term next
       → Claims entries place (Same term next) ⊎ Claims entries place (Same next term)
@@ -52,11 +52,11 @@ module _ (entries : List Entry) (set : List Bool) where
 
   -- a link is of an entry of the world
   link_within : (place : ℕ) (entry : Entry) → slice_get entries place ≡ Some entry → IsLink entries set place → Within entry.product set
-  link_within place entry at (left, right, (its, its_at, within, is)) =
+  link_within place entry at (its, its_at, (left, right, within, is)) =
       subst (λ (it : Entry). Within it.product set) (same_Some its entry (sym its_at ∙ at)) within
 
   pub link_there : (links : List ℕ) → AreAllLinks entries set links → (link : ℕ) → Contains links link → link < length entries
-  link_there links all link inside = let (left, right, (its, its_at, within, is)) = (all link).0 inside in slice_get_within entries link its its_at
+  link_there links all link inside = let it = (all link).0 inside in slice_get_within entries link it.0 it.1
 
 -- ---- all links
 
@@ -71,11 +71,11 @@ module _ (entries : List Entry) (set : List Bool) where
   module _ (count : ℕ) (entry : Entry) (at : slice_get entries count ≡ Some entry) (links : List ℕ) (so_far : AreLinksBelow entries set count links) where
     -- an entry that is a link
     pub links_more : IsEqualityIn set entry → (new : List ℕ) → new ≡ links ++ count ∷ [] → AreLinksBelow entries set (count + 1) new
-    links_more (left, right, within, is) new pushed place = (
+    links_more is new pushed place = (
       (λ inside. elim (Contains-append_cases links (count ∷ []) place (subst (λ (it : List ℕ). Contains it place) pushed inside)) [
         | inl earlier ↦ let before = (so_far place).0 earlier in (omega (arith, before.0), before.1)
         | inr last ↦ elim (Contains-cases count [] place last) [
-          | inl same ↦ subst (λ (it : ℕ). (it < count + 1) × IsLink entries set it) same (omega arith, (left, right, (entry, at, within, is)))
+          | inl same ↦ subst (λ (it : ℕ). (it < count + 1) × IsLink entries set it) same (omega arith, (entry, at, is))
           | inr none ↦ absurd (Contains-nil place none)
         ]
       ]),
@@ -96,15 +96,12 @@ module _ (entries : List Entry) (set : List Bool) where
     )
       where
         not_last : IsLink entries set count → ⊥
-        not_last (left, right, (its, its_at, within, is)) =
-            let its_is : its ≡ entry = same_Some its entry (sym its_at ∙ at) in
-            other (left, right, subst (λ (it : Entry). Within it.product set) its_is within, subst (λ (it : Entry). it.claim ≡ Same left right) its_is is)
+        not_last (its, its_at, is) = other (subst (IsEqualityIn set) (same_Some its entry (sym its_at ∙ at)) is)
 
   pub links_all : (count : ℕ) (links : List ℕ) → length entries ≤ count → AreLinksBelow entries set count links → AreAllLinks entries set links
   links_all count links past so_far place = (
     (λ inside. ((so_far place).0 inside).1),
-    (λ (left, right, (its, its_at, within, is)).
-        (so_far place).1 (omega (arith, past, slice_get_within entries place its its_at), (left, right, (its, its_at, within, is)))),
+    (λ link. (so_far place).1 (omega (arith, past, slice_get_within entries place link.0 link.1), link)),
   )
 
 -- ---- chains that are found

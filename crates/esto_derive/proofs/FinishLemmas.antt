@@ -65,10 +65,10 @@ module _ (entries : List Entry) (set : List Bool) (head targets : List Term) (bo
 
     module _ (links : List ℕ) (are : AreLinks entries set links) where
       pub links_there : (place : ℕ) → Contains links place → place < length entries
-      links_there place inside = let its = are place inside in slice_get_within entries place its.2.0 its.2.1
+      links_there place inside = let its = are place inside in slice_get_within entries place its.0 its.1
 
       links_within : (place : ℕ) (entry : Entry) → Contains links place → slice_get entries place ≡ Some entry → Within entry.product set
-      links_within place entry inside at = let its = are place inside in claims_within entries set place entry at its.2.0 its.2.1 its.2.2
+      links_within place entry inside at = let its = are place inside in claims_within entries set place entry at its.0 its.1 its.2.2
 
       pub basis : (case : Case) → case.set ≡ set → AreDerived case.expanded case.rules entries → (used : List Bool) → AreUsed entries facts links used
           → IsBasis case entries used

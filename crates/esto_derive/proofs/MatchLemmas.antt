@@ -106,7 +106,7 @@ match_at entries set head body chosen targets facts links stated (are, fits) hea
   chosen = chosen;
   stated = zip_weaker (λ (place : ℕ) (fact : Fact Term). ClaimsIn entries set place (Stated fact))
       (λ (place : ℕ) (fact : Fact Term). Claims entries place (Stated fact)) facts chosen (λ place fact inside (entry, at, within, is). (entry, at, is)) stated;
-  equalities = λ place inside. let its = links_are place inside in (its.0, its.1, (its.2.0, its.2.1, its.2.3));
+  equalities = λ place inside. let its = links_are place inside in (its.2.0, its.2.1, (its.0, its.1, its.2.3));
   alike = are_like (InWorld entries set) body chosen are;
   fits = body_fits (IsNamed entries links) head body chosen targets lengths head_lengths by_links;
   heads = heads_linked (IsNamed entries links) head body chosen targets lengths head_lengths by_links safe;

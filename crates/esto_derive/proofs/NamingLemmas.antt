@@ -80,7 +80,8 @@ module _ (claims : List Claim) (written : List ℕ) (lines : List (List ℕ)) (e
           );
       links_only = λ number inside.
           let (line, linked_inside, is) = Contains-map_from (λ line. line + 1) linked number inside in
-          let (place, place_inside, own_inside) = Contains-flat_from (λ place. own_lines (slice_get lines place)) links line (from_links (lines_at lines links) linked adds line linked_inside) in
+          let (place, place_inside, own_inside) = Contains-flat_from (λ place. own_lines (slice_get lines place)) links line
+          (from_links (lines_at lines links) linked adds line linked_inside) in
           let (own, at, owned) = link_lines place place_inside in
           let (other, behind, line_at) = owned.only line (subst (λ (it : List ℕ). Contains it line) (ap own_lines at) own_inside) in
           (place, other, place_inside, behind, ap (numbered written) (sym is) ∙ numbered_next written line ∙ line_at);

@@ -97,7 +97,8 @@ module _ (claims : List Claim) (lines : List (List ℕ)) (its : List Entry) (pla
       (equalities : (place : ℕ) → Contains links place → IsEquality its place) (linked : List ℕ) (adds : AddsNew [] (lines_at lines links) linked) where
     pub are_equalities : AreEqualities claims linked
     are_equalities line inside =
-        let (place, place_inside, own_inside) = Contains-flat_from (λ place. own_lines (slice_get lines place)) links line (from_links (lines_at lines links) linked adds line inside) in
+        let (place, place_inside, own_inside) = Contains-flat_from (λ place. own_lines (slice_get lines place)) links line
+        (from_links (lines_at lines links) linked adds line inside) in
         let (left, right, claims_it) = equalities place place_inside in
         let (own, at, (are, by)) = stands place (among place place_inside) (Same left right) claims_it in
         are line (subst (λ (it : List ℕ). Contains it line) (ap own_lines at) own_inside)

@@ -26,7 +26,7 @@ IsEqualityIn set entry = (left : Term) × (right : Term) × Within entry.product
 
 -- The entry at the place says in the world of the set that two terms are one.
 abbrev pub IsLink : List Entry → List Bool → ℕ → Type 0
-IsLink entries set place = (left : Term) × (right : Term) × ClaimsIn entries set place (Same left right)
+IsLink entries set place = (entry : Entry) × (slice_get entries place ≡ Some entry) × IsEqualityIn set entry
 
 -- The entries at the places say in the world of the set that two terms are one.
 abbrev pub AreLinks : List Entry → List Bool → List ℕ → Type 0

@@ -56,8 +56,8 @@ fn targets_and_facts(
     both(alloc, targets.items(), terms.items())
 }
 
-/// Entries of equalities in the world by which the targets are one with the head, and the terms of the facts at the places
-/// with those of the body.
+/// Entries of equalities in the world by which the targets are one with the head, and the terms of the facts at the
+/// places with those of the body.
 fn links_for(
     alloc: Global,
     world: &World,
@@ -184,10 +184,10 @@ fn write_in(
     write_match(alloc, &world, targets, query, rules)
 }
 
-/// Writes a certificate that the set's candidate is contained in the query, from the entries of the conditional chase of the
-/// plan's expansion. It has one line for each entry that the match of its last line uses, directly or through others, by that
-/// entry's reason: an entry that equalities make one has no line, and what stands for these is named in its place. Each line
-/// before the last claims what some entry claims whose product is a subset of the set.
+/// Writes a certificate that the set's candidate is contained in the query, from the entries of the conditional chase
+/// of the plan's expansion. It has one line for each entry that the match of its last line uses, directly or through
+/// others, by that entry's reason: an entry that equalities make one has no line, and what stands for these is named in
+/// its place. Each line before the last claims what some entry claims whose product is a subset of the set.
 pub fn write_certificate(
     alloc: Global,
     set: &RowBits,

@@ -11,8 +11,8 @@ use esto_prov::Claim;
 use esto_term::{List, OutOfMemory, Term};
 use std::alloc::Global;
 
-/// A term that is reached, and by what: the place of a term that was reached earlier, and that of an entry whose equality
-/// leads from there to it. The first term is reached by none.
+/// A term that is reached, and by what: the place of a term that was reached earlier, and that of an entry whose
+/// equality leads from there to it. The first term is reached by none.
 #[derive(Clone, Copy)]
 pub struct Reached<'a> {
     pub term: &'a Term,
@@ -68,7 +68,8 @@ fn chain_to(alloc: Global, reached: &[Reached], place: usize) -> Result<List<usi
 }
 
 impl<'a> World<'a> {
-    /// Goes over the equality from the term at a place of what is reached, so that the term on its other side is reached.
+    /// Goes over the equality from the term at a place of what is reached, so that the term on its other side is
+    /// reached.
     fn go_over(
         &self,
         link: usize,
@@ -108,8 +109,8 @@ impl<'a> World<'a> {
         Ok(())
     }
 
-    /// Goes on from the term, breadth first, until the other one is reached, and answers its place in what is reached. None
-    /// comes where no chain leads to it.
+    /// Goes on from the term, breadth first, until the other one is reached, and answers its place in what is reached.
+    /// None comes where no chain leads to it.
     fn reach(
         &self,
         term: &'a Term,

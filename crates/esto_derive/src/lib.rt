@@ -1,5 +1,5 @@
-//! Writing certificates: the derivation of a match of a query in the world of a set of a plan's atoms, from the entries of
-//! the conditional chase. Start from `write_certificate`.
+//! Writing certificates: the derivation of a match of a query in the world of a set of a plan's atoms, from the entries
+//! of the conditional chase. Start from `write_certificate`.
 #![tactic(auto)]
 
 mod certificate;

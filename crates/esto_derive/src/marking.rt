@@ -67,8 +67,8 @@ fn close(alloc: Global, entries: &[Entry], used: &mut RowBits) -> Result<(), Out
     Ok(())
 }
 
-/// Adds to the places those of links, and those of all entries that the entries at the places follow from, directly or through
-/// others.
+/// Adds to the places those of links, and those of all entries that the entries at the places follow from, directly or
+/// through others.
 pub fn close_with(
     alloc: Global,
     entries: &[Entry],

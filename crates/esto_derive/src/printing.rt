@@ -138,8 +138,8 @@ pub fn put_match(
     put_lists(alloc, text, lines, facts, links)
 }
 
-/// A law: a line in print says what the line says, where its numbers are at most the greatest of 64 bits, and it names a
-/// fact unless it is an expanded one.
+/// A law: a line in print says what the line says, where its numbers are at most the greatest of 64 bits, and it names
+/// a fact unless it is an expanded one.
 pub fn written_lines_are_read_back()
     ensures { LinesAreReadBack }
 {}

@@ -46,8 +46,8 @@ impl World<'_> {
         Ok(true)
     }
 
-    /// Entries of facts in the world that match the body, if there are any, where terms that have been met go on to meet
-    /// what they met first.
+    /// Entries of facts in the world that match the body, if there are any, where terms that have been met go on to
+    /// meet what they met first.
     #[cycle(find)]
     pub fn find(
         &self,
@@ -137,8 +137,8 @@ impl World<'_> {
         self.find_if_one(alloc, &longer, &met, &atom.terms, &fact.terms, rest)
     }
 
-    /// Entries of facts in the world that match the body, if there are any, and if what the terms meet first is one in the
-    /// world, place by place, with the others.
+    /// Entries of facts in the world that match the body, if there are any, and if what the terms meet first is one in
+    /// the world, place by place, with the others.
     #[cycle(find)]
     fn find_if_one(
         &self,
@@ -188,7 +188,8 @@ impl World<'_> {
         links.append(chain)
     }
 
-    /// Entries of equalities in the world by which each of the terms is one with what the term at its place meets first.
+    /// Entries of equalities in the world by which each of the terms is one with what the term at its place meets
+    /// first.
     pub fn links_of(
         &self,
         alloc: Global,

@@ -1,4 +1,4 @@
-use Rattle.std.proofs.Common.{List, ◌≡◌, inl, inr, length, None, subst, refl, sym, ap, ◌∙◌, arith}
+use Rattle.std.proofs.Common.{List, ◌≡◌, ◌++◌, inl, inr, length, None, subst, refl, sym, ap, ◌∙◌, arith}
 use Rattle.std.proofs.lemmas.List.{length-append}
 use Rattle.std.proofs.lemmas.Result.{IfOk-weaker}
 use Rattle.esto_term.proofs.ListLemmas.{each_more, each_seen}
@@ -30,11 +30,14 @@ find-returns t c =
 pub find_after-find_if_one-requires : goal.find_after-find_if_one-requires
 find_after-find_if_one-requires t c =
     let it = c.args.self.now in
+    let longer_is : c.in_ok-longer.longer ≡ c.args.from.now ++ c.args.atom.now.terms = c.in_ok-longer.ensures
+    ∙ (λ i. c.items.ensures i ++ c.items-2.ensures i) in
+    let met_is : c.in_ok-met.met ≡ c.args.to.now ++ c.args.fact.now.terms = c.in_ok-met.ensures ∙ (λ i. c.items-3.ensures i ++ c.items-4.ensures i) in
     let lengths : length c.in_ok-longer.longer ≡ length c.in_ok-met.met =
     omega (
       arith,
-      ap length c.in_ok-longer.ensures,
-      ap length c.in_ok-met.ensures,
+      ap length longer_is,
+      ap length met_is,
       length-append c.args.from.now c.args.atom.now.terms,
       length-append c.args.to.now c.args.fact.now.terms,
       c.requires.lengths,
@@ -48,7 +51,7 @@ find_after-find_if_one-requires t c =
           (
             lengths,
             fits_then (InWorld it.entries.now it.set.now) c.args.from.now c.args.to.now c.requires.lengths c.args.atom.now c.args.fact.now c.requires.fits
-                c.in_ok-longer.longer c.in_ok-met.met c.in_ok-longer.ensures c.in_ok-met.ensures,
+                c.in_ok-longer.longer c.in_ok-met.met longer_is met_is,
           ),
         ),
       ),
@@ -57,16 +60,20 @@ find_after-find_if_one-requires t c =
 pub find_after-returns : goal.find_after-returns
 find_after-returns t c =
     let it = c.args.self.now in
+    let longer_is : c.in_ok-longer.longer ≡ c.args.from.now ++ c.args.atom.now.terms = c.in_ok-longer.ensures
+    ∙ (λ i. c.items.ensures i ++ c.items-2.ensures i) in
+    let met_is : c.in_ok-met.met ≡ c.args.to.now ++ c.args.fact.now.terms = c.in_ok-met.ensures ∙ (λ i. c.items-3.ensures i ++ c.items-4.ensures i) in
     IfOk-weaker c.find_if_one.result _ _
     (λ places found. found_if_one it.entries.now it.set.now c.args.from.now c.args.to.now c.requires.lengths c.args.atom.now c.args.rest.now c.args.fact.now
     c.if-fact-atom.false (sym c.len.ensures ∙ c.if-len.false ∙ c.len-else-fact-atom.ensures) places
-    c.in_ok-longer.longer c.in_ok-met.met c.in_ok-longer.ensures c.in_ok-met.ensures found)
+    c.in_ok-longer.longer c.in_ok-met.met longer_is met_is found)
     c.find_if_one.ensures
 
 pub find_if_one-find-requires : goal.find_if_one-find-requires
 find_if_one-find-requires t c =
     let it = c.args.self.now in
-    let row = (row_of (InWorld it.entries.now it.set.now) c.args.from.now c.args.to.now c.args.terms.now c.args.others.now c.items.result.now c.items-2.result.now
+    let row = (row_of (InWorld it.entries.now it.set.now) c.args.from.now c.args.to.now c.args.terms.now c.args.others.now c.items.result.now
+    c.items-2.result.now
     c.items-3.result.now c.items-4.result.now c.in_ok-met.met c.items-5.result.now c.items.ensures c.items-2.ensures c.items-3.ensures c.items-4.ensures
     c.in_ok-met.ensures c.items-5.ensures).0 (c.in_ok-fits.ensures.0 c.if-fits.true) in (
       omega (arith, c.decreases),
@@ -76,7 +83,8 @@ find_if_one-find-requires t c =
 pub find_if_one-returns-then-fits : goal.find_if_one-returns-then-fits
 find_if_one-returns-then-fits t c =
     let it = c.args.self.now in
-    let row = (row_of (InWorld it.entries.now it.set.now) c.args.from.now c.args.to.now c.args.terms.now c.args.others.now c.items.result.now c.items-2.result.now
+    let row = (row_of (InWorld it.entries.now it.set.now) c.args.from.now c.args.to.now c.args.terms.now c.args.others.now c.items.result.now
+    c.items-2.result.now
     c.items-3.result.now c.items-4.result.now c.in_ok-met.met c.items-5.result.now c.items.ensures c.items-2.ensures c.items-3.ensures c.items-4.ensures
     c.in_ok-met.ensures c.items-5.ensures).0 (c.in_ok-fits.ensures.0 c.if-fits.true) in
     IfOk-weaker c.find.result _ _ (λ places found. inl (row, found)) c.find.ensures
@@ -85,7 +93,8 @@ pub find_if_one-returns : goal.find_if_one-returns
 find_if_one-returns t c =
     let it = c.args.self.now in
     inr (
-      (λ row. let told = c.in_ok-fits.ensures.1 ((row_of (InWorld it.entries.now it.set.now) c.args.from.now c.args.to.now c.args.terms.now c.args.others.now c.items.result.now c.items-2.result.now
+      (λ row. let told = c.in_ok-fits.ensures.1 ((row_of (InWorld it.entries.now it.set.now) c.args.from.now c.args.to.now c.args.terms.now c.args.others.now
+          c.items.result.now c.items-2.result.now
           c.items-3.result.now c.items-4.result.now c.in_ok-met.met c.items-5.result.now c.items.ensures c.items-2.ensures c.items-3.ensures c.items-4.ensures
           c.in_ok-met.ensures c.items-5.ensures).1 row) in let not_told = c.if-fits.false in cc),
       refl,
