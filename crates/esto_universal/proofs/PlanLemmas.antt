@@ -18,7 +18,7 @@ use Rattle.esto_universal.specs.Stated.{IsStatedPlan}
 use Rattle.esto_views.proofs.RenamingLemmas.{back, back-Const}
 use Rattle.esto_term.proofs.ListLemmas.{Contains-at, Contains-map, Contains-map_from}
 use Rattle.esto_term.proofs.ListLemmas.{map_at-from}
-use Rattle.esto_views.proofs.RenamedLemmas.{read_row, read_head, term_undone, keeps}
+use Rattle.esto_views.proofs.RenamedLemmas.{read_row, read_head, term_undone}
 
 -- ---- a plan of its end
 

@@ -88,11 +88,11 @@ fn plan_or_clash(
 
 /// The universal plan of the query under the catalogue's rules. Left comes exactly where the query is satisfiable, with
 /// the plan of its run: its atoms are, for each fragment in order, the rows of the fragment's view over the run's last
-/// facts, in the order of terms, and its head is the run's. Each term that is no constant is renamed to a variable, whose
-/// number is the place of the term's first occurrence among those of the others, reading the atoms in order and then the
-/// head. The variable has the name that the query gives the term, and else it is hidden. Right comes exactly where no
-/// database that meets the rules gives the query an answer, with the clash at which its run ends. Source: universal plans
-/// (Deutsch, Popa and Tannen 1999).
+/// facts, in the order of terms, and its head is the run's. Each term that is no constant is renamed to a variable,
+/// whose number is the place of the term's first occurrence among those of the others, reading the atoms in order and
+/// then the head. The variable has the name that the query gives the term, and else it is hidden. Right comes exactly
+/// where no database that meets the rules gives the query an answer, with the clash at which its run ends. Source:
+/// universal plans (Deutsch, Popa and Tannen 1999).
 pub fn universal(
     alloc: Global,
     query: &Query,

@@ -15,8 +15,8 @@ pub fn stated_plans_have_distinct_atoms()
     ensures { StatedAtomsAreDistinct }
 {}
 
-/// A law: a plan that is stated for an instance is a plan of its rows. Where the instance is universal for a query under
-/// the rules, and meets the rules itself, the plan receives unions for the query, and so is universal for it.
+/// A law: a plan that is stated for an instance is a plan of its rows. Where the instance is universal for a query
+/// under the rules, and meets the rules itself, the plan receives unions for the query, and so is universal for it.
 pub fn stated_plans_are_universal()
     ensures rows { StatedPlanIsOfRows }
     ensures unions { StatedPlanReceivesUnions }
