@@ -1,4 +1,5 @@
 pub mod SameLemmas
+pub mod LentLemmas
 pub mod SortedLemmas
 pub mod LeadLemmas
 pub mod RisingLemmas

@@ -8,7 +8,7 @@ ghost use Rattle.esto_run.specs.Coded.{IsCodedRow};
 
 use esto_columns::{Codes, Rows};
 use esto_query::{Name, Names, Query};
-use esto_rows::sorted_rows;
+use esto_rows::{LentRows, sorted_rows};
 use esto_stores::{write_lent_records, write_records};
 use esto_term::{Bytes, List, OutOfMemory, Replicate, Term, Text, TextRow, TextRows};
 use std::alloc::Global;
@@ -53,11 +53,7 @@ pub fn answers_text(alloc: Global, query: &Query, rows: &TextRows) -> Result<Byt
 }
 
 // The text of rows of answers of the query, whose cells are lent.
-fn lent_answers_text(
-    alloc: Global,
-    query: &Query,
-    rows: &[Vec<&[u8]>],
-) -> Result<Bytes, OutOfMemory>
+fn lent_answers_text(alloc: Global, query: &Query, rows: &[&[&[u8]]]) -> Result<Bytes, OutOfMemory>
     requires { All (λ row. length row ≡ length query.now.head) (lent_rows rows.now) }
     ensures { IfOk result (λ it. it ≡ rows_text query.now (lent_rows rows.now)) }
 {
@@ -78,6 +74,7 @@ pub(crate) fn coded_answers_text(
         → length row ≡ length query.now.head }
     ensures { IfOk result (IsAnswersText query.now (IsCodedRow codes.now rows.now.rows)) }
 {
-    let sorted = sorted_rows(alloc, rows, codes)?;
+    let lent = LentRows::of(alloc, rows, codes)?;
+    let sorted = sorted_rows(alloc, &lent)?;
     lent_answers_text(alloc, query, sorted.as_slice())
 }

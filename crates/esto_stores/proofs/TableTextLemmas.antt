@@ -1,10 +1,10 @@
 -- The text of a CSV file is read back as the same rows.
 use Rattle.std.proofs.Common.{Bor, ◌≡◌, ◌≢◌, ◌<◌, ◌≤◌, ◌+◌, ◌∙◌, ◌==◌, ◌&&◌, ◌++◌, ℕ, zero, suc, List, [], ◌∷◌, cond, Bool, true, false, None, length, map}
 use Rattle.std.proofs.Common.{get_or, take, drop, refl, ap, sym, subst, arith, inl, inr, append_assoc, if◌then◌else◌}
-use Rattle.std.specs.Prelude.{All, AllPairs, bytes_eq, Vec, Result, Ok, Err, IfOk}
+use Rattle.std.specs.Prelude.{All, AllPairs, bytes_eq, Result, Ok, Err, IfOk}
 use Rattle.std.specs.List.{list_any, list_all}
 use Rattle.std.proofs.lemmas.Bool.{cases_Bool}
-use Rattle.std.proofs.lemmas.List.{append-nil, get_or-map, length-map, same_lists, take_all, take_more, map_push, flat_map_more, at_drop_all, at_drop_more}
+use Rattle.std.proofs.lemmas.List.{append-nil, get_or-map, length-map, same_lists, take_all, take_more, map_more, flat_map_more, at_drop_all, at_drop_more}
 use Rattle.std.proofs.lemmas.List.{get_or_default}
 use Rattle.std.proofs.lemmas.List.Elements.{All-head, All-tail}
 use Rattle.std.proofs.lemmas.List.Sums.{sum_by-cons}
@@ -225,16 +225,13 @@ put_end columns rows i text h past =
 
 -- ---- rows whose cells are lent
 
-abbrev pub lent_rows : {Z : Type 0} → List (Vec (Bor (List ℕ)) Z) → List Row
-lent_rows rows = map (λ row. lent row.items) rows
+abbrev pub lent_rows : List (Bor (List (Bor (List ℕ)))) → List Row
+lent_rows rows = map (λ row. lent row.now) rows
 
-pub lent_goes : {Z : Type 0} (columns : Row) (rows : List (Vec (Bor (List ℕ)) Z)) (i : ℕ) (text new : List ℕ) (row : Vec (Bor (List ℕ)) Z)
-    (cells : List (Bor (List ℕ))) → text ≡ table_text columns (lent_rows (take i rows)) → i < length rows → row ≡ get_or rows i row → cells ≡ row.items
-    → new ≡ text ++ row_text default_writer (lent cells) → new ≡ table_text columns (lent_rows (take (i + 1) rows))
-lent_goes columns rows i text new row cells is within at same more =
-    more ∙ ap (λ (t : List ℕ). t ++ row_text default_writer (lent cells)) is
-    ∙ ap (λ (cs : List (Bor (List ℕ))). table_text columns (lent_rows (take i rows)) ++ row_text default_writer (lent cs)) same
-    ∙ flat_map_more (row_text default_writer) [] (columns ∷ lent_rows (take i rows)) (lent row.items)
-    ∙ ap (λ (rs : List Row). records_text (columns ∷ rs))
-    (sym (map_push (λ it. lent it.items) (take i rows) row)
-    ∙ ap lent_rows (ap (λ it. take i rows ++ it ∷ []) at ∙ sym (take_more rows i row within)))
+pub lent_goes : (columns : Row) (rows : List (Bor (List (Bor (List ℕ))))) (i : ℕ) (text new : List ℕ) (default : Bor (List (Bor (List ℕ))))
+    → text ≡ table_text columns (lent_rows (take i rows)) → i < length rows → new ≡ text ++ row_text default_writer (lent (get_or rows i default).now)
+    → new ≡ table_text columns (lent_rows (take (i + 1) rows))
+lent_goes columns rows i text new default is within more =
+    more ∙ ap (λ (t : List ℕ). t ++ row_text default_writer (lent (get_or rows i default).now)) is
+    ∙ flat_map_more (row_text default_writer) [] (columns ∷ lent_rows (take i rows)) (lent (get_or rows i default).now)
+    ∙ ap (λ (rs : List Row). records_text (columns ∷ rs)) (sym (map_more (λ (row : Bor (List (Bor (List ℕ)))). lent row.now) rows i default within))

@@ -99,15 +99,15 @@ fn put_rows(alloc: Global, columns: &TextRow, rows: &TextRows) -> Result<Bytes, 
 pub fn write_lent_records(
     alloc: Global,
     columns: &TextRow,
-    rows: &[Vec<&[u8]>],
+    rows: &[&[&[u8]]],
 ) -> Result<Bytes, OutOfMemory>
-    requires { All (λ row. length row.items ≡ length columns.now) rows.now }
+    requires { All (λ row. length row.now ≡ length columns.now) rows.now }
     ensures { IfOk result (λ text. text
-        ≡ table_text columns.now (map (λ row. map (λ cell. cell.now) row.items) rows.now)) }
+        ≡ table_text columns.now (map (λ row. map (λ cell. cell.now) row.now) rows.now)) }
 {
     let mut writer = started(alloc, columns)?;
     'rows: for row in rows {
-        put_cells(&mut writer, row.as_slice())?;
+        put_cells(&mut writer, *row)?;
     }
     ended(alloc, writer)
 }

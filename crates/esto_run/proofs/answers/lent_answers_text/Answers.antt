@@ -11,7 +11,7 @@ pub write_lent_records-requires : goal.write_lent_records-requires
 write_lent_records-requires c = λ place default below.
     let rows = c.args.rows.now in
     let head = c.args.query.now.head in
-    sym (length-map (get_or rows place default).items (λ text. text.now)) ∙ ap length (sym (get_or-map lent_row rows place default [] below))
+    sym (length-map (get_or rows place default).now (λ text. text.now)) ∙ ap length (sym (get_or-map lent_row rows place default [] below))
     ∙ c.requires place [] (subst (λ n. place < n) (sym (length-map rows lent_row)) below)
     ∙ sym (ap length c.in_ok-names.ensures ∙ length-map head (λ term. level_name c.args.query.now.names (out-Term term)))
 
