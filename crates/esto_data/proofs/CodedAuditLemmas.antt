@@ -2,6 +2,7 @@
 use Rattle.std.proofs.Common.{◌≡◌, ◌↔◌, ◌<◌, ◌≤◌, ◌+◌, inl, inr, ℕ, Bool, true, false, List, [], length, get_or, take, Option, Some, slice_get, Contains, refl}
 use Rattle.std.proofs.Common.{sym, ◌∙◌, subst, IsTrue, None, Result, Ok, Err, arith}
 use Rattle.std.proofs.lemmas.Bool.{false≢true}
+use Rattle.std.proofs.lemmas.List.{length-map}
 use Rattle.std.specs.Prelude.{IfSome}
 use Rattle.std.specs.Result.{IfOk}
 use Rattle.esto_coded.specs.Coded.{StandFor, StandInOrder}
@@ -28,7 +29,7 @@ use Rattle.esto_views.specs.Fragments.{views_of}
 use Rattle.esto_views.specs.declared.fragments.FragmentDef.{FragmentDef}
 use Rattle.esto_data.specs.CodedParts.{Stays}
 use Rattle.esto_data.specs.Coding.{AreCodedLists, IsCodedOf}
-use Rattle.esto_data.specs.Disagreeing.{FindsDisagreement, FindsUnlike, FindsUnpassed, IsFirstUnpassed, JudgesTried}
+use Rattle.esto_data.specs.Disagreeing.{FindsDisagreement, FindsUnlike, FindsUnpassed, IsFirstUnlike, IsFirstUnpassed, JudgesTried}
 use Rattle.esto_fill.specs.Databases.{database_of}
 use Rattle.esto_fill.specs.Differences.{Agree, HoldViewRows}
 use Rattle.esto_fill.specs.Judging.{ArePassed}
@@ -39,17 +40,10 @@ use Rattle.esto_data.specs.declared.coded_audit.Disagreement.TheVariants as disa
 use Rattle.esto_data.specs.declared.coded_data.CodedData.{CodedData}
 use Rattle.esto_fill.specs.declared.loaded.Loaded.{Loaded}
 use Rattle.esto_data.proofs.CodedRowLemmas.{stays_itself, stays_on}
-use Rattle.esto_data.proofs.CodedViewLemmas.{HoldBelow, exact_from, hold_all, list_at, lists_long}
+use Rattle.esto_data.proofs.CodedViewLemmas.{HoldBelow, each_below, exact_from, hold_all, list_at, lists_long}
 use Rattle.esto_data.proofs.PartLemmas.{part_moves}
 use Rattle.esto_fill.proofs.TrialLemmas.{fragments_all, rules_met}
 use Rattle.esto_fill.proofs.TriedLemmas.{passed_all, passed_more}
-
--- what is so is told, and what isn't
-pub told_true : {P : Type 0} → P → IsTrue true ↔ P
-told_true is = ((λ so. is), (λ its. refl))
-
-pub told_false : {P : Type 0} → (P → ⊥) → IsTrue false ↔ P
-told_false never = ((λ wrong. absurd (false≢true wrong)), (λ its. absurd (never its)))
 
 -- ---- rules
 
@@ -166,21 +160,24 @@ module _ (old middle new : CodedData) (rows : List CodedRows) (fragments : List 
   }
 
   pub fragments_stop : length rows ≡ length fragments → answer ≡ false → (loaded : Loaded) → IsCodedOf loaded old → (lists : List (List Row))
-      → AreCodedLists old.facts.texts rows lists
-      → IsTrue false ↔ HoldViewRows (views_of fragments) (database_of loaded.facts) (IsRowOf (held_by lists))
-  fragments_stop many apart loaded its lists are = told_false (λ hold.
-      let long = lists_long old.facts.texts rows lists are in
-      let list = thing_at lists count (omega (arith, within, long, many)) in
-      let exact = exact_from fragments lists (database_of loaded.facts) hold count fragment list.0 (item_at fragments count fragment within read) list.1 in
-      false≢true (sym apart ∙ (told_at loaded its lists are list.0 list.1).1 exact))
+      → AreCodedLists old.facts.texts rows lists → IsFirstUnlike (views_of fragments) loaded.facts lists count
+  fragments_stop many apart loaded its lists are =
+      let database = database_of loaded.facts in
+      let long : length lists ≡ length fragments = sym (lists_long old.facts.texts rows lists are) ∙ many in
+      let list = thing_at lists count (omega (arith, within, long)) in
+      record {
+        within = subst (λ n. count < n) (sym (length-map fragments (λ (it : FragmentDef). query_of it.view))) within;
+        unlike = λ holds. false≢true (sym apart ∙ (told_at loaded its lists are list.0 list.1).1
+            (exact_from fragments lists database count fragment list.0 (item_at fragments count fragment within read) list.1 holds));
+        before = each_below fragments lists database long count (before.hold loaded its lists are);
+      }
 
 pub fragments_end : (old new : CodedData) (rows : List CodedRows) (fragments : List FragmentDef) (count : ℕ) → length rows ≡ length fragments
     → length fragments ≤ count → FragmentsSoFar old new rows fragments count → (loaded : Loaded) → IsCodedOf loaded old → (lists : List (List Row))
-    → AreCodedLists old.facts.texts rows lists
-    → IsTrue true ↔ HoldViewRows (views_of fragments) (database_of loaded.facts) (IsRowOf (held_by lists))
+    → AreCodedLists old.facts.texts rows lists → HoldViewRows (views_of fragments) (database_of loaded.facts) (IsRowOf (held_by lists))
 fragments_end old new rows fragments count many past before loaded its lists are =
     let long = lists_long old.facts.texts rows lists are in
-    told_true (hold_all fragments lists (database_of loaded.facts) (omega (arith, long, many)) count past (before.hold loaded its lists are))
+    hold_all fragments lists (database_of loaded.facts) (omega (arith, long, many)) count past (before.hold loaded its lists are)
 
 -- ---- both
 
@@ -188,14 +185,14 @@ module _ (laws rules : List Rule) (views : List ConjunctiveQuery) (facts : List 
   -- what is found of the rules is found of all
   pub rule_found : (found : Disagreement) → FindsUnpassed laws rules facts (Some found) → FindsDisagreement laws rules views facts lists (Some found)
   rule_found (disagreement.Rule number given) first = first
-  rule_found disagreement.Rows never = absurd never
+  rule_found (disagreement.Rows number) never = absurd never
 
   -- where each rule is passed, what is found of the fragments is found of all
   pub all_found : (outcome : Option Disagreement) → ArePassed laws facts rules → FindsUnlike views facts lists outcome
       → FindsDisagreement laws rules views facts lists outcome
   all_found None passed hold = (passed, hold)
   all_found (Some (disagreement.Rule number given)) passed never = absurd never
-  all_found (Some disagreement.Rows) passed unlike = (passed, unlike)
+  all_found (Some (disagreement.Rows number)) passed unlike = (passed, unlike)
 
 -- so facts of which these are enough agree with the rows
 pub agrees : (stand : RulesStand) (rules : List Constraint) (laws : List Rule) (fragments : List FragmentDef) (facts some : List (Fact Term))

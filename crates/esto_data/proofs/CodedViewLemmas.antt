@@ -25,6 +25,7 @@ use Rattle.esto_views.specs.Fragments.{views_of}
 use Rattle.esto_views.specs.declared.fragments.FragmentDef.{FragmentDef}
 use Rattle.esto_data.specs.CodedParts.{IsCodedFreeIn, IsCodedFreeView}
 use Rattle.esto_data.specs.Coding.{AreCodedLists, CodesFile}
+use Rattle.esto_data.specs.Disagreeing.{HoldsItsView}
 use Rattle.esto_fill.specs.Databases.{database_of, value_of}
 use Rattle.esto_fill.specs.Differences.{HoldViewRows}
 use Rattle.esto_fill.specs.Texts.{AreExactly, HaveTextsOnly}
@@ -153,24 +154,28 @@ module _ (fragments : List FragmentDef) (lists : List (List Row)) (database : Da
       → HoldViewRows (views_of fragments) database (IsRowOf (held_by lists))
   hold_all many count past below fact = (forward many count past below fact, backward many count past below fact)
 
-  -- where the fragments hold the rows of their views, so does each
-  pub exact_from : HoldViewRows (views_of fragments) database (IsRowOf (held_by lists)) → (number : ℕ) (fragment : FragmentDef) (list : List Row)
-      → slice_get fragments number ≡ Some fragment → slice_get lists number ≡ Some list → AreExactly (IsAnswer (query_of fragment.view) database) list
-  exact_from hold number fragment list at there values = (
-    (λ answer.
-        let found = both.0 (query_of fragment.view, here, answer) in
-        (found.0, subst (λ those. Contains those found.0) read found.1, found.2)),
-    (λ (row, inside, is).
-        let found = both.1 (row, subst (λ those. Contains those row) (sym read) inside, is) in
-        subst (λ it. IsAnswer it database values) (same_Some found.0 (query_of fragment.view) (sym found.1 ∙ here)) found.2),
-  )
-    where
-      both : IsViewRow (views_of fragments) database (record { relation = number; terms = values })
-          ↔ ((row : Row) × Contains (held_by lists number) row × (values ≡ map Text row))
-      both = hold (record { relation = number; terms = values })
+  -- a fragment holds the rows of its view where its list does
+  module _ (number : ℕ) (fragment : FragmentDef) (list : List Row) (at : slice_get fragments number ≡ Some fragment)
+      (there : slice_get lists number ≡ Some list) where
+    view_at : slice_get (views_of fragments) number ≡ Some (query_of fragment.view)
+    view_at = map_at (λ (its : FragmentDef). query_of its.view) fragments number fragment at
 
-      here : slice_get (views_of fragments) number ≡ Some (query_of fragment.view)
-      here = map_at (λ (its : FragmentDef). query_of its.view) fragments number fragment at
+    read : held_by lists number ≡ list
+    read = get_or_from_slice_get lists number list [] there
 
-      read : held_by lists number ≡ list
-      read = get_or_from_slice_get lists number list [] there
+    pub holds_from : AreExactly (IsAnswer (query_of fragment.view) database) list → HoldsItsView (views_of fragments) database lists number
+    holds_from exact view is =
+        subst (λ it. AreExactly (IsAnswer it database) (held_by lists number)) (same_Some (query_of fragment.view) view (sym view_at ∙ is))
+        (subst (AreExactly (IsAnswer (query_of fragment.view) database)) (sym read) exact)
+
+    pub exact_from : HoldsItsView (views_of fragments) database lists number → AreExactly (IsAnswer (query_of fragment.view) database) list
+    exact_from holds = subst (AreExactly (IsAnswer (query_of fragment.view) database)) read (holds (query_of fragment.view) view_at)
+
+  -- so does each of the first few
+  pub each_below : length lists ≡ length fragments → (count : ℕ) → HoldBelow count → (number : ℕ) → number < count
+      → HoldsItsView (views_of fragments) database lists number
+  each_below many count below number less view is =
+      let from = map_at-from (λ (its : FragmentDef). query_of its.view) fragments number view is in
+      let within = slice_get_within fragments number from.0 from.1 in
+      let list = thing_at lists number (omega (arith, within, many)) in
+      holds_from number from.0 list.0 from.1 list.1 (below number from.0 less from.1 list.0 list.1) view is

@@ -29,7 +29,9 @@ use Rattle.esto_term.proofs.ListLemmas.{Contains-cases, Contains-map, Contains-m
 use Rattle.esto_term.proofs.PlaceLemmas.{item_at}
 use Rattle.esto_term.proofs.ZipLemmas.{zip_at, zip_both, zip_length, zip_weaker}
 use Rattle.esto_term.specs.declared.term.Term.{Term}
+use Rattle.esto_query.specs.Making.{query_of}
 use Rattle.esto_views.specs.Fragments.{views_of}
+use Rattle.esto_views.specs.declared.fragments.FragmentDef.{FragmentDef}
 use Rattle.esto_data.specs.Audit.{AddsTexts, AreFactsToAudit, AreRowsOfFiles, HoldContents, HoldSameRows}
 use Rattle.esto_data.specs.Datasets.{AreNumbered}
 use Rattle.esto_data.proofs.RowLemmas.{held_there, row_from}
@@ -47,6 +49,11 @@ module _ (catalogue : Catalogue) (contents : ℕ → List ℕ) (texts : List (Li
   pub contents_grow : (more : List (List ℕ)) → Grows texts more → HoldContents catalogue contents more lists
   contents_grow more grown = record { rows = held.rows; coded = lists_grow texts more grown lists held.rows held.coded; are = held.are }
 
+  -- these are the same rows
+  pub contents_rows : (more : List (List ℕ)) (grown : Grows texts more) → held.rows ≡ (contents_grow more grown).rows
+  unfolding contents_grow
+  contents_rows more grown = refl
+
   pub contents_many : length lists ≡ length catalogue.fragments
   contents_many = zip_length _ lists held.rows held.coded ∙ held.are.many
 
@@ -54,6 +61,10 @@ module _ (catalogue : Catalogue) (contents : ℕ → List ℕ) (texts : List (Li
 pub rule_within : (rules : List Constraint) (number : ℕ) (rule : Rule) → slice_get (rules_of rules) number ≡ Some rule → number < length rules
 rule_within rules number rule there =
     subst (λ long. number < long) (length-map rules rule_of) (slice_get_within (rules_of rules) number rule there)
+
+pub fragment_within : (fragments : List FragmentDef) (number : ℕ) → number < length (views_of fragments) → number < length fragments
+fragment_within fragments number within =
+    subst (λ long. number < long) (length-map fragments (λ (it : FragmentDef). query_of it.view)) within
 
 -- ---- their texts
 
@@ -64,7 +75,7 @@ module _ (texts coded : List (List ℕ)) (rows : List Row) (are : AreCodedRows t
       let found = text_of_codes texts coded rows are codes inside in code_below texts codes found.0 found.2 code within
 
   -- the rows that they say are the rows of which they are the codes
-  pub rows_said : (row : Row) → ((own : List ℕ) × Contains coded own × AreCodesOf texts own row) ↔ Contains rows row
+  rows_said : (row : Row) → ((own : List ℕ) × Contains coded own × AreCodesOf texts own row) ↔ Contains rows row
   rows_said row = (
     (λ (own, inside, codes).
         let found = text_of_codes texts coded rows are own inside in
@@ -74,6 +85,11 @@ module _ (texts coded : List (List ℕ)) (rows : List Row) (are : AreCodedRows t
         (subst (λ (it : List (List _)). Contains it (map Some row)) (sym are) (Contains-map (map Some) rows row inside)) in
         (found.0, found.1, found.2)),
   )
+
+  -- what is shown of them are those rows
+  pub shown_said : (shown : List Row) → ((row : Row) → Contains shown row ↔ ((own : List ℕ) × Contains coded own × AreCodesOf texts own row))
+      → (row : Row) → Contains shown row ↔ Contains rows row
+  shown_said shown says row = ((λ inside. (rows_said row).0 ((says row).0 inside)), (λ inside. (says row).1 ((rows_said row).1 inside)))
 
 -- the first lists of rows of codes, so many, in texts
 pub record SoFarTexts (texts : List (List ℕ)) (coded : List CodedRows) (index : ℕ) (shown : List (List Row)) : Type 0 where

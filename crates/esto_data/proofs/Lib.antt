@@ -22,3 +22,4 @@ pub mod MovedLemmas
 pub mod ExactLemmas
 pub mod AuditedLemmas
 pub mod PartLemmas
+pub mod UnlikeLemmas

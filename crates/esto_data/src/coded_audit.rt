@@ -13,7 +13,7 @@ ghost use Rattle.esto_data.specs.CodedParts.{Stays};
 ghost use Rattle.esto_data.specs.Coding.{AreCodedLists, IsCoded, IsCodedOf};
 ghost use Rattle.esto_data.specs.Disagreeing.{FindsDisagreement, FindsUnlike, FindsUnpassed, JudgesTried};
 ghost use Rattle.esto_fill.specs.Databases.{database_of};
-ghost use Rattle.esto_fill.specs.Differences.{Agree, HoldViewRows};
+ghost use Rattle.esto_fill.specs.Differences.{Agree};
 ghost use Rattle.esto_fill.specs.Texts.{AreExactly};
 ghost use Rattle.esto_fill.specs.Trials.{IsEnoughFor};
 ghost use Rattle.esto_fill.specs.declared.loaded.Loaded.{Loaded};
@@ -41,8 +41,9 @@ pub enum Disagreement {
     /// The rule of this number, counted from 0, is the first that is neither one of the laws nor met. With it may come a
     /// part of the facts that has those of its active matches.
     Rule(usize, Option<Facts>),
-    /// Each rule is one of the laws or met, and a fragment has other rows than its view.
-    Rows,
+    /// Each rule is one of the laws or met, and the fragment of this number, counted from 0, is the first that has other
+    /// rows than its view.
+    Rows(usize),
 }
 
 // The verdict on the rule, which counts as met where it is one of the laws.
@@ -104,30 +105,8 @@ fn holds_view(
     hold_same(alloc, &own, rows)
 }
 
-// Whether the rows of each fragment are, as a set, those of its view.
-fn hold_views(
-    alloc: Global,
-    fragments: &[FragmentDef],
-    rows: &CodedRowsList,
-    coded: &mut CodedData,
-) -> Result<bool, OutOfMemory>
-    requires { length rows.now ≡ length fragments.now }
-    ensures holds { IfOk result (λ it. (loaded : Loaded) → IsCodedOf loaded coded.old
-        → (lists : List (List Row)) → AreCodedLists coded.old.facts.texts rows.now lists
-        → IsTrue it ↔ HoldViewRows (views_of fragments.now) (database_of loaded.facts)
-        (IsRowOf (held_by lists))) }
-    ensures stays { Stays coded.old coded.new }
-{
-    'fragments: for (number, fragment) in fragments.iter().enumerate() {
-        if !holds_view(alloc, &fragment.view, rows.item(number), coded)? {
-            return Ok(false);
-        }
-    }
-    Ok(true)
-}
-
-// That some fragment has other rows than its view, where one has.
-fn unlike_rows(
+// The first of the fragments that has other rows than its view.
+fn first_unlike(
     alloc: Global,
     fragments: &[FragmentDef],
     rows: &CodedRowsList,
@@ -139,17 +118,19 @@ fn unlike_rows(
         → FindsUnlike (views_of fragments.now) loaded.facts lists it) }
     ensures stays { Stays coded.old coded.new }
 {
-    if hold_views(alloc, fragments, rows, coded)? {
-        return Ok(None);
+    'fragments: for (number, fragment) in fragments.iter().enumerate() {
+        if !holds_view(alloc, &fragment.view, rows.item(number), coded)? {
+            return Ok(Some(Disagreement::Rows(number)));
+        }
     }
-    Ok(Some(Disagreement::Rows))
+    Ok(None)
 }
 
 /// Where the facts that the rows of codes stand for and the rows of the fragments do not agree: the first rule of the
 /// catalogue that is none of the laws and that the facts do not meet, with the part of them that comes with the verdict
-/// on it; or else that a fragment has other rows than its view over them. None comes exactly where all agree. The laws
-/// are not tried. So where facts meet the laws, and the rows of codes stand for enough of them, they agree with the rows
-/// of the fragments.
+/// on it; or else the first fragment that has other rows than its view over them. None comes exactly where all agree. The
+/// laws are not tried. So where facts meet the laws, and the rows of codes stand for enough of them, they agree with the
+/// rows of the fragments.
 pub fn first_disagreement(
     alloc: Global,
     catalogue: &Catalogue,
@@ -176,6 +157,6 @@ pub fn first_disagreement(
     rules_are_sound();
     match first_unpassed(alloc, catalogue.rules.items(), laws.items(), coded)? {
         Some(found) => Ok(Some(found)),
-        None => unlike_rows(alloc, catalogue.fragments.items(), rows, coded),
+        None => first_unlike(alloc, catalogue.fragments.items(), rows, coded),
     }
 }

@@ -3,8 +3,10 @@ ghost use Rattle.std.specs.Prelude.{◌≡◌, ◌<◌, ℕ, List, length, IfOk,
 ghost use Rattle.esto_constraint.specs.Constraints.{rules_of};
 ghost use Rattle.esto_columns.specs.Interned.{AreCodedRows};
 ghost use Rattle.esto_data.specs.Coding.{AreCodedLists};
-ghost use Rattle.esto_data.specs.Disagreeing.{IsFirstUnpassed};
+ghost use Rattle.esto_data.specs.Datasets.{HoldsLeft};
+ghost use Rattle.esto_data.specs.Disagreeing.{IsFirstUnlike, IsFirstUnpassed};
 ghost use Rattle.esto_fill.specs.Databases.{database_of};
+ghost use Rattle.esto_fill.specs.Judging.{ArePassed};
 ghost use Rattle.esto_fill.specs.Texts.{AreTextViews};
 ghost use Rattle.esto_fill.specs.Trials.{IsEnoughFor, IsTrialOf};
 ghost use Rattle.esto_semantics.specs.declared.fact.Fact.{Fact};
@@ -16,14 +18,16 @@ ghost use Rattle.esto_data.specs.Audit.{AddsTexts, AreFactsToAudit, AreRowsOfFil
 
 use crate::coded_audit::{CodedRowsList, Disagreement, first_disagreement};
 use crate::coded_data::CodedData;
+use crate::coded_fragment::fragment_difference;
 use crate::coded_rule::rule_difference;
 use crate::kept::load_again;
 use esto_columns::Rows;
+use esto_constraint::rules_are_sound;
 use esto_fill::{
     LoadList, Loaded, TextRowsList, Trial, audit_tried, audits_are_over_files, outcomes_are_one,
 };
 use esto_mapping::Catalogue;
-use esto_semantics::Facts;
+use esto_semantics::{Facts, databases_stand_for_facts};
 use esto_status::Status;
 use esto_term::{List, OutOfMemory};
 use std::alloc::Global;
@@ -168,6 +172,42 @@ fn compare_by_rule(
     compare_anew(alloc, catalogue, trial, files, coded, rows)
 }
 
+// The status of the first difference, where each rule is one of the laws or met, and the fragment of the number is the
+// first that has other rows than its view. It is told from the rows of both.
+fn compare_by_fragment(
+    alloc: Global,
+    catalogue: &Catalogue,
+    trial: &Trial,
+    number: usize,
+    coded: &mut CodedData,
+    rows: &CodedRowsList,
+) -> Result<(), Status>
+    requires trial { IsTrialOf catalogue.now trial.now }
+    requires facts { (facts : List (Fact Term))
+        × HoldsLeft catalogue.now.datasets trial.now.wanted facts coded.old
+        × AreTextViews (views_of catalogue.now.fragments) (database_of facts) }
+    requires rows { (contents : ℕ → List ℕ)
+        × HoldContents catalogue.now contents coded.old.facts.texts rows.now }
+    requires there { number < length catalogue.now.fragments }
+    ensures { (facts : List (Fact Term))
+        → (left : HoldsLeft catalogue.now.datasets trial.now.wanted facts coded.old)
+        → AreTextViews (views_of catalogue.now.fragments) (database_of facts)
+        → (contents : ℕ → List ℕ)
+        → (held : HoldContents catalogue.now contents coded.old.facts.texts rows.now)
+        → ArePassed (rules_of trial.now.laws) left.loaded.facts (rules_of catalogue.now.rules)
+        → IsFirstUnlike (views_of catalogue.now.fragments) left.loaded.facts held.rows number
+        → Answers (compares catalogue.now facts contents) ⊥ result }
+{
+    databases_stand_for_facts();
+    rules_are_sound();
+    audits_are_over_files();
+    let fragment = catalogue.fragments.item(number);
+    match fragment_difference(alloc, fragment, rows.item(number), coded)? {
+        Some(difference) => Err(Status::Differs(difference)),
+        None => Ok(()),
+    }
+}
+
 /// The facts meet the rules, and the rows of the fragments are those of their views; or the status of the first difference.
 pub fn compare(
     alloc: Global,
@@ -194,6 +234,8 @@ pub fn compare(
         Some(Disagreement::Rule(number, part)) => {
             compare_by_rule(alloc, catalogue, trial, files, number, part, coded, rows)
         }
-        Some(Disagreement::Rows) => compare_anew(alloc, catalogue, trial, files, coded, rows),
+        Some(Disagreement::Rows(number)) => {
+            compare_by_fragment(alloc, catalogue, trial, number, &mut coded, &rows)
+        }
     }
 }

@@ -10,6 +10,7 @@ mod coded_audit;
 mod coded_data;
 mod coded_documents;
 mod coded_filled;
+mod coded_fragment;
 mod coded_load;
 mod coded_nodes;
 mod coded_rule;

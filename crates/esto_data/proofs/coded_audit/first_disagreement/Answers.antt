@@ -19,11 +19,11 @@ returns-in-None-clause-found c =
     let catalogue = c.args.catalogue.now in
     let passed = rw (c.items.ensures, c.items-2.ensures, c.in-None.is) at c.in_ok-found.ensures.found in
     let stays = c.first_unpassed.ensures.stays in
-    IfOk-weaker c.unlike_rows.result _ _
+    IfOk-weaker c.first_unlike.result _ _
     (λ outcome told loaded its lists are.
     all_found (rules_of c.args.laws.now) (rules_of catalogue.rules) (views_of catalogue.fragments) loaded.facts lists outcome (passed loaded its)
     (told loaded (stays.kept loaded its) lists (lists_grow _ _ c.args.rows.now lists stays.grown are)))
-    (rw c.items-in-None.ensures at c.unlike_rows.ensures.found)
+    (rw c.items-in-None.ensures at c.first_unlike.ensures.found)
 
 pub returns-in-None-clause-agree : goal.returns-in-None-clause-agree
 returns-in-None-clause-agree c =
@@ -31,7 +31,7 @@ returns-in-None-clause-agree c =
     let laws = rules_of c.args.laws.now in
     let passed = rw (c.items.ensures, c.items-2.ensures, c.in-None.is) at c.in_ok-found.ensures.found in
     let stays = c.first_unpassed.ensures.stays in
-    IfOk-weaker c.unlike_rows.result _ _
+    IfOk-weaker c.first_unlike.result _ _
     (λ outcome told none loaded its facts enough lists are.
     agrees c.databases_stand_for_facts.ensures.rules catalogue.rules laws catalogue.fragments facts loaded.facts lists
     (are_rules c.rules_are_sound.ensures.rules catalogue.rules) enough (
@@ -39,4 +39,4 @@ returns-in-None-clause-agree c =
       subst (FindsUnlike (views_of catalogue.fragments) loaded.facts lists) none
           (told loaded (stays.kept loaded its) lists (lists_grow _ _ c.args.rows.now lists stays.grown are)),
     ))
-    (rw c.items-in-None.ensures at c.unlike_rows.ensures.found)
+    (rw c.items-in-None.ensures at c.first_unlike.ensures.found)

@@ -1,13 +1,13 @@
 use Rattle.std.proofs.Common.{arith}
 use Rattle.esto_data.proofs.CodedAuditLemmas.{fragments_end, fragments_goes, fragments_start, fragments_stop}
 use Rattle.esto_data.proofs.CodedRowLemmas.{stays_on}
-use Rattle.esto_data.proofs.coded_audit.hold_views.Goals as goal
+use Rattle.esto_data.proofs.coded_audit.first_unlike.Goals as goal
 
 pub fragments-init : goal.fragments-init
 fragments-init c = fragments_start c.args.coded.now c.args.rows.now c.args.fragments.now
 
-pub returns-then-not-branch-clause-holds : goal.returns-then-not-branch-clause-holds
-returns-then-not-branch-clause-holds c =
+pub returns-then-not-branch-clause-found : goal.returns-then-not-branch-clause-found
+returns-then-not-branch-clause-found c =
     fragments_stop c.args.coded.now c.fragments.coded c.holds_view.new.coded c.args.rows.now c.args.fragments.now c.fragments.number
     c.index-fragments-number.result c.item.result.now c.fragments-test.true c.index-fragments-number.is c.item.ensures c.fragments.invariant
     c.holds_view.ensures.stays c.in_ok-holds_view.field-0 c.in_ok-holds_view.ensures.holds c.requires c.if-not-branch.true
@@ -18,8 +18,8 @@ fragments-preserved c =
     c.index-fragments-number.result c.item.result.now c.fragments-test.true c.index-fragments-number.is c.item.ensures c.fragments.invariant
     c.holds_view.ensures.stays c.in_ok-holds_view.field-0 c.in_ok-holds_view.ensures.holds c.if-not-branch.false
 
-pub returns-clause-holds : goal.returns-clause-holds
-returns-clause-holds c =
+pub returns-clause-found : goal.returns-clause-found
+returns-clause-found c =
     fragments_end c.args.coded.now c.fragments.coded c.args.rows.now c.args.fragments.now c.fragments.number c.requires (omega (arith, c.fragments-test.false))
     c.fragments.invariant
 

@@ -1,0 +1,6 @@
+use Rattle.esto_data.proofs.UnlikeLemmas.{AreAlikeBelow}
+use Rattle.esto_data.proofs.coded_fragment.apart_rows.Given as goal
+
+-- the lists are the same so far
+abbrev pub invariant-rows : goal.invariant-rows
+invariant-rows l = AreAlikeBelow l.own l.held l.place
