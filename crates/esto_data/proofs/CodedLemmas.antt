@@ -53,7 +53,7 @@ module _ (old new : CodedData) (stays : Stays old new) where
 pub to_audit : (catalogue : Catalogue) (wanted : Wanted) (files : List DatasetBytes) (facts : List (Fact Term)) (coded : CodedData)
     → HoldsAudit catalogue wanted files facts coded → AreFactsToAudit catalogue files facts
 to_audit catalogue wanted files facts coded holds =
-    record { readable = holds.held.readable; are = holds.held.are; lawful = holds.held.left.lawful; texts = holds.texts }
+    record { readable = holds.held.readable; are = holds.held.are; lawful = holds.held.left.lawful }
 
 module _ (catalogue : Catalogue) (trial : Trial) (tries : IsTrialOf catalogue trial) (facts : List (Fact Term)) where
   -- what is left of the facts is enough for the trial

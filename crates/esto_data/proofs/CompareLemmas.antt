@@ -1,6 +1,6 @@
 -- The rows of fragments as rows of codes and as rows of texts, and what is compared.
-use Rattle.std.proofs.Common.{◌≡◌, ◌↔◌, ◌<◌, ◌≤◌, ◌+◌, inl, inr, ℕ, List, [], ◌∷◌, length, length-append, map, get_or, slice_get, Contains, Some}
-use Rattle.std.proofs.Common.{refl, sym, ap, subst, ◌∙◌, arith}
+use Rattle.std.proofs.Common.{◌≡◌, ◌↔◌, ◌<◌, ◌+◌, inl, inr, ℕ, List, [], ◌∷◌, length, map, slice_get, Contains, Some}
+use Rattle.std.proofs.Common.{refl, sym, subst, ◌∙◌}
 use Rattle.std.proofs.lemmas.List.{length-map}
 use Rattle.std.proofs.lemmas.Option.{same_Some, slice_get_within}
 use Rattle.esto_mapping.specs.declared.catalogue.Catalogue.{Catalogue}
@@ -11,10 +11,8 @@ use Rattle.esto_columns.proofs.CodingLemmas.{rows_grow}
 use Rattle.esto_constraint.specs.Constraints.{rule_of, rules_of}
 use Rattle.esto_constraint.specs.declared.rule.Constraint.{Constraint}
 use Rattle.esto_data.specs.Coding.{AreCodedLists}
-use Rattle.esto_fill.specs.Databases.{database_of}
 use Rattle.esto_fill.specs.Files.{AreFactsFrom, IsLoadedFrom, nodes_in}
 use Rattle.esto_fill.specs.Laws.{FactsAreOne}
-use Rattle.esto_fill.specs.Texts.{AreTextViews}
 use Rattle.esto_fill.specs.Trials.{IsEnoughFor, IsTrialOf}
 use Rattle.esto_fill.specs.Wanted.{Leaves}
 use Rattle.esto_fill.specs.declared.datasets.DatasetBytes.{DatasetBytes}
@@ -23,19 +21,16 @@ use Rattle.esto_fill.specs.declared.trial.Trial.{Trial}
 use Rattle.esto_run.proofs.HeldLemmas.{code_below, text_of_codes}
 use Rattle.esto_semantics.specs.Rules.{Rule}
 use Rattle.esto_semantics.specs.declared.fact.Fact.{Fact}
-use Rattle.esto_steps.specs.Rows.{IsRowOf, held_by}
 use Rattle.esto_stores.specs.Rows.{Row}
-use Rattle.esto_term.proofs.ListLemmas.{Contains-cases, Contains-map, Contains-map_from, Contains-nil, at_pushed, map_one, thing_at}
-use Rattle.esto_term.proofs.PlaceLemmas.{item_at}
-use Rattle.esto_term.proofs.ZipLemmas.{zip_at, zip_both, zip_length, zip_weaker}
+use Rattle.esto_term.proofs.ListLemmas.{Contains-cases, Contains-map, Contains-map_from, Contains-nil, map_one}
+use Rattle.esto_term.proofs.ZipLemmas.{zip_at, zip_length, zip_weaker}
 use Rattle.esto_term.specs.declared.term.Term.{Term}
 use Rattle.esto_query.specs.Making.{query_of}
 use Rattle.esto_views.specs.Fragments.{views_of}
 use Rattle.esto_views.specs.declared.fragments.FragmentDef.{FragmentDef}
-use Rattle.esto_data.specs.Audit.{AddsTexts, AreFactsToAudit, AreRowsOfFiles, HoldContents, HoldSameRows}
+use Rattle.esto_data.specs.Audit.{AreFactsToAudit, HoldContents}
 use Rattle.esto_data.specs.Datasets.{AreNumbered}
-use Rattle.esto_data.proofs.RowLemmas.{held_there, row_from}
-use Rattle.esto_data.proofs.WantedLemmas.{enough_left, texts_back}
+use Rattle.esto_data.proofs.WantedLemmas.{enough_left}
 
 -- ---- rows of codes
 
@@ -91,87 +86,23 @@ module _ (texts coded : List (List ℕ)) (rows : List Row) (are : AreCodedRows t
       → (row : Row) → Contains shown row ↔ Contains rows row
   shown_said shown says row = ((λ inside. (rows_said row).0 ((says row).0 inside)), (λ inside. (says row).1 ((rows_said row).1 inside)))
 
--- the first lists of rows of codes, so many, in texts
-pub record SoFarTexts (texts : List (List ℕ)) (coded : List CodedRows) (index : ℕ) (shown : List (List Row)) : Type 0 where
-  pub long : length shown ≡ index
-  pub same : (lists : List (List Row)) → AreCodedLists texts coded lists → (number : ℕ) (its own : List Row) → slice_get shown number ≡ Some its
-      → slice_get lists number ≡ Some own
-      → (row : Row) → Contains its row ↔ Contains own row
-
-module _ (texts : List (List ℕ)) (coded : List CodedRows) where
-  pub texts_start : (shown : List (List Row)) → shown ≡ [] → SoFarTexts texts coded 0 shown
-  texts_start shown none = subst (SoFarTexts texts coded 0) (sym none) (record { long = refl; same = λ lists are number its own at. absurd (cc) })
-
-  -- the rows of codes at a place have their rows of texts
-  pub texts_there : (index : ℕ) (its : CodedRows) → slice_get coded index ≡ Some its → (lists : List (List Row)) → AreCodedLists texts coded lists
-      → (own : List Row) × AreCodedRows texts its.rows own
-  texts_there index its at lists are = let found = zip_at _ coded lists are index its at in (found.0, found.2)
-
-  module _ (index : ℕ) (shown : List (List Row)) (so_far : SoFarTexts texts coded index shown) where
-    pub texts_go : (its : CodedRows) → slice_get coded index ≡ Some its → (more : List (List Row)) → AddsTexts texts its.rows shown more
-        → SoFarTexts texts coded (index + 1) more
-    texts_go its at more (own, pushed, says) = subst (SoFarTexts texts coded (index + 1)) (sym pushed) (record {
-      long = length-append shown (own ∷ []) ∙ ap (λ (it : ℕ). it + 1) so_far.long;
-      same = λ lists are number list other there beside row. elim (at_pushed shown own number list there) [
-        | inl earlier ↦ so_far.same lists are number list other earlier beside row
-        | inr last ↦
-            let here : slice_get coded number ≡ Some its = ap (slice_get coded) (last.0 ∙ so_far.long) ∙ at in
-            subst (λ (it : List Row). Contains it row ↔ Contains other row) last.1 (says other (zip_both _ coded lists are number its other here beside) row)
-      ];
-    })
-
-    pub texts_end : length coded ≤ index → index ≤ length coded → (lists : List (List Row)) → AreCodedLists texts coded lists → HoldSameRows shown lists
-    texts_end past within lists are = record { many = many; same = λ fact. (there fact, back fact) }
-      where
-        many : length shown ≡ length lists
-        many = omega (arith, so_far.long, past, within, zip_length _ coded lists are)
-
-        there : (fact : Fact (List ℕ)) → IsRowOf (held_by shown) fact → IsRowOf (held_by lists) fact
-        there fact inside =
-            let own = row_from shown fact.relation fact.terms inside in
-            let beside = thing_at lists fact.relation (omega (arith, slice_get_within shown fact.relation own.0 own.1, many)) in
-            held_there lists fact.relation beside.0 beside.1 fact.terms
-            ((so_far.same lists are fact.relation own.0 beside.0 own.1 beside.1 fact.terms).0 own.2)
-
-        back : (fact : Fact (List ℕ)) → IsRowOf (held_by lists) fact → IsRowOf (held_by shown) fact
-        back fact inside =
-            let own = row_from lists fact.relation fact.terms inside in
-            let beside = thing_at shown fact.relation (omega (arith, slice_get_within lists fact.relation own.0 own.1, many)) in
-            held_there shown fact.relation beside.0 beside.1 fact.terms
-            ((so_far.same lists are fact.relation beside.0 own.0 beside.1 own.1 fact.terms).1 own.2)
-
--- lists with the same rows are those of the contents too
-pub same_contents : (catalogue : Catalogue) (contents : ℕ → List ℕ) (shown lists : List (List Row)) → HoldSameRows shown lists
-    → AreRowsOfFiles catalogue contents lists → AreRowsOfFiles catalogue contents shown
-same_contents catalogue contents shown lists same are = record {
-  many = same.many ∙ are.many;
-  are = λ fact. (
-    (λ inside. (are.are fact).0 ((same.same fact).0 inside)),
-    (λ holds. (same.same fact).1 ((are.are fact).1 holds)),
-  );
-}
-
--- the rows of codes that are read at a place
-pub list_read : (coded items : List CodedRows) → items ≡ coded → (index : ℕ) (its : CodedRows) → index < length items → its ≡ get_or items index its
-    → slice_get coded index ≡ Some its
-list_read coded items are index its below is =
-    subst (λ (it : List CodedRows). slice_get it index ≡ Some its) are (item_at items index its below is)
+-- the rows of codes at a place have their rows of texts
+pub texts_there : (texts : List (List ℕ)) (coded : List CodedRows) (index : ℕ) (its : CodedRows) → slice_get coded index ≡ Some its
+    → (lists : List (List Row)) → AreCodedLists texts coded lists → (own : List Row) × AreCodedRows texts its.rows own
+texts_there texts coded index its at lists are = let found = zip_at _ coded lists are index its at in (found.0, found.2)
 
 -- ---- files that are loaded again
 
 module _ (one : FactsAreOne) (catalogue : Catalogue) (trial : Trial) (tries : IsTrialOf catalogue trial) (files : List DatasetBytes)
     (facts : List (Fact Term)) (audited : AreFactsToAudit catalogue files facts) (loaded : Loaded)
     (again : IsLoadedFrom catalogue.datasets trial.wanted files loaded) where
-  -- what is loaded of them is left of the same facts
+  -- what is loaded of them is enough
   pub again_enough : IsEnoughFor catalogue (rules_of trial.laws) facts loaded.facts
   again_enough =
       let (others, are, leaves, rising) = again in
       let same = (one catalogue.datasets 0 files others facts loaded.next audited.are.next are audited.are.are).0 in
       enough_left catalogue trial tries facts loaded.facts
       (subst (λ (it : List (Fact Term)). Leaves trial.wanted it loaded.facts) same leaves) audited.lawful
-
-  pub again_texts : AreTextViews (views_of catalogue.fragments) (database_of loaded.facts)
-  again_texts = texts_back catalogue (rules_of trial.laws) facts loaded.facts again_enough audited.texts
 
 -- each of the files of facts is that of a dataset
 numbered : (datasets : List Dataset) (first : ℕ) (files : List DatasetBytes) (facts : List (Fact Term)) (next : ℕ)

@@ -1,11 +1,9 @@
 -- The first fragment that has other rows than its view, and the least row that is in one of the two alone.
-use Rattle.std.proofs.Common.{◌≡◌, ◌↔◌, ◌<◌, ◌≤◌, ◌+◌, ℕ, List, length, map, Option, Some, None, slice_get, Contains, refl, sym, ap, ◌∙◌, subst, arith}
+use Rattle.std.proofs.Common.{◌≡◌, ◌≤◌, ◌+◌, ℕ, List, length, map, Option, Some, None, slice_get, Contains, refl, sym, ap, ◌∙◌, subst, arith}
 use Rattle.std.specs.Cmp.Lexicographic.{slice_cmp}
 use Rattle.std.specs.Ordering.{nat_cmp, ordering_reverse}
 use Rattle.std.specs.declared.cmp.Ordering.{Ordering}
 use Rattle.std.specs.declared.cmp.Ordering.TheVariants.{Less, Equal, Greater}
-use Rattle.std.proofs.lemmas.Option.{get_or_from_slice_get, same_Some}
-use Rattle.esto_run.specs.Answers.{AreRising}
 use Rattle.esto_constraint.specs.Constraints.{rules_of}
 use Rattle.esto_constraint.specs.EncodingRules.{written}
 use Rattle.esto_fill.specs.Databases.{database_of}
@@ -21,7 +19,8 @@ use Rattle.esto_mapping.specs.declared.catalogue.Catalogue.{Catalogue}
 use Rattle.esto_ports.specs.declared.difference.Difference.{Difference}
 use Rattle.esto_ports.specs.declared.difference.Difference.TheVariants.{Rule as Broken, Missing, Extra}
 use Rattle.esto_query.specs.Making.{query_of}
-use Rattle.esto_semantics.specs.Queries.{ConjunctiveQuery, IsAnswer}
+use Rattle.esto_run.specs.Answers.{AreRising}
+use Rattle.esto_semantics.specs.Queries.{IsAnswer}
 use Rattle.esto_semantics.specs.Rules.{AreRules, Rule}
 use Rattle.esto_semantics.specs.Standing.{RulesStand}
 use Rattle.esto_semantics.specs.declared.fact.Fact.{Fact}
@@ -34,7 +33,7 @@ use Rattle.esto_term.proofs.ListLemmas.{Contains-at, map_at, thing_at}
 use Rattle.esto_term.specs.declared.term.Term.{Term}
 use Rattle.esto_views.specs.Fragments.{views_of}
 use Rattle.esto_views.specs.declared.fragments.FragmentDef.{FragmentDef}
-use Rattle.esto_data.specs.Disagreeing.{HoldsItsView, IsFirstUnlike, TellsApart}
+use Rattle.esto_data.specs.Disagreeing.{IsFirstUnlike, TellsApart}
 use Rattle.esto_data.specs.Fill.{names_of}
 use Rattle.esto_data.proofs.CodedViewLemmas.{holds_from}
 

@@ -1,5 +1,5 @@
 -- What `audit` says of a catalogue.
-use Rattle.std.specs.Prelude.{◌≡◌, ◌↔◌, ℕ, List, [], ◌∷◌, ◌++◌, length, map, codes, slice_get, Contains, Option, Some, None, Result, Ok, Err}
+use Rattle.std.specs.Prelude.{◌≡◌, ◌↔◌, ℕ, List, ◌++◌, length, map, codes, slice_get, Option, Some, None, Result, Ok, Err}
 use Rattle.std.specs.Fmt.{decimal}
 use Rattle.std.specs.List.{range_with_len}
 use Rattle.esto_mapping.specs.declared.catalogue.Catalogue.{Catalogue}
@@ -9,7 +9,6 @@ use Rattle.esto_run.specs.Fragments.{opens_fragment, opens_fragments}
 use Rattle.esto_constraint.specs.Constraints.{rules_of}
 use Rattle.esto_constraint.specs.EncodingRules.{written}
 use Rattle.esto_columns.specs.CodedRows.{CodedRows}
-use Rattle.esto_columns.specs.Interned.{AreCodedRows}
 use Rattle.esto_course.specs.Course.{Course, Names, Stops, judges, gives, and_then}
 use Rattle.esto_data.specs.Coding.{AddsList, AreCodedLists}
 use Rattle.esto_fill.specs.Databases.{database_of}
@@ -92,14 +91,13 @@ tells catalogue facts contents = and_then (compares catalogue facts contents) (�
 
 -- ---- what functions answer
 
--- The facts to audit are those of the files, which have no fault; they meet the laws, and the rows of the views over them are rows of texts.
+-- The facts to audit are those of the files, which have no fault, and they meet the laws.
 pub record AreFactsToAudit (catalogue : Catalogue) (files : List DatasetBytes) (facts : List (Fact Term)) : Type 0 where
   pub readable : AreReadable catalogue.datasets files
   pub are : AreFactsOfFiles catalogue.datasets files facts
   pub lawful : AreLawful catalogue.datasets facts
-  pub texts : AreTextViews (views_of catalogue.fragments) (database_of facts)
 
--- The rows of codes stand for what is left of the facts to audit.
+-- The rows of codes stand for what is left of the facts to audit, and the rows of the views over these are rows of texts.
 pub record HoldsAudit (catalogue : Catalogue) (wanted : Wanted) (files : List DatasetBytes) (facts : List (Fact Term)) (coded : CodedData) : Type 0 where
   pub held : HoldsFiles catalogue.datasets wanted facts files coded
   pub texts : AreTextViews (views_of catalogue.fragments) (database_of facts)
@@ -114,17 +112,6 @@ pub record HoldContents (catalogue : Catalogue) (contents : ℕ → List ℕ) (t
   pub rows : List (List Row)
   pub coded : AreCodedLists texts lists rows
   pub are : AreRowsOfFiles catalogue contents rows
-
--- To the lists came one with the rows of texts of these rows of codes.
-abbrev pub AddsTexts : List (List ℕ) → List (List ℕ) → List (List Row) → List (List Row) → Type 0
-AddsTexts texts coded old new =
-    (own : List Row) × (new ≡ old ++ own ∷ [])
-    × ((rows : List Row) → AreCodedRows texts coded rows → (row : Row) → Contains own row ↔ Contains rows row)
-
--- The lists have as many lists as the others, and those the same rows.
-pub record HoldSameRows (lists others : List (List Row)) : Type 0 where
-  pub many : length lists ≡ length others
-  pub same : (fact : Fact (List ℕ)) → IsRowOf (held_by lists) fact ↔ IsRowOf (held_by others) fact
 
 -- The rows of codes of all fragments are those of their files, all of which were opened; or the course stops. To the names that were asked for came those for
 -- which it asked.

@@ -3,9 +3,9 @@ ghost use Rattle.std.specs.Prelude.{◌≡◌, List, Some, IfOk};
 ghost use Rattle.std.specs.Cmp.Lexicographic.{slice_cmp};
 ghost use Rattle.std.specs.Ordering.{nat_cmp};
 ghost use Rattle.esto_columns.specs.Interned.{AreCodedRows, Grows};
-ghost use Rattle.esto_run.specs.Answers.{AreRising};
 ghost use Rattle.esto_ports.specs.declared.difference.Difference.TheVariants as difference;
 ghost use Rattle.esto_query.specs.Making.{query_of};
+ghost use Rattle.esto_run.specs.Answers.{AreRising};
 ghost use Rattle.esto_semantics.specs.Queries.{IsAnswer};
 ghost use Rattle.esto_stores.specs.Rows.{Row};
 ghost use Rattle.esto_data.specs.Coding.{IsCodedOf};
@@ -59,8 +59,8 @@ fn extra(alloc: Global, name: &Text, row: &TextRow) -> Result<Option<Difference>
     Ok(Some(Difference::Extra(name, row)))
 }
 
-// The least row that is in one of the two lists alone: the fragment of the name lacks it where the first list has it, and
-// else holds it too many. None comes exactly where both have the same rows.
+// The least row that is in one of the two lists alone: the fragment of the name lacks it where the first list has it,
+// and else holds it too many. None comes exactly where both have the same rows.
 fn apart_rows(
     alloc: Global,
     name: &Text,

@@ -1,5 +1,5 @@
-//! The files of all datasets, which an audit keeps once they are loaded: where it finds a difference that no part of the facts
-//! tells, it loads them again.
+//! The files of all datasets, which an audit keeps once they are loaded: where it finds that a rule is not met, and no
+//! part of the facts tells its difference, it loads them again.
 ghost use Rattle.std.specs.Prelude.{◌≡◌, ◌≤◌, ◌<◌, ◌∷◌, [], ◌++◌, ℕ, List, None, Some, length, slice_get, Contains, IfOk};
 ghost use Rattle.esto_mapping.specs.declared.dataset.Dataset.{Dataset};
 ghost use Rattle.esto_ports.specs.Faults.{Rises};

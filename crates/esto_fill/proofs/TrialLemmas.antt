@@ -192,6 +192,10 @@ module _ (bodies : List (List (Fact Term))) (facts some : List (Fact Term)) (dro
     met_all met m keeps sends =
         concludes_all rule m (met m keeps (λ it inside. image_left m keeps (body_of rule) in_bodies it inside (sends it inside)))
 
+    met_left : IsMet facts rule → IsMet some rule
+    met_left met m keeps sends =
+        concludes_left rule have m (met m keeps (λ it inside. (drops_has bodies facts some drops).0 (image m it) (sends it inside)))
+
     module _ (are : AreLeftAt bodies facts some) where
       match_all : (m : Term → Term) (body : List (Fact Term)) (places : List ℕ) → IsMatch m body some places → IsMatch m body facts (map are.place places)
       match_all m [] [] match = tt
@@ -228,6 +232,21 @@ module _ (bodies : List (List (Fact Term))) (facts some : List (Fact Term)) (dro
           })))
 
 -- ---- the rules
+
+-- of facts of which both are enough, the ones meet a rule that is tried where the others do, and pass the same rules
+module _ (rules laws : List Rule) (views : List ConjunctiveQuery) (facts some others : List (Fact Term)) (one : IsEnough rules laws views facts some)
+    (other : IsEnough rules laws views facts others) where
+  pub met_moves : (rule : Rule) → Contains rules rule → ¬ (Contains laws rule) → IsMet some rule → IsMet others rule
+  met_moves rule inside tried met =
+      met_left other.bodies facts others other.drops rule (other.covers.tried rule inside tried)
+      (met_all one.bodies facts some one.drops rule (one.covers.tried rule inside tried) met)
+
+  pub passed_moves : (those : List Rule) → ((rule : Rule) → Contains those rule → Contains rules rule) → ArePassed laws some those
+      → ArePassed laws others those
+  passed_moves those among passed rule inside = elim (passed rule inside) [
+    | inl law ↦ inl law
+    | inr (tried, met) ↦ inr (tried, met_moves rule (among rule inside) tried met)
+  ]
 
 module _ (stand : RulesStand) (rules : List Constraint) (laws : List Rule) (views : List ConjunctiveQuery) (facts some : List (Fact Term))
     (enough : IsEnough (rules_of rules) laws views facts some) (are : AreRules (rules_of rules)) where

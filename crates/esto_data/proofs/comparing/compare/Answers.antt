@@ -5,11 +5,11 @@ use Rattle.esto_course.specs.Course.Stops.{is_free}
 use Rattle.esto_course.proofs.Steps.{at_exit}
 use Rattle.esto_views.specs.Fragments.{views_of}
 use Rattle.esto_data.specs.CodedParts.{Stays}
-use Rattle.esto_data.specs.Disagreeing.{IsFirstUnlike, IsFirstUnpassed}
+use Rattle.esto_data.specs.Disagreeing.{IsFirstUnlike}
 use Rattle.esto_data.specs.Fill.{names_of}
 use Rattle.esto_fill.specs.Judging.{ArePassed}
 use Rattle.esto_fill.specs.declared.loaded.Loaded.{Loaded}
-use Rattle.esto_data.proofs.CodedLemmas.{audit_left, audit_stays, left_enough}
+use Rattle.esto_data.proofs.CodedLemmas.{audit_left, audit_stays, left_enough, to_audit}
 use Rattle.esto_data.proofs.CompareLemmas.{contents_grow, contents_many, contents_rows, fragment_within, rule_within}
 use Rattle.esto_data.proofs.StepLemmas.{agrees_goes}
 use Rattle.esto_stores.specs.Rows.{Row}
@@ -82,19 +82,8 @@ returns-in-Some-Rows c facts holds contents held =
     (subst (λ (it : Loaded). IsFirstUnlike views it.facts held.rows number) same found.1))
 
 pub compare_by_rule-requires-clause-facts : goal.compare_by_rule-requires-clause-facts
-compare_by_rule-requires-clause-facts c = (
-  c.requires.facts.0,
-  audit_stays c.args.coded c.first_disagreement.new.coded
-      (record { kept = c.in_ok-first_disagreement.ensures.kept; grown = c.in_ok-first_disagreement.ensures.grown }) c.args.catalogue.now
-      c.args.trial.now.wanted c.args.files.now c.requires.facts.0 c.requires.facts.1,
-)
-
-pub compare_by_rule-requires-clause-rows : goal.compare_by_rule-requires-clause-rows
-compare_by_rule-requires-clause-rows c = (
-  c.requires.rows.0,
-  contents_grow c.args.catalogue.now c.requires.rows.0 c.args.coded.facts.texts c.args.rows c.requires.rows.1 c.first_disagreement.new.coded.facts.texts
-      c.in_ok-first_disagreement.ensures.grown,
-)
+compare_by_rule-requires-clause-facts c =
+    (c.requires.facts.0, to_audit c.args.catalogue.now c.args.trial.now.wanted c.args.files.now c.requires.facts.0 c.args.coded c.requires.facts.1)
 
 pub compare_by_rule-requires-clause-there : goal.compare_by_rule-requires-clause-there
 compare_by_rule-requires-clause-there c =
@@ -110,12 +99,6 @@ returns-in-Some-Rule c facts holds contents held =
     let first = rw c.in-Some-Rule.field-0-is at (rw c.in-Some-Rule.is at (c.in_ok-first_disagreement.ensures.found left.loaded
     left.stand held.rows held.coded)) in
     let catalogue = c.args.catalogue.now in
-    let wanted = c.args.trial.now.wanted in
-    let stays : Stays c.args.coded c.first_disagreement.new.coded =
-    record { kept = c.in_ok-first_disagreement.ensures.kept; grown = c.in_ok-first_disagreement.ensures.grown } in
-    c.compare_by_rule.ensures facts (audit_stays c.args.coded c.first_disagreement.new.coded stays catalogue wanted c.args.files.now facts holds)
-    (subst (λ (it : Loaded). IsFirstUnpassed (rules_of c.args.trial.now.laws) (rules_of catalogue.rules) it.facts c.in-Some-Rule.number c.in-Some-Rule.part)
-    (audit_left c.args.coded c.first_disagreement.new.coded stays catalogue wanted c.args.files.now facts holds) first)
-    contents
-    (contents_grow c.args.catalogue.now contents c.args.coded.facts.texts c.args.rows held c.first_disagreement.new.coded.facts.texts
-    c.in_ok-first_disagreement.ensures.grown)
+    let trial = c.args.trial.now in
+    c.compare_by_rule.ensures facts left.loaded.facts (to_audit catalogue trial.wanted c.args.files.now facts c.args.coded holds)
+    (left_enough catalogue trial c.requires.trial facts c.args.coded left) first contents

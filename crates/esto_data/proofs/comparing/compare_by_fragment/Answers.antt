@@ -55,7 +55,8 @@ returns-in-Some c facts left texts contents held passed first =
     (first_of_all c.databases_stand_for_facts.ensures.rules catalogue (rules_of trial.laws) facts some
     (left_enough catalogue trial c.requires.trial facts c.args.coded.now left) (are_rules c.rules_are_sound.ensures.rules catalogue.rules) passed held.rows
     c.in-Some.difference
-    (first_judges catalogue.fragments some held.rows number first c.item-fragment.result.now list.0 c.item-fragment.ensures list.1 c.in-Some.difference judged)))
+    (first_judges catalogue.fragments some held.rows number first c.item-fragment.result.now list.0 c.item-fragment.ensures list.1 c.in-Some.difference
+    judged)))
 
 pub returns-in-None : goal.returns-in-None
 returns-in-None c facts left texts contents held passed first =
