@@ -3,11 +3,9 @@ use Rattle.std.specs.Prelude.{◌≡◌, ◌<◌, ℕ, List, length, take, slice
 use Rattle.esto_coded.specs.Verdict.{Tells, given_part}
 use Rattle.esto_coded.specs.declared.verdict.Verdict.{Verdict}
 use Rattle.esto_fill.specs.Databases.{database_of}
-use Rattle.esto_fill.specs.Differences.{AreOne, HoldViewRows, IsLeastApart}
+use Rattle.esto_fill.specs.Differences.{HoldViewRows}
 use Rattle.esto_fill.specs.Judging.{ArePassed, IsPassed}
 use Rattle.esto_fill.specs.Texts.{AreExactly}
-use Rattle.esto_ports.specs.declared.difference.Difference.{Difference}
-use Rattle.esto_ports.specs.declared.difference.Difference.TheVariants.{Rule as Broken, Missing, Extra}
 use Rattle.esto_relmodel.specs.Parts.{IsPartFor}
 use Rattle.esto_semantics.specs.Facts.{Database}
 use Rattle.esto_semantics.specs.Queries.{ConjunctiveQuery, IsAnswer}
@@ -63,10 +61,3 @@ abbrev pub FindsDisagreement : List Rule → List Rule → List ConjunctiveQuery
 FindsDisagreement laws rules views facts lists None = ArePassed laws facts rules × HoldViewRows views (database_of facts) (IsRowOf (held_by lists))
 FindsDisagreement laws rules views facts lists (Some (disagreement.Rule number given)) = IsFirstUnpassed laws rules facts number given
 FindsDisagreement laws rules views facts lists (Some (disagreement.Rows number)) = ArePassed laws facts rules × IsFirstUnlike views facts lists number
-
--- The two lists have the same rows; or this is the least row that is in one of them alone, with that name: it is missing where the first list has it.
-abbrev pub TellsApart : List ℕ → List Row → List Row → Option Difference → Type 0
-TellsApart own rows others None = AreOne (Contains rows) (Contains others)
-TellsApart own rows others (Some (Missing name row)) = (name ≡ own) × IsLeastApart (Contains rows) (Contains others) row
-TellsApart own rows others (Some (Extra name row)) = (name ≡ own) × IsLeastApart (Contains others) (Contains rows) row
-TellsApart own rows others (Some (Broken number cells)) = ⊥

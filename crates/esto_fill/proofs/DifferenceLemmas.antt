@@ -8,7 +8,6 @@ use Rattle.esto_constraint.specs.Constraints.{rule_of, rules_of}
 use Rattle.esto_constraint.specs.declared.rule.Constraint.{Constraint}
 use Rattle.esto_steps.specs.Rows.{IsRowOf, held_by}
 use Rattle.esto_query.specs.Making.{query_of}
-use Rattle.esto_query.specs.Rows.{row_cmp}
 use Rattle.esto_query.specs.declared.query.Name.{Name}
 use Rattle.esto_semantics.specs.Facts.{Database}
 use Rattle.esto_semantics.specs.Queries.{ConjunctiveQuery, IsAnswer}
@@ -18,6 +17,7 @@ use Rattle.esto_semantics.specs.Views.{IsViewRow}
 use Rattle.esto_semantics.specs.declared.fact.Fact.{Fact}
 use Rattle.esto_semantics.specs.declared.fact.Value.{Value}
 use Rattle.esto_semantics.specs.declared.fact.Value.TheVariants.{Text}
+use Rattle.esto_semantics.proofs.ValueLemmas.{same_texts}
 use Rattle.esto_stores.specs.Rows.{Row}
 use Rattle.esto_term.specs.declared.term.Term.{Term}
 use Rattle.esto_term.specs.declared.term.Term.TheVariants.{Const}
@@ -28,12 +28,10 @@ use Rattle.esto_views.specs.declared.fragments.FragmentDef.{FragmentDef}
 use Rattle.esto_fill.specs.Databases.{value_of, database_of}
 use Rattle.esto_fill.specs.Differences.{AreOne, Audits, HoldViewRows, IsInOne, IsLeastApart, IsOfView, at}
 use Rattle.esto_fill.specs.Judging.{IsText, JudgesFragment, JudgesFragments, JudgesRules, TellsApart}
-use Rattle.esto_fill.specs.Placing.{IsApart, IsApartAt, IsImageOf, text_of}
-use Rattle.esto_fill.specs.Texts.{AreTextViews, HaveTextsOnly}
-use Rattle.esto_fill.specs.declared.apart.Apart.TheVariants as apart
+use Rattle.esto_fill.specs.Placing.{IsImageOf, text_of}
+use Rattle.esto_fill.specs.Texts.{AreExactly, AreTextViews, HaveTextsOnly}
 use Rattle.esto_ports.specs.declared.difference.Difference.{Difference}
 use Rattle.esto_ports.specs.declared.difference.Difference.TheVariants.{Rule as Broken, Missing, Extra}
-use Rattle.esto_fill.proofs.OrderLemmas.{ordered_as_texts}
 use Rattle.esto_fill.proofs.TextLemmas.{row_of_texts}
 use Rattle.esto_fill.proofs.ValueLemmas.{map_text, map_value}
 
@@ -54,91 +52,32 @@ are_rules each rules rule inside = let from = Contains-map_from rule_of rules ru
 pub first_rules : (rules : List Rule) (count : ℕ) → AreRules rules → AreRules (take count rules)
 first_rules rules count are rule inside = are rule (Contains-take_in rules count rule inside)
 
--- ---- two sets of rows of texts, by lists of rows of constants
+-- ---- rows of texts as rows of constants, in order
 
 -- rows of constants are the same where their texts are
 constants_same : (cells others : Row) → map Const cells ≡ map Const others → cells ≡ others
 constants_same cells others same = sym (map_text cells) ∙ ap (map text_of) same ∙ map_text others
 
-module _ (One Other : Row → Type 0) (ones others : List (List Term)) (in_one : (cells : Row) → One cells ↔ Contains ones (map Const cells))
-    (in_other : (cells : Row) → Other cells ↔ Contains others (map Const cells)) where
-  pub same_sets : AreOne (Contains ones) (Contains others) → AreOne One Other
-  same_sets same cells = (
-    (λ inside. (in_other cells).1 ((same (map Const cells)).0 ((in_one cells).0 inside))),
-    (λ inside. (in_one cells).1 ((same (map Const cells)).1 ((in_other cells).0 inside))),
-  )
-
-  in_either : (cells : Row) → IsInOne One Other cells → IsInOne (Contains ones) (Contains others) (map Const cells)
-  in_either cells (inl (inside, apart)) = inl ((in_one cells).0 inside, λ there. apart ((in_other cells).1 there))
-  in_either cells (inr (inside, apart)) = inr ((in_other cells).0 inside, λ there. apart ((in_one cells).1 there))
-
-  pub least_texts : (row : List Term) (cells : Row) → row ≡ map Const cells → IsApart ones others row → IsLeastApart One Other cells
-  least_texts row cells is apart = record {
-    inside = (in_one cells).1 (subst (Contains ones) is apart.inside);
-    outside = λ inside. apart.outside (subst (Contains others) (sym is) ((in_other cells).0 inside));
-    least = λ other differs more. apart.least (map Const other) (in_either other differs)
-        (ap (λ it. row_cmp it (map Const other)) is ∙ ordered_as_texts cells other ∙ more);
-  }
-
--- ---- one fragment
-
-module _ (Rows : List Value → Type 0) (own : List (List Term)) (images : (values : List Value) → IsImageOf own values ↔ Rows values) where
-  pub in_view : (cells : Row) → IsText Rows cells ↔ Contains own (map Const cells)
-  in_view cells = (
-    (λ there. let from = (images (map Text cells)).1 there in subst (Contains own) (row_of_texts from.0 cells (sym from.2)) from.1),
-    (λ inside. subst Rows (map_value cells) ((images (map value_of (map Const cells))).0 (map Const cells, inside, refl))),
-  )
-
-  pub view_texts : HaveTextsOnly Rows → (row : List Term) → Contains own row → row ≡ map Const (map text_of row)
-  view_texts texts row inside =
-      let found = texts (map value_of row) ((images (map value_of row)).0 (row, inside, refl)) in
-      let is = row_of_texts row found.0 found.1 in
-      is ∙ ap (map Const) (sym (map_text found.0) ∙ ap (map text_of) (sym is))
-
 module _ (rows : List Row) (held : List (List Term)) (same : (row : List Term) → Contains held row ↔ Contains (map (map Const) rows) row) where
-  pub in_file : (cells : Row) → Contains rows cells ↔ Contains held (map Const cells)
-  in_file cells = (
-    (λ inside. (same (map Const cells)).1 (Contains-map (map Const) rows cells inside)),
-    (λ inside. let from = Contains-map_from (map Const) rows (map Const cells) ((same (map Const cells)).0 inside) in
-        subst (Contains rows) (constants_same from.0 cells from.2) from.1),
-  )
-
-  pub file_texts : (row : List Term) → Contains held row → row ≡ map Const (map text_of row)
-  file_texts row inside =
+  -- their images are rows of texts
+  pub constants_texts : HaveTextsOnly (IsImageOf held)
+  constants_texts values (row, inside, is) =
       let from = Contains-map_from (map Const) rows row ((same row).0 inside) in
-      sym from.2 ∙ ap (map Const) (sym (map_text from.0) ∙ ap (map text_of) from.2)
+      (from.0, is ∙ ap (map value_of) (sym from.2) ∙ map_value from.0)
 
--- ---- the least row, by its place
-
-module _ (Rows : List Value → Type 0) (own : List (List Term)) (images : (values : List Value) → IsImageOf own values ↔ Rows values)
-    (texts : HaveTextsOnly Rows) (rows : List Row) (held : List (List Term))
-    (same : (row : List Term) → Contains held row ↔ Contains (map (map Const) rows) row) (place : ℕ) (row : List Term) (cells : Row)
-    (is : cells ≡ map text_of row) where
-  pub missing_least : slice_get own place ≡ Some row → IsApartAt own held (apart.Missing place) → IsLeastApart (IsText Rows) (Contains rows) cells
-  missing_least there (found, at_place, is_apart) =
-      let one : found ≡ row = same_Some found row (sym at_place ∙ there) in
-      subst (IsLeastApart (IsText Rows) (Contains rows)) (sym is)
-      (least_texts (IsText Rows) (Contains rows) own held (in_view Rows own images) (in_file rows held same) row (map text_of row)
-      (view_texts Rows own images texts row (Contains-at own place row there)) (subst (IsApart own held) one is_apart))
-
-  pub extra_least : slice_get held place ≡ Some row → IsApartAt own held (apart.Extra place) → IsLeastApart (Contains rows) (IsText Rows) cells
-  extra_least there (found, at_place, is_apart) =
-      let one : found ≡ row = same_Some found row (sym at_place ∙ there) in
-      subst (IsLeastApart (Contains rows) (IsText Rows)) (sym is)
-      (least_texts (Contains rows) (IsText Rows) held own (in_file rows held same) (in_view Rows own images) row (map text_of row)
-      (file_texts rows held same row (Contains-at held place row there)) (subst (IsApart held own) one is_apart))
-
--- what tells the view's rows and those of the file apart judges the fragment
-module _ (Rows : List Value → Type 0) (own : List (List Term)) (images : (values : List Value) → IsImageOf own values ↔ Rows values)
-    (texts : HaveTextsOnly Rows) (rows : List Row) (held : List (List Term))
-    (same : (row : List Term) → Contains held row ↔ Contains (map (map Const) rows) row) (name : List ℕ) where
-  pub judged_apart : (outcome : Option Difference) → TellsApart name own held outcome → JudgesFragment name Rows rows outcome
-  judged_apart None told = same_sets (IsText Rows) (Contains rows) own held (in_view Rows own images) (in_file rows held same) told
-  judged_apart (Some (Missing its cells)) (is, place, row, are, there, apart_at) =
-      (is, missing_least Rows own images texts rows held same place row cells are there apart_at)
-  judged_apart (Some (Extra its cells)) (is, place, row, are, there, apart_at) =
-      (is, extra_least Rows own images texts rows held same place row cells are there apart_at)
-  judged_apart (Some (Broken number cells)) told = absurd told
+  -- which are the rows
+  pub constants_rows : (texts : List Row) → AreExactly (IsImageOf held) texts → AreOne (Contains texts) (Contains rows)
+  constants_rows texts exact cells = (
+    (λ inside.
+        let image = (exact (map Text cells)).1 (cells, inside, refl) in
+        let is = row_of_texts image.0 cells (sym image.2) in
+        let from = Contains-map_from (map Const) rows (map Const cells) ((same (map Const cells)).0 (subst (Contains held) is image.1)) in
+        subst (Contains rows) (constants_same from.0 cells from.2) from.1),
+    (λ inside.
+        let there = (same (map Const cells)).1 (Contains-map (map Const) rows cells inside) in
+        let found = (exact (map Text cells)).0 (map Const cells, there, sym (map_value cells)) in
+        subst (Contains texts) (sym (same_texts cells found.0 found.2)) found.1),
+  )
 
 -- ---- sets that are the same
 
@@ -153,6 +92,27 @@ module _ (One Other Ones Others : Row → Type 0) (same : AreOne One Ones) (too 
     outside = λ there. apart.outside ((too row).1 there);
     least = λ other differs. apart.least other (either_same other differs);
   }
+
+-- ---- one fragment
+
+module _ (Rows : List Value → Type 0) (own held list : List Row) (exact : AreExactly Rows own) (same : AreOne (Contains held) (Contains list)) where
+  as_texts : AreOne (Contains own) (IsText Rows)
+  as_texts row = (
+    (λ inside. (exact (map Text row)).1 (row, inside, refl)),
+    (λ there. let found = (exact (map Text row)).0 there in subst (Contains own) (sym (same_texts row found.0 found.2)) found.1),
+  )
+
+  -- what tells its view's rows and its own apart judges it
+  pub told_judges : (name : List ℕ) (outcome : Option Difference) → TellsApart name own held outcome → JudgesFragment name Rows list outcome
+  told_judges name None told = λ row. (
+    (λ there. (same row).0 ((told row).0 ((as_texts row).1 there))),
+    (λ inside. (as_texts row).0 ((told row).1 ((same row).1 inside))),
+  )
+  told_judges name (Some (Missing its row)) (is, apart) =
+      (is, apart_same (Contains own) (Contains held) (IsText Rows) (Contains list) as_texts same row apart)
+  told_judges name (Some (Extra its row)) (is, apart) =
+      (is, apart_same (Contains held) (Contains own) (Contains list) (IsText Rows) same as_texts row apart)
+  told_judges name (Some (Broken number cells)) told = absurd told
 
 -- ---- all fragments
 

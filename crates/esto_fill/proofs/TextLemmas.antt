@@ -212,11 +212,14 @@ module _ (One Other : List Value → Type 0) (same : (values : List Value) → O
     least = λ other lesser there node. first.least other lesser ((same other).1 there) node;
   }
 
-  pub gives_same : (result : Result (List Row) AnswerError) → GivesTexts One result → GivesTexts Other result
-  gives_same (Ok rows) given = record {
+  pub texts_same : (rows : List Row) → AreTextsOf One rows → AreTextsOf Other rows
+  texts_same rows given = record {
     exact = λ values. ((λ there. (given.exact values).0 ((same values).1 there)), (λ found. (same values).0 ((given.exact values).1 found)));
     rising = given.rising;
   }
+
+  pub gives_same : (result : Result (List Row) AnswerError) → GivesTexts One result → GivesTexts Other result
+  gives_same (Ok rows) given = texts_same rows given
   gives_same (Err (NodeInRow column)) given = column_moved column given
   gives_same (Err OutOfMemory) given = tt
 

@@ -15,8 +15,6 @@ use Rattle.esto_stores.specs.Rows.{Row}
 use Rattle.esto_term.specs.declared.term.Term.{Term}
 use Rattle.esto_fill.specs.Databases.{database_of}
 use Rattle.esto_fill.specs.Differences.{IsFirstBroken, IsLeastApart, IsFirstApart, AreOne, HoldViewRows, IsOfView, at}
-use Rattle.esto_fill.specs.Placing.{IsApartAt, text_of}
-use Rattle.esto_fill.specs.declared.apart.Apart.TheVariants as apart
 use Rattle.esto_ports.specs.declared.difference.Difference.{Difference}
 use Rattle.esto_ports.specs.declared.difference.Difference.TheVariants.{Rule as Broken, Missing, Extra}
 
@@ -54,16 +52,12 @@ JudgesFragment own Rows rows (Some (Missing name row)) = (name ≡ own) × IsLea
 JudgesFragment own Rows rows (Some (Extra name row)) = (name ≡ own) × IsLeastApart (Contains rows) (IsText Rows) row
 JudgesFragment own Rows rows (Some (Broken _ _)) = ⊥
 
--- The two lists have the same rows; or these are the texts of the least row that is in one of them alone, with that name.
-abbrev pub TellsApart : List ℕ → List (List Term) → List (List Term) → Option Difference → Type 0
+-- The two lists have the same rows; or this is the least row that is in one of them alone, with that name: it is missing where the first list has it.
+abbrev pub TellsApart : List ℕ → List Row → List Row → Option Difference → Type 0
 TellsApart own rows others None = AreOne (Contains rows) (Contains others)
-TellsApart own rows others (Some (Missing name texts)) =
-    (name ≡ own) × (place : ℕ) × (row : List Term) × (texts ≡ map text_of row) × (slice_get rows place ≡ Some row)
-    × IsApartAt rows others (apart.Missing place)
-TellsApart own rows others (Some (Extra name texts)) =
-    (name ≡ own) × (place : ℕ) × (row : List Term) × (texts ≡ map text_of row) × (slice_get others place ≡ Some row)
-    × IsApartAt rows others (apart.Extra place)
-TellsApart own rows others (Some (Broken _ _)) = ⊥
+TellsApart own rows others (Some (Missing name row)) = (name ≡ own) × IsLeastApart (Contains rows) (Contains others) row
+TellsApart own rows others (Some (Extra name row)) = (name ≡ own) × IsLeastApart (Contains others) (Contains rows) row
+TellsApart own rows others (Some (Broken number cells)) = ⊥
 
 -- Each fragment has the rows of its view, or this is the first that has others, and the least row.
 abbrev pub JudgesFragments : List (List ℕ) → List ConjunctiveQuery → Database → List (List Row) → Option Difference → Type 0

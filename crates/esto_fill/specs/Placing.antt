@@ -1,9 +1,7 @@
--- Rows of terms that become rows of texts, and lists of rows that are compared.
-use Rattle.std.specs.Prelude.{◌≡◌, ◌≢◌, ℕ, ◌+◌, ◌≤◌, min, List, [], ◌++◌, filter, map, slice_get, Contains, Option, Some, None, Result, Ok, Err}
-use Rattle.std.specs.declared.cmp.Ordering.TheVariants.{Greater}
+-- Rows of terms that become rows of texts.
+use Rattle.std.specs.Prelude.{◌≡◌, ℕ, ◌+◌, ◌≤◌, min, List, [], ◌++◌, filter, map, slice_get, Contains, Option, Some, None, Result, Ok, Err}
 use Rattle.esto_docmodel.specs.declared.file.Shape.{Shape}
 use Rattle.esto_docmodel.specs.declared.file.Shape.TheVariants.{Keys}
-use Rattle.esto_query.specs.Rows.{row_cmp}
 use Rattle.esto_query.specs.declared.query.Name.{Name}
 use Rattle.esto_relmodel.specs.Once.{AreEachOnce}
 use Rattle.esto_semantics.specs.declared.fact.Value.{Value}
@@ -12,11 +10,8 @@ use Rattle.esto_term.specs.Kinds.{IsConstant}
 use Rattle.esto_term.specs.declared.term.Term.{Term, out-Term}
 use Rattle.esto_term.specs.declared.term.Term.TheOpen.{Term-F}
 use Rattle.esto_fill.specs.Databases.{value_of}
-use Rattle.esto_fill.specs.Differences.{IsInOne}
 use Rattle.esto_fill.specs.Filled.{CanHold, IsFirstUnfit, text_in}
 use Rattle.esto_fill.specs.Records.{is_named}
-use Rattle.esto_fill.specs.declared.apart.Apart.{Apart}
-use Rattle.esto_fill.specs.declared.apart.Apart.TheVariants.{Missing, Extra}
 use Rattle.esto_fill.specs.declared.rows.AnswerError.{AnswerError}
 use Rattle.esto_fill.specs.declared.rows.AnswerError.TheVariants as answer
 use Rattle.esto_fill.specs.declared.filled.FillError.{FillError}
@@ -77,16 +72,3 @@ WritesRows shape rows (Err OutOfMemory) = Unit {0}
 -- The named variables among the terms come to the others, each once.
 abbrev pub AddsNamed : List Name → List Term → List Term → List Term → Type 0
 AddsNamed names terms old new = (things : List Term) → AreEachOnce things old → AreEachOnce (things ++ filter (is_named names) terms) new
-
--- ---- two lists of rows
-
--- The row is in the first list and not in the second, and none that is in one alone comes before it.
-pub record IsApart (rows others : List (List Term)) (row : List Term) : Type 0 where
-  pub inside : Contains rows row
-  pub outside : ¬ (Contains others row)
-  pub least : (other : List Term) → IsInOne (Contains rows) (Contains others) other → row_cmp row other ≢ Greater
-
--- The row of the one list that is at the place is the least that is in one list alone: the first list has it, or the second.
-abbrev pub IsApartAt : List (List Term) → List (List Term) → Apart → Type 0
-IsApartAt rows others (Missing place) = (row : List Term) × (slice_get rows place ≡ Some row) × IsApart rows others row
-IsApartAt rows others (Extra place) = (row : List Term) × (slice_get others place ≡ Some row) × IsApart others rows row

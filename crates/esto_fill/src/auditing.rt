@@ -1,35 +1,32 @@
 //! Whether the facts of datasets and the rows of fragments agree, and the first difference.
-ghost use Rattle.std.specs.Prelude.{◌≡◌, List, Some, length, map, IfOk};
+ghost use Rattle.std.specs.Prelude.{◌≡◌, List, length, map, IfOk};
 ghost use Rattle.esto_constraint.specs.Constraints.{rules_of};
 ghost use Rattle.esto_constraint.specs.EncodingRules.{written};
 ghost use Rattle.esto_steps.specs.Rows.{IsRowOf, held_by};
 ghost use Rattle.esto_query.specs.Making.{query_of};
-ghost use Rattle.esto_query.specs.Rows.{IsAscending};
 ghost use Rattle.esto_semantics.specs.Maps.{AreFlat};
 ghost use Rattle.esto_semantics.specs.Queries.{IsAnswer};
 ghost use Rattle.esto_semantics.specs.declared.fact.Fact.{Fact};
 ghost use Rattle.esto_term.specs.declared.term.Term.{Term};
-ghost use Rattle.esto_ports.specs.declared.difference.Difference.TheVariants as difference;
 ghost use Rattle.esto_views.specs.Fragments.{views_of};
 ghost use Rattle.esto_fill.specs.Databases.{database_of};
 ghost use Rattle.esto_fill.specs.Differences.{Audits};
-ghost use Rattle.esto_fill.specs.Judging.{JudgesRules, JudgesFragment, JudgesFragments, TellsApart};
-ghost use Rattle.esto_fill.specs.Placing.{text_of};
-ghost use Rattle.esto_fill.specs.Texts.{AreTextViews, HaveTextsOnly};
+ghost use Rattle.esto_fill.specs.Judging.{JudgesRules, JudgesFragment, JudgesFragments};
+ghost use Rattle.esto_fill.specs.Texts.{AreTextsOf, AreTextViews, HaveTextsOnly};
 ghost use Rattle.esto_fill.specs.Trials.{IsEnoughFor};
 
-use crate::apart::{Apart, first_apart, ordered_rows};
+use crate::apart::{apart_rows, ordered_texts};
 use crate::loaded::Loaded;
 use crate::part::difference_of;
-use crate::rows::text_row;
+use crate::rows::constant_texts;
 use crate::tried::{add_rules, first_broken};
 use crate::views::add_views;
 use esto_constraint::{Constraint, Rules, rules_are_sound};
 use esto_mapping::Catalogue;
 use esto_ports::Difference;
-use esto_query::{Columns, IndexedFacts, queries_are_sound};
+use esto_query::{Columns, IndexedFacts, Query, queries_are_sound};
 use esto_semantics::{Facts, databases_stand_for_facts};
-use esto_term::{List, OutOfMemory, Replicate, Term, TermRows, Text, TextRows};
+use esto_term::{List, OutOfMemory, TextRows};
 use esto_views::{FragmentDef, FragmentDefs};
 use std::alloc::Global;
 
@@ -57,41 +54,16 @@ fn broken_rule(
     difference_of(alloc, catalogue, broken.rule, &broken.found.valuation)
 }
 
-// The fragment of the name lacks the row of the texts of the terms.
-fn missing(alloc: Global, name: &Text, terms: &[Term]) -> Result<Option<Difference>, OutOfMemory>
-    ensures { IfOk result (λ it. it ≡ Some (difference.Missing name.now (map text_of terms.now))) }
+// The rows of the view over the facts, which hold no node, as texts, each once, in order.
+fn view_rows(alloc: Global, view: &Query, facts: &IndexedFacts) -> Result<TextRows, OutOfMemory>
+    requires flat { AreFlat facts.now }
+    requires texts { HaveTextsOnly (IsAnswer (query_of view.now) (database_of facts.now)) }
+    ensures { IfOk result (AreTextsOf (IsAnswer (query_of view.now) (database_of facts.now))) }
 {
-    let name = name.copy(alloc)?;
-    let row = text_row(alloc, terms)?;
-    Ok(Some(Difference::Missing(name, row)))
-}
-
-// The fragment of the name holds the row of the texts of the terms too many.
-fn extra(alloc: Global, name: &Text, terms: &[Term]) -> Result<Option<Difference>, OutOfMemory>
-    ensures { IfOk result (λ it. it ≡ Some (difference.Extra name.now (map text_of terms.now))) }
-{
-    let name = name.copy(alloc)?;
-    let row = text_row(alloc, terms)?;
-    Ok(Some(Difference::Extra(name, row)))
-}
-
-// The least row that is in one of the two lists alone: the fragment of the name lacks it where the first list has
-// it, and else has it without a reason. None comes exactly where both have the same rows.
-fn apart_rows(
-    alloc: Global,
-    name: &Text,
-    own: &TermRows,
-    held: &TermRows,
-) -> Result<Option<Difference>, OutOfMemory>
-    requires own { IsAscending own.now }
-    requires held { IsAscending held.now }
-    ensures { IfOk result (TellsApart name.now own.now held.now) }
-{
-    match first_apart(own.items(), held.items()) {
-        Some(Apart::Missing(place)) => missing(alloc, name, own.item(place).items()),
-        Some(Apart::Extra(place)) => extra(alloc, name, held.item(place).items()),
-        None => Ok(None),
-    }
+    databases_stand_for_facts();
+    queries_are_sound();
+    let rows = facts.answers(alloc, view)?;
+    constant_texts(alloc, rows.items())
 }
 
 // The least row that is in the view's rows or in the fragment's and not in both. None comes exactly where they are the same.
@@ -107,11 +79,9 @@ fn apart_of(
     ensures { IfOk result (JudgesFragment fragment.now.name
         (IsAnswer (query_of fragment.now.view) (database_of facts.now)) rows.now) }
 {
-    databases_stand_for_facts();
-    queries_are_sound();
-    let own = facts.answers(alloc, &fragment.view)?;
-    let held = ordered_rows(alloc, rows)?;
-    apart_rows(alloc, &fragment.name, &own, &held)
+    let own = view_rows(alloc, &fragment.view, facts)?;
+    let held = ordered_texts(alloc, rows)?;
+    apart_rows(alloc, &fragment.name, own.items(), held.items())
 }
 
 // The first fragment whose rows are not its view's, with the least row that is in one of the two alone. None comes exactly

@@ -21,6 +21,7 @@ mod views;
 mod wanted;
 
 pub use answering::answer;
+pub use apart::apart_rows;
 pub use auditing::{TextRowsList, audit, audit_tried};
 pub use datasets::{DatasetBytes, KEY_CELLS, LoadError, LoadList, dataset_facts, load_dataset};
 pub use esto_ports::Difference;

@@ -2,7 +2,7 @@
 ghost use Rattle.std.specs.Prelude.{◌≡◌, ◌+◌, [], ◌∷◌, map, IfOk};
 ghost use Rattle.esto_query.specs.Rows.{IsAscending};
 ghost use Rattle.esto_fill.specs.Placing.{text_of, IsImageOf, LeastOpen, NamesColumn, lesser};
-ghost use Rattle.esto_fill.specs.Texts.{GivesTexts};
+ghost use Rattle.esto_fill.specs.Texts.{AreTextsOf, GivesTexts, HaveTextsOnly};
 ghost use Rattle.esto_fill.specs.declared.rows.AnswerError.TheVariants as answer;
 
 use esto_term::{List, OutOfMemory, Replicate, Term, Terms, Text, TextRow, TextRows};
@@ -71,8 +71,8 @@ fn text_of(alloc: Global, term: &Term) -> Result<Text, OutOfMemory>
     }
 }
 
-/// The row of the texts of the terms.
-pub fn text_row(alloc: Global, terms: &[Term]) -> Result<TextRow, OutOfMemory>
+// The row of the texts of the terms.
+fn text_row(alloc: Global, terms: &[Term]) -> Result<TextRow, OutOfMemory>
     ensures { IfOk result (λ it. it ≡ map text_of terms.now) }
 {
     let mut row = List::new(alloc);
@@ -126,4 +126,17 @@ pub fn texts_of(alloc: Global, rows: &[Terms]) -> Result<TextRows, AnswerError>
     }
     let texts = text_rows(alloc, rows)?;
     Ok(texts)
+}
+
+/// The rows of terms, which are of constants alone, as texts, in order.
+pub fn constant_texts(alloc: Global, rows: &[Terms]) -> Result<TextRows, OutOfMemory>
+    requires ascending { IsAscending rows.now }
+    requires texts { HaveTextsOnly (IsImageOf rows.now) }
+    ensures { IfOk result (AreTextsOf (IsImageOf rows.now)) }
+{
+    match texts_of(alloc, rows) {
+        Ok(texts) => Ok(texts),
+        Err(AnswerError::NodeInRow(_)) => unreachable!(),
+        Err(AnswerError::OutOfMemory) => Err(OutOfMemory),
+    }
 }

@@ -4,7 +4,7 @@ use Rattle.esto_fill.specs.Databases.{database_of}
 use Rattle.esto_query.specs.Making.{query_of}
 use Rattle.esto_semantics.specs.Queries.{IsAnswer}
 use Rattle.esto_data.proofs.CompareLemmas.{codes_below, shown_said}
-use Rattle.esto_data.proofs.UnlikeLemmas.{told_judges}
+use Rattle.esto_fill.proofs.DifferenceLemmas.{told_judges}
 use Rattle.esto_data.proofs.coded_fragment.fragment_difference.Goals as goal
 
 pub sorted_texts-requires : goal.sorted_texts-requires

@@ -1,7 +1,7 @@
 use Rattle.std.proofs.Common.{◌≡◌, ◌≤◌, drop, length}
 use Rattle.std.specs.Cmp.Lexicographic.{slice_cmp}
 use Rattle.std.specs.Ordering.{nat_cmp}
-use Rattle.esto_data.proofs.coded_fragment.compare_rows.Given as goal
+use Rattle.esto_fill.proofs.apart.compare_rows.Given as goal
 
 -- the walk is not past the other row, and the rests compare as the whole rows do
 abbrev pub invariant-texts : goal.invariant-texts

@@ -4,9 +4,9 @@ use Rattle.std.specs.Ordering.{nat_cmp}
 use Rattle.std.proofs.lemmas.Option.{same_Some, slice_get_read}
 use Rattle.std.proofs.lemmas.Result.{IfOk-weaker}
 use Rattle.esto_ports.specs.declared.difference.Difference.TheVariants as difference
-use Rattle.esto_data.specs.Disagreeing.{TellsApart}
-use Rattle.esto_data.proofs.UnlikeLemmas.{alike_on, tells_less, tells_longer, tells_more, tells_none, tells_rest}
-use Rattle.esto_data.proofs.coded_fragment.apart_rows.Goals as goal
+use Rattle.esto_fill.specs.Judging.{TellsApart}
+use Rattle.esto_fill.proofs.ApartLemmas.{alike_on, tells_less, tells_longer, tells_more, tells_none, tells_rest}
+use Rattle.esto_fill.proofs.apart.apart_rows.Goals as goal
 
 pub returns-then-place-held : goal.returns-then-place-held
 returns-then-place-held c =

@@ -2,7 +2,7 @@ use Rattle.std.proofs.Common.{arith, sym, ◌∙◌}
 use Rattle.std.specs.Ordering.{nat_cmp}
 use Rattle.std.specs.Cmp.Lexicographic.{slice_cmp}
 use Rattle.esto_term.proofs.WalkLemmas.{rests-longer, rests-end, rests-decided, rests-alike}
-use Rattle.esto_data.proofs.coded_fragment.compare_rows.Goals as goal
+use Rattle.esto_fill.proofs.apart.compare_rows.Goals as goal
 
 pub returns-then-place-other : goal.returns-then-place-other
 returns-then-place-other c =

@@ -1,5 +1,5 @@
-use Rattle.esto_data.proofs.UnlikeLemmas.{AreAlikeBelow}
-use Rattle.esto_data.proofs.coded_fragment.apart_rows.Given as goal
+use Rattle.esto_fill.proofs.ApartLemmas.{AreAlikeBelow}
+use Rattle.esto_fill.proofs.apart.apart_rows.Given as goal
 
 -- the lists are the same so far
 abbrev pub invariant-rows : goal.invariant-rows
