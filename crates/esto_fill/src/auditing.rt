@@ -146,9 +146,9 @@ fn indexed<'a>(
     IndexedFacts::by(alloc, columns, facts)
 }
 
-/// As `audit`, of facts that meet the laws, of which what is loaded is some: all that an atom of another rule, or of a
-/// fragment's view, can go to, in order. The laws are not tried.
-pub fn audit_tried(
+// As `audit`, of facts that meet the laws, of which what is loaded is some: all that an atom of another rule, or of a
+// fragment's view, can go to, in order. The laws are not tried.
+fn audit_tried(
     alloc: Global,
     catalogue: &Catalogue,
     laws: &Rules,

@@ -22,7 +22,7 @@ mod wanted;
 
 pub use answering::answer;
 pub use apart::apart_rows;
-pub use auditing::{TextRowsList, audit, audit_tried};
+pub use auditing::{TextRowsList, audit};
 pub use datasets::{DatasetBytes, KEY_CELLS, LoadError, LoadList, dataset_facts, load_dataset};
 pub use esto_ports::Difference;
 pub use filled::{FillError, fill, marked, text_of};
