@@ -7,7 +7,7 @@ use Rattle.std.specs.List.{AllZip}
 use Rattle.std.proofs.lemmas.Option.{same_Some}
 use Rattle.esto_constraint.specs.Constraints.{rule_of, rules_of}
 use Rattle.esto_constraint.specs.EncodingRules.{written}
-use Rattle.esto_constraint.specs.Matches.{IsLeastActive}
+use Rattle.esto_constraint.specs.Matches.{IsFirstBroken as IsFirstUnmet, IsLeastActive}
 use Rattle.esto_constraint.specs.declared.rule.Constraint.{Constraint}
 use Rattle.esto_mapping.specs.declared.catalogue.Catalogue.{Catalogue}
 use Rattle.esto_query.specs.Active.{Holds}
@@ -16,7 +16,7 @@ use Rattle.esto_query.proofs.PlaceLemmas.{IsAtMost-cons, IsAtMost-least, IsAtMos
 use Rattle.esto_relmodel.specs.Once.{StandsBefore}
 use Rattle.esto_relmodel.specs.Parts.{IsPartFor}
 use Rattle.esto_semantics.specs.Facts.{image}
-use Rattle.esto_semantics.specs.Maps.{Keeps, Sends}
+use Rattle.esto_semantics.specs.Maps.{AreFlat, Keeps, Sends}
 use Rattle.esto_semantics.specs.Matches.{IsAtMost, IsMatch}
 use Rattle.esto_semantics.specs.Queries.{ConjunctiveQuery}
 use Rattle.esto_semantics.specs.Rules.{Rule, IsMet, body_of}
@@ -29,12 +29,12 @@ use Rattle.esto_term.proofs.ChoiceLemmas.{Decided}
 use Rattle.esto_term.proofs.ListLemmas.{Contains-at, Contains-cases, Contains-head, Contains-nil, Contains-rest, map_at}
 use Rattle.esto_term.specs.declared.term.Term.{Term}
 use Rattle.esto_term.specs.declared.term.Term.TheVariants.{Const}
+use Rattle.esto_views.specs.Fragments.{views_of}
 use Rattle.esto_fill.specs.Differences.{Audits}
 use Rattle.esto_fill.specs.Judging.{IsFirstTried, JudgesRules}
 use Rattle.esto_fill.specs.Parts.{IsFirstByMatch, IsFirstByPart, IsFirstByRule}
-use Rattle.esto_fill.specs.Trials.{IsEnoughFor}
 use Rattle.esto_ports.specs.declared.difference.Difference.{Difference}
-use Rattle.esto_fill.proofs.TrialLemmas.{concludes_among}
+use Rattle.esto_fill.proofs.TrialLemmas.{all_enough, concludes_among}
 
 -- ---- where a thing first stands
 
@@ -172,15 +172,27 @@ module _ (rule : Rule) (facts part : List (Fact Term)) (valuation : Assignment) 
 
 -- ---- its difference
 
+-- where there are no laws, the first rule that is not met is the first that is tried
+first_tried : (rules : List Rule) (facts : List (Fact Term)) (number : ℕ) (valuation : Assignment) (places : List ℕ)
+    → IsFirstUnmet rules facts number valuation places → IsFirstTried [] rules facts number valuation places
+first_tried rules facts number valuation places unmet = record {
+  rule = unmet.rule;
+  there = unmet.there;
+  tried = λ law. Contains-nil unmet.rule law;
+  active = unmet.active;
+  before = λ rule inside. inr (Contains-nil rule, unmet.before rule inside);
+}
+
 module _ (catalogue : Catalogue) (number : ℕ) (valuation : Assignment) where
   -- it is judged so of the rules
-  pub judged_by_match : (laws : List Rule) (facts some : List (Fact Term)) (places : List ℕ) → IsEnoughFor catalogue laws facts some
-      → IsFirstTried laws (rules_of catalogue.rules) some number valuation places
+  pub judged_by_match : (facts : List (Fact Term)) (places : List ℕ) → AreFlat facts
+      → IsFirstUnmet (rules_of catalogue.rules) facts number valuation places
       → (outcome : Option Difference) → MatchOption outcome ⊥ (IsFirstByMatch catalogue number valuation)
       → JudgesRules (rules_of catalogue.rules) (map written catalogue.rules) facts outcome
-  judged_by_match laws facts some places enough tried None told = absurd told
-  judged_by_match laws facts some places enough tried (Some difference) told =
-      let first = told laws facts some places enough tried in
+  judged_by_match facts places flat unmet None told = absurd told
+  judged_by_match facts places flat unmet (Some difference) told =
+      let enough = all_enough (rules_of catalogue.rules) (views_of catalogue.fragments) facts flat in
+      let first = told [] facts facts places enough (first_tried (rules_of catalogue.rules) facts number valuation places unmet) in
       subst (λ it. JudgesRules (rules_of catalogue.rules) (map written catalogue.rules) facts (Some it)) (sym first.2) first.3
 
   -- found in a part, it is the first

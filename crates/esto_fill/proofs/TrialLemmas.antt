@@ -404,17 +404,16 @@ trial_wants catalogue laws start bodies is adds = (bodies, refl, record { tried 
         (adds.0 (query_of from.0.view).body (subst (λ those. Contains those (query_of from.0.view).body) (sym is)
         (Contains-map (λ (fragment : FragmentDef). (query_of fragment.view).body) catalogue.fragments from.0 from.1)))
 
--- ---- all facts are enough for themselves
+-- ---- all facts are enough for themselves, without laws
 
 keeps_all : (bodies : List (List (Fact Term))) (facts : List (Fact Term)) → DropsUnasked bodies facts facts
 keeps_all bodies [] = refl
 keeps_all bodies (fact ∷ facts) = (facts, keeps_all bodies facts, inl refl)
 
-pub all_enough : (rules laws : List Rule) (views : List ConjunctiveQuery) (facts : List (Fact Term)) → laws ≡ [] → AreFlat facts
-    → IsEnough rules laws views facts facts
-all_enough rules laws views facts none flat = record {
+pub all_enough : (rules : List Rule) (views : List ConjunctiveQuery) (facts : List (Fact Term)) → AreFlat facts → IsEnough rules [] views facts facts
+all_enough rules views facts flat = record {
   flat = flat;
-  met = λ rule inside. absurd (Contains-nil rule (subst (λ those. Contains those rule) none inside));
+  met = λ rule inside. absurd (Contains-nil rule inside);
   bodies = bodies;
   covers = record {
     tried = λ rule inside free part of_it.

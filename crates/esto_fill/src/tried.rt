@@ -1,14 +1,10 @@
 //! The rules that are tried: those that don't hold by law.
-ghost use Rattle.std.specs.Prelude.{◌≡◌, ◌↔◌, IsTrue, Contains, MatchOption, IfOk};
+ghost use Rattle.std.specs.Prelude.{◌≡◌, ◌↔◌, IsTrue, Contains};
 ghost use Rattle.esto_constraint.specs.Constraints.{rule_of, rules_of};
-ghost use Rattle.esto_constraint.specs.Matches.{IsLeastActive};
-ghost use Rattle.esto_fill.specs.Judging.{ArePassed, IsFirstTried, IsPassed};
 
-use esto_constraint::{Broken, Constraint, Egd, Rules, Tgd, active_in};
-use esto_query::{Columns, Found, IndexedFacts};
+use esto_constraint::{Constraint, Egd, Tgd};
 use esto_semantics::Atom;
-use esto_term::{OutOfMemory, equal_terms};
-use std::alloc::Global;
+use esto_term::equal_terms;
 
 // Whether both are the same atom.
 fn is_same_atom(atom: &Atom, other: &Atom) -> bool
@@ -93,74 +89,4 @@ pub fn is_law(rule: &Constraint, laws: &[Constraint]) -> bool
         }
     }
     false
-}
-
-// Adds the columns by which the rule's matches and their extensions are found.
-fn add_columns(alloc: Global, columns: &mut Columns, rule: &Constraint) -> Result<(), OutOfMemory> {
-    match rule {
-        Constraint::Tuple(rule) => {
-            columns.add_asked(alloc, &[], rule.body.items())?;
-            columns.add_asked(alloc, rule.body.items(), rule.head.items())
-        }
-        Constraint::Equal(rule) => columns.add_asked(alloc, &[], rule.body.items()),
-        Constraint::Never(rule) => columns.add_asked(alloc, &[], rule.body.items()),
-    }
-}
-
-/// Adds the columns by which matches of the rules that are none of the laws are found.
-pub fn add_rules(
-    alloc: Global,
-    columns: &mut Columns,
-    rules: &Rules,
-    laws: &[Constraint],
-) -> Result<(), OutOfMemory> {
-    'rules: for rule in rules.items() {
-        if !is_law(rule, laws) {
-            add_columns(alloc, columns, rule)?;
-        }
-    }
-    Ok(())
-}
-
-// The least active match of the rule, which isn't looked for where the rule is one of the laws.
-fn tried(
-    alloc: Global,
-    rule: &Constraint,
-    laws: &[Constraint],
-    facts: &IndexedFacts,
-) -> Result<Option<Found>, OutOfMemory>
-    ensures { IfOk result (λ outcome. MatchOption outcome
-        (IsPassed (rules_of laws.now) facts.now (rule_of rule.now))
-        (λ found. ¬ (Contains (rules_of laws.now) (rule_of rule.now))
-        × IsLeastActive (rule_of rule.now) facts.now found.valuation found.places)) }
-{
-    if is_law(rule, laws) {
-        return Ok(None);
-    }
-    active_in(alloc, rule, facts)
-}
-
-/// The first rule, by its number, that is none of the laws and that the facts do not meet, with its least active match. None
-/// comes exactly where they meet each rule but the laws, which are not tried.
-pub fn first_broken(
-    alloc: Global,
-    rules: &Rules,
-    laws: &[Constraint],
-    facts: &IndexedFacts,
-) -> Result<Option<Broken>, OutOfMemory>
-    ensures { IfOk result (λ outcome. MatchOption outcome
-        (ArePassed (rules_of laws.now) facts.now (rules_of rules.now))
-        (λ broken. IsFirstTried (rules_of laws.now) (rules_of rules.now) facts.now broken.rule
-        broken.found.valuation broken.found.places)) }
-{
-    'rules: for number in 0..rules.len() {
-        let outcome = tried(alloc, rules.item(number), laws, facts)?;
-        if let Some(found) = outcome {
-            return Ok(Some(Broken {
-                rule: number,
-                found,
-            }));
-        }
-    }
-    Ok(None)
 }

@@ -1,4 +1,5 @@
 //! Whether the rows of views are rows of texts.
+ghost use Rattle.std.specs.Prelude.{◌≡◌, IfOk};
 ghost use Rattle.esto_query.specs.Making.{query_of};
 ghost use Rattle.esto_semantics.specs.Maps.{AreFlat};
 ghost use Rattle.esto_semantics.specs.Queries.{IsAnswer};
@@ -11,7 +12,7 @@ use crate::nodes::{are_free, node_columns};
 use crate::rows::{AnswerError, least_open, node_at};
 use esto_mapping::Catalogue;
 use esto_query::{Columns, IndexedFacts, Query, queries_are_sound};
-use esto_semantics::databases_stand_for_facts;
+use esto_semantics::{Facts, databases_stand_for_facts};
 use esto_term::OutOfMemory;
 use esto_views::FragmentDefs;
 use std::alloc::Global;
@@ -30,8 +31,8 @@ fn judge_view(alloc: Global, view: &Query, facts: &IndexedFacts) -> Result<(), A
     }
 }
 
-/// Adds the columns by which the rows of the fragments' views are found.
-pub fn add_views(
+// Adds the columns by which the rows of the fragments' views are found.
+fn add_views(
     alloc: Global,
     columns: &mut Columns,
     fragments: &FragmentDefs,
@@ -40,6 +41,19 @@ pub fn add_views(
         columns.add_asked(alloc, &[], fragment.view.body.items())?;
     }
     Ok(())
+}
+
+/// The facts with their index by the columns by which the rows of the fragments' views are found.
+pub fn indexed<'a>(
+    alloc: Global,
+    fragments: &FragmentDefs,
+    facts: &'a Facts,
+) -> Result<IndexedFacts<'a>, OutOfMemory>
+    ensures { IfOk result (λ it. it ≡ facts.now) }
+{
+    let mut columns = Columns::none(alloc);
+    add_views(alloc, &mut columns, fragments)?;
+    IndexedFacts::by(alloc, columns, facts)
 }
 
 // Whether no row of a fragment's view over the database of the facts holds a node, by the rows of each view.
@@ -65,9 +79,7 @@ fn judge_views(alloc: Global, catalogue: &Catalogue, loaded: &Loaded) -> Result<
     ensures { JudgesViews (views_of catalogue.now.fragments)
         (database_of loaded.now.facts) result }
 {
-    let mut columns = Columns::none(alloc);
-    add_views(alloc, &mut columns, &catalogue.fragments)?;
-    let facts = IndexedFacts::by(alloc, columns, &loaded.facts)?;
+    let facts = indexed(alloc, &catalogue.fragments, &loaded.facts)?;
     judge_each(alloc, &catalogue.fragments, &facts)
 }
 
