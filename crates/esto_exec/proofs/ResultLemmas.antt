@@ -37,14 +37,17 @@ cells_agree choice other number (suc count) agree =
     let rest = cells_agree choice other (number + 1) count (λ n below. agree n (omega (arith, below))) in
     λ i. first i ++ rest i
 
+-- the row of the number in the choice is one of the get's fragment, and follows those before it
+abbrev pub IsNext : (Fact ℕ → Type 0) → Get → (ℕ → List ℕ) → ℕ → Type 0
+IsNext Holds get choice number =
+    Holds (record { relation = get.fragment; terms = choice number }) × Follows get (cells_from choice 0 number) (choice number)
+
 -- the gets lead along the choice, of which the first one has the number
 abbrev pub Goes : (Fact ℕ → Type 0) → List Get → ℕ → (ℕ → List ℕ) → Type 0
-Goes Holds gets number choice = (at : ℕ) (get : Get) → slice_get gets at ≡ Some get
-    → Holds (record { relation = get.fragment; terms = choice (number + at) })
-    × Follows get (cells_from choice 0 (number + at)) (choice (number + at))
+Goes Holds gets number choice = (at : ℕ) (get : Get) → slice_get gets at ≡ Some get → IsNext Holds get choice (number + at)
 
 module _ (Holds : Fact ℕ → Type 0) where
-  leads_goes : (gets : List Get) (number : ℕ) (choice : ℕ → List ℕ) (cells end : List ℕ) → cells ≡ cells_from choice 0 number → Leads Holds gets cells end
+  pub leads_goes : (gets : List Get) (number : ℕ) (choice : ℕ → List ℕ) (cells end : List ℕ) → cells ≡ cells_from choice 0 number → Leads Holds gets cells end
       → (other : ℕ → List ℕ) × ((n : ℕ) → n < number → other n ≡ choice n) × Goes Holds gets number other
       × (end ≡ cells_from other 0 (number + length gets))
   leads_goes [] number choice cells end is leads = (
@@ -91,7 +94,7 @@ module _ (Holds : Fact ℕ → Type 0) where
           each zero own there =
               let one : get ≡ own = same_Some get own there in
               let zeroth : number ≡ number + 0 = omega (arith) in
-              subst (λ n. Holds (record { relation = own.fragment; terms = other n }) × Follows own (cells_from other 0 n) (other n)) zeroth (
+              subst (IsNext Holds own other) zeroth (
                 subst (λ (it : Fact ℕ). Holds it) (λ i. record { relation = (one i).fragment; terms = row_is i }) held,
                 first own one,
               )
@@ -101,15 +104,14 @@ module _ (Holds : Fact ℕ → Type 0) where
                   (subst (λ them. Follows get them (other number)) cells_are (subst (Follows get cells) row_is follows))
           each (suc at) own there =
               let next : number + 1 + at ≡ number + suc at = omega (arith) in
-              subst (λ n. Holds (record { relation = own.fragment; terms = other n }) × Follows own (cells_from other 0 n) (other n)) next (goes at own there)
+              subst (IsNext Holds own other) next (goes at own there)
 
-  goes_leads : (gets : List Get) (number : ℕ) (choice : ℕ → List ℕ) → Goes Holds gets number choice
+  pub goes_leads : (gets : List Get) (number : ℕ) (choice : ℕ → List ℕ) → Goes Holds gets number choice
       → Leads Holds gets (cells_from choice 0 number) (cells_from choice 0 (number + length gets))
   goes_leads [] number choice goes = ap (cells_from choice 0) (omega (arith))
   goes_leads (get ∷ gets) number choice goes =
       let zeroth : number + 0 ≡ number = omega (arith) in
-      let own = subst (λ n. Holds (record { relation = get.fragment; terms = choice n }) × Follows get (cells_from choice 0 n) (choice n)) zeroth
-      (goes 0 get refl) in
+      let own = subst (IsNext Holds get choice) zeroth (goes 0 get refl) in
       let next : number + 1 ≡ suc number = omega (arith) in
       let own_number : 0 + number ≡ number = omega (arith) in
       let grown : cells_from choice 0 (number + 1) ≡ cells_from choice 0 number ++ choice number =
@@ -126,8 +128,7 @@ module _ (Holds : Fact ℕ → Type 0) where
       later : Goes Holds (get ∷ gets) number choice → Goes Holds gets (number + 1) choice
       later goes_on at own there =
           let next : number + suc at ≡ number + 1 + at = omega (arith) in
-          subst (λ n. Holds (record { relation = own.fragment; terms = choice n }) × Follows own (cells_from choice 0 n) (choice n)) next (goes_on
-          (suc at) own there)
+          subst (IsNext Holds own choice) next (goes_on (suc at) own there)
 
 -- ---- equations
 
@@ -195,7 +196,7 @@ equations_are arities number (first ∷ rest) equation inside = elim
           )
     ]
 
--- ---- all gets are done
+-- ---- choices along which all gets lead
 
 -- slots of rows that are long enough hold codes
 pub cells_of : (arities done : List ℕ) (choice : ℕ → List ℕ) → AreDoneLong arities done choice → (places : List Slot)
@@ -211,12 +212,11 @@ cells_of arities done choice long (slot ∷ places) within =
 
 module _ (Holds : Fact ℕ → Type 0) (arities : List ℕ) (gets : List Get) (long : length arities ≡ length gets)
     (fits : (number : ℕ) (get : Get) (row : List ℕ) → slice_get gets number ≡ Some get → Holds (record { relation = get.fragment; terms = row })
-    → (arity : ℕ) × (slice_get arities number ≡ Some arity) × (length row ≡ arity))
-    (done : List ℕ) (all : (number : ℕ) → number < length gets → Contains done number) where
+    → (arity : ℕ) × (slice_get arities number ≡ Some arity) × (length row ≡ arity)) where
   abbrev AreHeld : (ℕ → List ℕ) → Type 0
   AreHeld choice = (number : ℕ) (get : Get) → slice_get gets number ≡ Some get → Holds (record { relation = get.fragment; terms = choice number })
 
-  rows_long : (choice : ℕ → List ℕ) → AreHeld choice → (count : ℕ) → AreLong choice 0 (take count arities)
+  pub rows_long : (choice : ℕ → List ℕ) → AreHeld choice → (count : ℕ) → AreLong choice 0 (take count arities)
   rows_long choice held count at arity is =
       let at_all = taken_at arities count at arity is in
       let get = thing_at gets at (let inside = slice_get_within arities at arity at_all in omega (arith, inside, long)) in
@@ -230,22 +230,54 @@ module _ (Holds : Fact ℕ → Type 0) (arities : List ℕ) (gets : List Get) (l
       let taken : length (take count arities) ≡ count = length-take-le count arities (omega (arith, within, long)) in
       ap (λ n. code_at (cells_from choice 0 n) source) (sym taken) ∙ source_reads choice (take count arities) source (rows_long choice held count)
 
-  known : (count : ℕ) → count ≤ length gets → (source : Source) → IsKnown done (side_of (take count arities) source)
-  known count within source = known_before (take count arities) source done (λ number below.
-      all number (let taken = length-take-le count arities (omega (arith, within, long)) in omega (arith, below, taken, within)))
-
   row_after : (choice : ℕ → List ℕ) (number : ℕ) → cells_from choice 0 number ++ choice number ≡ cells_from choice 0 (number + 1)
   row_after choice number =
       let own : number ≡ 0 + number = omega (arith) in
       let next : suc number ≡ number + 1 = omega (arith) in
       ap (λ n. cells_from choice 0 number ++ choice n) own ∙ sym (cells_more choice 0 number) ∙ ap (cells_from choice 0) next
 
-  module _ (choice : ℕ → List ℕ) where
-    choice_goes : IsChoice Holds arities gets (equations_from arities 0 gets) done choice → Goes Holds gets 0 choice
-    choice_goes is at get there =
+  pub goes_choice : (choice : ℕ → List ℕ) (done : List ℕ) → Goes Holds gets 0 choice → IsChoice Holds arities gets (equations_from arities 0 gets) done choice
+  goes_choice choice done goes = record {
+    held = λ n get inside there. held n get there;
+    inputs = λ n get link inside there linked.
+        let met = (each n get there).1.inputs link linked in
+        let below = slice_get_within gets n get there in
+        (met.0, met.1, sym (reads choice held n (omega (arith, below)) link.source) ∙ met.2);
+    filters = λ equation among inside known_side.
+        let found = equations_are arities 0 gets equation among in
+        let number : found.0 ≡ 0 + found.0 = omega (arith) in
+        let met = (each found.0 found.1 found.3).1.filters found.2 found.4 in
+        let below = slice_get_within gets found.0 found.1 found.3 in
+        let own : AreEqual choice (record { get = found.0; column = (found.2).column }) (side_of (take (found.0 + 1) arities) (found.2).source) = (
+          met.0,
+          met.1,
+          sym (ap (λ cells. code_at cells (found.2).source) (row_after choice found.0)
+              ∙ reads choice held (found.0 + 1) (omega (arith, below)) (found.2).source)
+              ∙ met.2,
+        ) in
+        let shifted = subst (λ n. AreEqual choice (record { get = n; column = (found.2).column }) (side_of (take (n + 1) arities)
+        (found.2).source)) number own in
+        subst (λ (it : Equation). AreEqual choice it.slot it.side) (sym found.5) shifted;
+  }
+    where
+      each : (n : ℕ) (get : Get) → slice_get gets n ≡ Some get → IsNext Holds get choice n
+      each n get there =
+          let number : 0 + n ≡ n = omega (arith) in
+          subst (IsNext Holds get choice) number (goes n get there)
+
+      held : AreHeld choice
+      held n get there = (each n get there).0
+
+  -- the gets of the numbers are all that there are
+  module _ (done : List ℕ) (all : (number : ℕ) → number < length gets → Contains done number) where
+    known : (count : ℕ) → count ≤ length gets → (source : Source) → IsKnown done (side_of (take count arities) source)
+    known count within source = known_before (take count arities) source done (λ number below.
+        all number (let taken = length-take-le count arities (omega (arith, within, long)) in omega (arith, below, taken, within)))
+
+    choice_goes : (choice : ℕ → List ℕ) → IsChoice Holds arities gets (equations_from arities 0 gets) done choice → Goes Holds gets 0 choice
+    choice_goes choice is at get there =
         let number : at ≡ 0 + at = omega (arith) in
-        subst (λ n. Holds (record { relation = get.fragment; terms = choice n }) × Follows get (cells_from choice 0 n) (choice n)) number
-        (held at get there, record { inputs = inputs; filters = filters })
+        subst (IsNext Holds get choice) number (held at get there, record { inputs = inputs; filters = filters })
       where
         held : AreHeld choice
         held n own is_own = is.held n own (all n (slice_get_within gets n own is_own)) is_own
@@ -271,104 +303,71 @@ module _ (Holds : Fact ℕ → Type 0) (arities : List ℕ) (gets : List Get) (l
               ap (λ cells. code_at cells link.source) (row_after choice at) ∙ reads choice held (at + 1) (omega (arith, inside)) link.source ∙ equal.2,
             )
 
-    goes_choice : Goes Holds gets 0 choice → IsChoice Holds arities gets (equations_from arities 0 gets) done choice
-    goes_choice goes = record {
-      held = λ n get inside there. held n get there;
-      inputs = λ n get link inside there linked.
-          let met = (each n get there).1.inputs link linked in
-          let below = slice_get_within gets n get there in
-          (met.0, met.1, sym (reads choice held n (omega (arith, below)) link.source) ∙ met.2);
-      filters = λ equation among inside known_side.
-          let found = equations_are arities 0 gets equation among in
-          let number : found.0 ≡ 0 + found.0 = omega (arith) in
-          let met = (each found.0 found.1 found.3).1.filters found.2 found.4 in
-          let below = slice_get_within gets found.0 found.1 found.3 in
-          let own : AreEqual choice (record { get = found.0; column = (found.2).column }) (side_of (take (found.0 + 1) arities) (found.2).source) = (
-            met.0,
-            met.1,
-            sym (ap (λ cells. code_at cells (found.2).source) (row_after choice found.0)
-                ∙ reads choice held (found.0 + 1) (omega (arith, below)) (found.2).source)
-                ∙ met.2,
-          ) in
-          let shifted = subst (λ n. AreEqual choice (record { get = n; column = (found.2).column }) (side_of (take (n + 1) arities)
-          (found.2).source)) number own in
-          subst (λ (it : Equation). AreEqual choice it.slot it.side) (sym found.5) shifted;
-    }
+    -- the head reads in rows so far what it reads at the end
+    heads_read : (needed : List Slot) (choice : ℕ → List ℕ) → AreHeld choice → (places : List Slot) (cells : List ℕ) → AreSlots needed arities done places
+        → AreDoneLong arities done choice → map (slot_at choice) places ≡ map Some cells → (head : List Source)
+        → ((source : Source) (slot : Slot) → Contains head source → side_of arities source ≡ Held slot → Contains needed slot)
+        → map (code_at cells) (map (λ source. source_in places (side_of arities source)) head) ≡ map (code_at (cells_from choice 0 (length gets))) head
+    heads_read needed choice held places cells slots done_long cells_are head is_needed =
+        map_then (λ source. source_in places (side_of arities source)) (code_at cells) head
+        ∙ map_agree (λ source. code_at cells (source_in places (side_of arities source))) (code_at (cells_from choice 0 (length gets))) head
+        (λ source inside. source_in_reads choice needed arities done places cells (side_of arities source) slots done_long cells_are
+        (known_before arities source done (λ number below. all number (omega (arith, below, long))))
+        (λ slot is_slot. is_needed source slot inside is_slot)
+        ∙ sym (source_reads choice arities source (λ at arity is. own_long choice held at arity is))
+        ∙ ap (λ n. code_at (cells_from choice 0 n) source) long)
       where
-        each : (n : ℕ) (get : Get) → slice_get gets n ≡ Some get
-            → Holds (record { relation = get.fragment; terms = choice n }) × Follows get (cells_from choice 0 n) (choice n)
-        each n get there =
-            let number : 0 + n ≡ n = omega (arith) in
-            subst (λ m. Holds (record { relation = get.fragment; terms = choice m }) × Follows get (cells_from choice 0 m) (choice m)) number (goes n get there)
+        own_long : (chosen : ℕ → List ℕ) → AreHeld chosen → AreLong chosen 0 arities
+        own_long chosen is_held at arity is =
+            let get = thing_at gets at (let inside = slice_get_within arities at arity is in omega (arith, inside, long)) in
+            let own = fits at get.0 (chosen at) get.1 (is_held at get.0 get.1) in
+            let number : 0 + at ≡ at = omega (arith) in
+            ap (λ n. length (chosen n)) number ∙ own.2 ∙ same_Some own.0 arity (sym own.1 ∙ is)
 
-        held : AreHeld choice
-        held n get there = (each n get there).0
+    pub parts_are_results : (needed : List Slot) (places : List Slot) (rows results : List (List ℕ)) (steps_head : List Source) (named : (n : ℕ)
+        → Contains done n → n < length gets)
+        → ((source : Source) (slot : Slot) → Contains steps_head source → side_of arities source ≡ Held slot → Contains needed slot)
+        → AreSlots needed arities done places → AreParts Holds arities gets (equations_from arities 0 gets) done places (Contains rows)
+        → ((row : List ℕ) → Contains results row
+        ↔ ((end : List ℕ) × Contains rows end × NamesCodes end (map (λ source. source_in places (side_of arities source)) steps_head) row))
+        → (row : List ℕ) → Contains results row
+        ↔ ((end : List ℕ) × Leads Holds gets [] end × (map (code_at end) steps_head ≡ map Some row))
+    parts_are_results needed places rows results head named is_needed slots parts projected row = (
+      λ inside. let found = (projected row).0 inside in let of = (parts found.0).0 found.1 in by_parts found.0 of.0 of.1 of.2 found.2,
+      λ result. by_end result.0 (leads_goes Holds gets 0 (λ n. []) [] result.0 refl result.1) result.2,
+    )
+      where
+        done_long : (choice : ℕ → List ℕ) → AreHeld choice → AreDoneLong arities done choice
+        done_long choice held n inside =
+            let get = thing_at gets n (named n inside) in fits n get.0 (choice n) get.1 (held n get.0 get.1)
 
-  -- the head reads in rows so far what it reads at the end
-  heads_read : (needed : List Slot) (choice : ℕ → List ℕ) → AreHeld choice → (places : List Slot) (cells : List ℕ) → AreSlots needed arities done places
-      → AreDoneLong arities done choice → map (slot_at choice) places ≡ map Some cells → (head : List Source)
-      → ((source : Source) (slot : Slot) → Contains head source → side_of arities source ≡ Held slot → Contains needed slot)
-      → map (code_at cells) (map (λ source. source_in places (side_of arities source)) head) ≡ map (code_at (cells_from choice 0 (length gets))) head
-  heads_read needed choice held places cells slots done_long cells_are head is_needed =
-      map_then (λ source. source_in places (side_of arities source)) (code_at cells) head
-      ∙ map_agree (λ source. code_at cells (source_in places (side_of arities source))) (code_at (cells_from choice 0 (length gets))) head
-      (λ source inside. source_in_reads choice needed arities done places cells (side_of arities source) slots done_long cells_are
-      (known_before arities source done (λ number below. all number (omega (arith, below, long))))
-      (λ slot is_slot. is_needed source slot inside is_slot)
-      ∙ sym (source_reads choice arities source (λ at arity is. own_long choice held at arity is))
-      ∙ ap (λ n. code_at (cells_from choice 0 n) source) long)
-    where
-      own_long : (chosen : ℕ → List ℕ) → AreHeld chosen → AreLong chosen 0 arities
-      own_long chosen is_held at arity is =
-          let get = thing_at gets at (let inside = slice_get_within arities at arity is in omega (arith, inside, long)) in
-          let own = fits at get.0 (chosen at) get.1 (is_held at get.0 get.1) in
-          let number : 0 + at ≡ at = omega (arith) in
-          ap (λ n. length (chosen n)) number ∙ own.2 ∙ same_Some own.0 arity (sym own.1 ∙ is)
+        choice_held : (choice : ℕ → List ℕ) → IsChoice Holds arities gets (equations_from arities 0 gets) done choice → AreHeld choice
+        choice_held choice is n get there = is.held n get (all n (slice_get_within gets n get there)) there
 
-  pub parts_are_results : (needed : List Slot) (places : List Slot) (rows results : List (List ℕ)) (steps_head : List Source) (named : (n : ℕ)
-      → Contains done n → n < length gets)
-      → ((source : Source) (slot : Slot) → Contains steps_head source → side_of arities source ≡ Held slot → Contains needed slot)
-      → AreSlots needed arities done places → AreParts Holds arities gets (equations_from arities 0 gets) done places (Contains rows)
-      → ((row : List ℕ) → Contains results row
-      ↔ ((end : List ℕ) × Contains rows end × NamesCodes end (map (λ source. source_in places (side_of arities source)) steps_head) row))
-      → (row : List ℕ) → Contains results row
-      ↔ ((end : List ℕ) × Leads Holds gets [] end × (map (code_at end) steps_head ≡ map Some row))
-  parts_are_results needed places rows results head named is_needed slots parts projected row = (
-    λ inside. let found = (projected row).0 inside in let of = (parts found.0).0 found.1 in by_parts found.0 of.0 of.1 of.2 found.2,
-    λ result. by_end result.0 (leads_goes Holds gets 0 (λ n. []) [] result.0 refl result.1) result.2,
-  )
-    where
-      done_long : (choice : ℕ → List ℕ) → AreHeld choice → AreDoneLong arities done choice
-      done_long choice held n inside =
-          let get = thing_at gets n (named n inside) in fits n get.0 (choice n) get.1 (held n get.0 get.1)
+        by_parts : (cells : List ℕ) (choice : ℕ → List ℕ) → IsChoice Holds arities gets (equations_from arities 0 gets) done choice
+            → map (slot_at choice) places ≡ map Some cells
+            → NamesCodes cells (map (λ source. source_in places (side_of arities source)) head) row
+            → (end : List ℕ) × Leads Holds gets [] end × (map (code_at end) head ≡ map Some row)
+        by_parts cells choice is cells_are names =
+            let held = choice_held choice is in
+            let count : 0 + length gets ≡ length gets = omega (arith) in (
+              cells_from choice 0 (length gets),
+              subst (λ n. Leads Holds gets [] (cells_from choice 0 n)) count (goes_leads Holds gets 0 choice (choice_goes choice is)),
+              sym (heads_read needed choice held places cells slots (done_long choice held) cells_are head is_needed) ∙ names,
+            )
 
-      choice_held : (choice : ℕ → List ℕ) → IsChoice Holds arities gets (equations_from arities 0 gets) done choice → AreHeld choice
-      choice_held choice is n get there = is.held n get (all n (slice_get_within gets n get there)) there
-
-      by_parts : (cells : List ℕ) (choice : ℕ → List ℕ) → IsChoice Holds arities gets (equations_from arities 0 gets) done choice
-          → map (slot_at choice) places ≡ map Some cells
-          → NamesCodes cells (map (λ source. source_in places (side_of arities source)) head) row
-          → (end : List ℕ) × Leads Holds gets [] end × (map (code_at end) head ≡ map Some row)
-      by_parts cells choice is cells_are names =
-          let held = choice_held choice is in
-          let count : 0 + length gets ≡ length gets = omega (arith) in (
-            cells_from choice 0 (length gets),
-            subst (λ n. Leads Holds gets [] (cells_from choice 0 n)) count (goes_leads Holds gets 0 choice (choice_goes choice is)),
-            sym (heads_read needed choice held places cells slots (done_long choice held) cells_are head is_needed) ∙ names,
-          )
-
-      by_end : (end : List ℕ) → ((choice : ℕ → List ℕ) × ((n : ℕ) → n < 0 → choice n ≡ []) × Goes Holds gets 0 choice
-          × (end ≡ cells_from choice 0 (0 + length gets)))
-          → map (code_at end) head ≡ map Some row → Contains results row
-      by_end end (choice, _, goes, end_is) head_is =
-          let is = goes_choice choice goes in
-          let held = choice_held choice is in
-          let cells = cells_of arities done choice (done_long choice held) places (λ slot among.
-          (slots.own slot among, λ arity at. slots.within slot arity among at)) in
-          let count : 0 + length gets ≡ length gets = omega (arith) in
-          (projected row).1 (
-            cells.0,
-            (parts cells.0).1 (choice, is, cells.1),
-            heads_read needed choice held places cells.0 slots (done_long choice held) cells.1 head is_needed
-                ∙ ap (λ it. map (code_at it) head) (sym (end_is ∙ ap (cells_from choice 0) count)) ∙ head_is,
-          )
+        by_end : (end : List ℕ) → ((choice : ℕ → List ℕ) × ((n : ℕ) → n < 0 → choice n ≡ []) × Goes Holds gets 0 choice
+            × (end ≡ cells_from choice 0 (0 + length gets)))
+            → map (code_at end) head ≡ map Some row → Contains results row
+        by_end end (choice, _, goes, end_is) head_is =
+            let is = goes_choice choice done goes in
+            let held = choice_held choice is in
+            let cells = cells_of arities done choice (done_long choice held) places (λ slot among.
+            (slots.own slot among, λ arity at. slots.within slot arity among at)) in
+            let count : 0 + length gets ≡ length gets = omega (arith) in
+            (projected row).1 (
+              cells.0,
+              (parts cells.0).1 (choice, is, cells.1),
+              heads_read needed choice held places cells.0 slots (done_long choice held) cells.1 head is_needed
+                  ∙ ap (λ it. map (code_at it) head) (sym (end_is ∙ ap (cells_from choice 0) count)) ∙ head_is,
+            )

@@ -1,6 +1,7 @@
 -- Choices of a row for each get, and what sources name in them.
-use Rattle.std.proofs.Common.{◌≡◌, ℕ, zero, suc, ◌+◌, ◌-◌, ◌<◌, nat_lt, Bool, true, false, cond, List, [], ◌∷◌, ◌++◌, length}
+use Rattle.std.proofs.Common.{◌≡◌, ◌≢◌, ℕ, zero, suc, ◌+◌, ◌-◌, ◌<◌, nat_lt, Bool, true, false, cond, List, [], ◌∷◌, ◌++◌, length}
 use Rattle.std.proofs.Common.{Some, slice_get, Contains, refl, ap, ◌∙◌, arith, eqb, eq-eqb, ne_eqb}
+use Rattle.std.proofs.lemmas.List.{length-append}
 use Rattle.esto_steps.specs.declared.steps.Source.{Source}
 use Rattle.esto_steps.specs.declared.steps.Source.TheVariants.{Code, Cell}
 use Rattle.esto_steps.specs.Meaning.{code_at}
@@ -52,6 +53,21 @@ side_reads choice number (arity ∷ rest) place long =
         (arith, past, here))
         ∙ ap (λ n. slice_get (cells_from choice (number + 1) (length rest)) (place - n)) here
         ∙ later
+
+-- a place that is a side is one of the cells
+pub side_inside : (choice : ℕ → List ℕ) (number : ℕ) (arities : List ℕ) (place : ℕ) → AreLong choice number arities
+    → side_from number arities place ≢ Nothing → place < length (cells_from choice number (length arities))
+side_inside choice number [] place long something = absurd (something refl)
+side_inside choice number (arity ∷ rest) place long something =
+    let own : length (choice number) ≡ arity = ap (λ n. length (choice n)) (omega (arith)) ∙ long 0 arity refl in
+    let all = length-append (choice number) (cells_from choice (number + 1) (length rest)) in
+    by own all (side_inside choice (number + 1) rest (place - arity) (long_rest choice number arity rest long)) (nat_lt place arity) refl something
+  where
+    by : {own all later : ℕ} → own ≡ arity → all ≡ own + later → (side_from (number + 1) rest (place - arity) ≢ Nothing → place - arity < later)
+        → (answer : Bool) → nat_lt place arity ≡ answer
+        → cond answer (Held (record { get = number; column = place })) (side_from (number + 1) rest (place - arity)) ≢ Nothing → place < all
+    by own all later true is some = let less = lt_is place arity is in omega (arith, less, own, all)
+    by own all later false is some = let past = lt_not place arity is in let below = later some in omega (arith, past, below, own, all)
 
 pub source_reads : (choice : ℕ → List ℕ) (arities : List ℕ) (source : Source) → AreLong choice 0 arities
     → code_at (cells_from choice 0 (length arities)) source ≡ side_at choice (side_of arities source)

@@ -7,7 +7,7 @@ use Rattle.esto_exec.specs.Slots.{side_of, IsChoice}
 use Rattle.esto_exec.specs.declared.slots.Equation.{Equation}
 use Rattle.esto_exec.specs.declared.slots.Side.TheVariants.{Nothing}
 
--- The get has no inputs, and what are inputs of the other are filters of it; each of these names something.
+-- The second get has no inputs; its filters are the inputs and the filters of the first, and each of these inputs names a code or a cell before its row.
 pub record IsFreed (arities : List ℕ) (number : ℕ) (get own : Get) : Type 0 where
   pub inputs : own.inputs ≡ []
   pub filters : own.filters ≡ get.inputs ++ get.filters
