@@ -241,3 +241,25 @@ pub(crate) fn next_get<F: Whole>(
     let candidates = candidates(alloc, steps, &so_far.done)?;
     best_of(alloc, steps, fragments, so_far, &candidates)
 }
+
+/// Whether one of the gets leads to all others.
+fn one_leads(
+    alloc: Global,
+    steps: &Prepared,
+    done: &Places,
+    ready: &Places,
+) -> Result<bool, OutOfMemory> {
+    'gets: for number in ready.items() {
+        if reach(alloc, steps, done, *number)? >= steps.gets.len() {
+            return Ok(true);
+        }
+    }
+    Ok(false)
+}
+
+/// Whether a get that can come first leads to all others.
+pub(crate) fn leads_on(alloc: Global, steps: &Prepared) -> Result<bool, OutOfMemory> {
+    let done = Values::new(alloc);
+    let ready = ready_gets(alloc, steps, &done)?;
+    one_leads(alloc, steps, &done, &ready)
+}

@@ -55,7 +55,7 @@ fn rows_of_all<F: Whole>(
 }
 
 /// The result of the steps, with what joins in any order rest on.
-fn prepared_result<F: Whole>(
+pub(crate) fn prepared_result<F: Whole>(
     alloc: Global,
     steps: &Steps,
     arities: &Places,

@@ -22,7 +22,7 @@ use esto_term::{List, OutOfMemory, Places, Values};
 use std::alloc::Global;
 
 /// The links of a get, after gets with these arities in the stated order, as rows so far have them.
-fn links_in(
+pub(crate) fn links_in(
     alloc: Global,
     places: &Slots,
     arities: &[usize],
@@ -107,7 +107,7 @@ fn push_slots(places: &mut Slots, number: usize, arity: usize) -> Result<(), Out
 }
 
 /// Whether the sides of the links are known.
-fn each_known(done: &Places, arities: &[usize], links: &Links) -> bool
+pub(crate) fn each_known(done: &Places, arities: &[usize], links: &Links) -> bool
     ensures { IsTrue result → (link : Link) → Contains links.now link
         → IsKnown done.now (side_of arities.now link.source) }
 {
@@ -392,7 +392,7 @@ fn take_turn<F: Whole>(
 }
 
 /// Joins the get of the number, if there is one that is not done and whose inputs are known.
-fn take_if_ready<F: Whole>(
+pub(crate) fn take_if_ready<F: Whole>(
     alloc: Global,
     steps: &Prepared,
     fragments: &[F],
