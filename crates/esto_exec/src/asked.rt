@@ -10,6 +10,7 @@ ghost use Rattle.esto_exec.specs.Slots.{side_of, IsKnown};
 ghost use Rattle.esto_exec.specs.SoFar.{IsSoFar};
 ghost use Rattle.esto_exec.specs.Turns.{link_in, AreArities};
 
+use crate::order::{makes_product, next_narrowing};
 use crate::slots::{Side, Slots, first_of, is_in, side_of};
 use crate::turns::{Prepared, SoFar, each_known, links_in, nothing_done, take_if_ready};
 use esto_columns::Rows;
@@ -27,7 +28,7 @@ fn push_named(arities: &[usize], links: &Links, named: &mut Places) -> Result<()
     Ok(())
 }
 
-/// Puts the numbers of the gets that the inputs of the get of the number name at the end, if it is one of the named.
+/// Puts the numbers of the gets that the inputs of the get of the number name at the end, if it is one of those named.
 fn push_led(steps: &Prepared, number: usize, named: &mut Places) -> Result<(), OutOfMemory> {
     if number >= steps.gets.len() || !is_in(named, number) {
         return Ok(());
@@ -39,7 +40,7 @@ fn push_led(steps: &Prepared, number: usize, named: &mut Places) -> Result<(), O
     )
 }
 
-/// The numbers of the gets that the inputs of the get of the number lead back to, after its own.
+/// The numbers of the gets that the inputs of the get of the number lead back to, and its own.
 fn led_back(alloc: Global, steps: &Prepared, number: usize) -> Result<Places, OutOfMemory> {
     let mut named = Values::new(alloc);
     named.push(number)?;
@@ -49,7 +50,50 @@ fn led_back(alloc: Global, steps: &Prepared, number: usize) -> Result<Places, Ou
     Ok(named)
 }
 
-/// Joins the get of the number, if it is one of the named, is not done, and its inputs are known.
+/// Joins a get without inputs that is linked to those that are done, if one leaves no more rows.
+fn take_narrowing<F: Whole>(
+    alloc: Global,
+    steps: &Prepared,
+    fragments: &[F],
+    so_far: &mut SoFar,
+) -> Result<(), OutOfMemory>
+    requires runnable { AreRunnable (map F.shape fragments.now) steps.now.gets.now }
+    requires arities { AreArities (IsRowOf (held_by (map F.rows fragments.now))) steps.now.gets.now
+        steps.now.arities.now }
+    requires under_way { IsSoFar (IsRowOf (held_by (map F.rows fragments.now)))
+        steps.now so_far.old }
+    ensures { OnOk result (IsSoFar (IsRowOf (held_by (map F.rows fragments.now)))
+        steps.now so_far.new) }
+{
+    match next_narrowing(alloc, steps, fragments, so_far)? {
+        Some(number) => take_if_ready(alloc, steps, fragments, number, so_far),
+        None => Ok(()),
+    }
+}
+
+/// Joins gets without inputs that are linked to those that are done, while they leave no more rows.
+fn narrow<F: Whole>(
+    alloc: Global,
+    steps: &Prepared,
+    fragments: &[F],
+    so_far: &mut SoFar,
+) -> Result<(), OutOfMemory>
+    requires runnable { AreRunnable (map F.shape fragments.now) steps.now.gets.now }
+    requires arities { AreArities (IsRowOf (held_by (map F.rows fragments.now))) steps.now.gets.now
+        steps.now.arities.now }
+    requires under_way { IsSoFar (IsRowOf (held_by (map F.rows fragments.now)))
+        steps.now so_far.old }
+    ensures { OnOk result (IsSoFar (IsRowOf (held_by (map F.rows fragments.now)))
+        steps.now so_far.new) }
+{
+    'turns: for _turn in 0..steps.gets.len() {
+        take_narrowing(alloc, steps, fragments, so_far)?;
+    }
+    Ok(())
+}
+
+/// Joins the get of the number, if it is one of the named, is not done, its inputs are known, and it makes no product,
+/// and then those that leave no more rows.
 fn take_if_named<F: Whole>(
     alloc: Global,
     steps: &Prepared,
@@ -66,10 +110,11 @@ fn take_if_named<F: Whole>(
     ensures { OnOk result (IsSoFar (IsRowOf (held_by (map F.rows fragments.now)))
         steps.now so_far.new) }
 {
-    if !is_in(named, number) {
+    if !is_in(named, number) || makes_product(&so_far.done, steps, number) {
         return Ok(());
     }
-    take_if_ready(alloc, steps, fragments, number, so_far)
+    take_if_ready(alloc, steps, fragments, number, so_far)?;
+    narrow(alloc, steps, fragments, so_far)
 }
 
 /// Joins those of the named gets that come before the number, in the stated order.

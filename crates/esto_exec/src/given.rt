@@ -1,9 +1,9 @@
 //! What gets read: their fragments, or rows of these that were asked for beforehand.
-ghost use Rattle.std.specs.Prelude.{◌≡◌, ◌++◌, ◌∷◌, [], IfOk};
+ghost use Rattle.std.specs.Prelude.{◌≡◌, ◌++◌, ◌∷◌, [], length, IfOk};
 ghost use Rattle.esto_exec.specs.Instead.{given_shape, given_rows};
 
 use esto_columns::{Fragment, Inputs, Rows, StoredRows, Ways};
-use esto_steps::{Get, Whole};
+use esto_steps::{Get, Gets, Whole};
 use esto_term::{List, OutOfMemory, Replicate, Values};
 use std::alloc::Global;
 
@@ -76,6 +76,17 @@ pub(crate) fn freed(alloc: Global, get: &Get, number: usize) -> Result<Get, OutO
         inputs: List::new(alloc),
         filters,
     })
+}
+
+/// The gets, whose inputs are filters.
+pub(crate) fn all_freed(alloc: Global, gets: &Gets) -> Result<Gets, OutOfMemory>
+    ensures { IfOk result (λ it. length it ≡ length gets.now) }
+{
+    let mut free = List::new(alloc);
+    'gets: for get in gets.items() {
+        free.push(freed(alloc, get, get.fragment)?)?;
+    }
+    Ok(free)
 }
 
 /// The rows, which may be asked without inputs alone.

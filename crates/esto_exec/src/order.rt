@@ -53,6 +53,11 @@ fn is_linked(done: &Places, steps: &Prepared, number: usize) -> bool {
     false
 }
 
+/// Whether some gets are done, and the get of the number is linked to none of them.
+pub(crate) fn makes_product(done: &Places, steps: &Prepared, number: usize) -> bool {
+    !done.is_empty() && !is_linked(done, steps, number)
+}
+
 /// Whether the get of the number is not done and its inputs are known.
 fn can_come(done: &Places, steps: &Prepared, number: usize) -> bool {
     match steps.gets.items().get(number) {
@@ -242,24 +247,66 @@ pub(crate) fn next_get<F: Whole>(
     best_of(alloc, steps, fragments, so_far, &candidates)
 }
 
-/// Whether one of the gets leads to all others.
-fn one_leads(
-    alloc: Global,
-    steps: &Prepared,
-    done: &Places,
-    ready: &Places,
-) -> Result<bool, OutOfMemory> {
-    'gets: for number in ready.items() {
-        if reach(alloc, steps, done, *number)? >= steps.gets.len() {
-            return Ok(true);
-        }
+/// Takes the get that leads to the most others as done, and all that links lead to from it.
+fn start_part(alloc: Global, steps: &Prepared, done: &mut Places) -> Result<(), OutOfMemory> {
+    let ready = ready_gets(alloc, steps, done)?;
+    let leading = leading_gets(alloc, steps, done, &ready)?;
+    if let Some(number) = leading.items().first() {
+        reach_from(alloc, steps, *number, done)?;
     }
-    Ok(false)
+    Ok(())
 }
 
-/// Whether a get that can come first leads to all others.
-pub(crate) fn leads_on(alloc: Global, steps: &Prepared) -> Result<bool, OutOfMemory> {
-    let done = Values::new(alloc);
-    let ready = ready_gets(alloc, steps, &done)?;
-    one_leads(alloc, steps, &done, &ready)
+/// Into how many parts the gets fall that links don't lead from one to another.
+pub(crate) fn count_parts(alloc: Global, steps: &Prepared) -> Result<usize, OutOfMemory> {
+    let mut done = Values::new(alloc);
+    let mut parts: usize = 0;
+    'rounds: for _round in 0..steps.gets.len() {
+        if done.len() >= steps.gets.len() {
+            return Ok(parts);
+        }
+        start_part(alloc, steps, &mut done)?;
+        parts = parts.saturating_add(1);
+    }
+    Ok(parts)
+}
+
+/// Whether the get of the number can come next, has no inputs, and is linked to the done ones.
+fn narrows(done: &Places, steps: &Prepared, number: usize) -> bool {
+    match steps.gets.items().get(number) {
+        Some(get) => {
+            get.inputs.is_empty() && can_come(done, steps, number) && is_linked(done, steps, number)
+        }
+        None => false,
+    }
+}
+
+/// The gets without inputs that can come next and are linked to the done ones.
+fn narrowing(alloc: Global, steps: &Prepared, done: &Places) -> Result<Places, OutOfMemory> {
+    let mut linked = Values::new(alloc);
+    'gets: for number in 0..steps.gets.len() {
+        if narrows(done, steps, number) {
+            linked.push(number)?;
+        }
+    }
+    Ok(linked)
+}
+
+/// The get without inputs that is linked to the done ones and leaves the fewest rows, if these are no more than before.
+pub(crate) fn next_narrowing<F: Whole>(
+    alloc: Global,
+    steps: &Prepared,
+    fragments: &[F],
+    so_far: &SoFar,
+) -> Result<Option<usize>, OutOfMemory>
+    requires { AreRunnable (map F.shape fragments.now) steps.now.gets.now }
+{
+    let linked = narrowing(alloc, steps, &so_far.done)?;
+    let Some(number) = best_of(alloc, steps, fragments, so_far, &linked)? else {
+        return Ok(None);
+    };
+    if rows_after(alloc, steps, fragments, number, so_far)? > so_far.rows.len() {
+        return Ok(None);
+    }
+    Ok(Some(number))
 }

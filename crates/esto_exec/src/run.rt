@@ -7,13 +7,14 @@ ghost use Rattle.esto_exec.specs.Runnable.{AreRunnable};
 ghost use Rattle.esto_exec.specs.Slots.{equations_from};
 ghost use Rattle.esto_exec.specs.Turns.{AreArities};
 
-use crate::order::leads_on;
+use crate::given::all_freed;
+use crate::order::count_parts;
 use crate::reading::{Readings, readings_of};
 use crate::result::{prepared_result, result_over};
 use crate::slots::{Equations, equations_of};
 use crate::turns::{Prepared, arities_of};
 use esto_columns::Rows;
-use esto_steps::{Sources, Steps, Whole};
+use esto_steps::{Gets, Sources, Steps, Whole};
 use esto_term::{OutOfMemory, Places, Replicate};
 use std::alloc::Global;
 
@@ -70,7 +71,33 @@ fn result_beforehand<F: Whole>(
     result_of_readings(alloc, steps.head, &readings)
 }
 
-/// The result of the steps: get by get where links lead from one to all others, else with gets that are asked beforehand.
+/// Into how many parts the gets fall where inputs are read as filters.
+fn count_free_parts(alloc: Global, steps: &Prepared, gets: &Gets) -> Result<usize, OutOfMemory>
+    requires { length gets.now ≡ length steps.now.arities.now }
+{
+    let equations = equations_of(alloc, steps.arities, gets)?;
+    let free = Prepared {
+        gets,
+        head: steps.head,
+        arities: steps.arities,
+        equations: &equations,
+    };
+    count_parts(alloc, &free)
+}
+
+/// Whether the gets fall into more parts than where inputs are read as filters.
+fn falls_apart(alloc: Global, steps: &Prepared) -> Result<bool, OutOfMemory>
+    requires { length steps.now.gets.now ≡ length steps.now.arities.now }
+{
+    let parts = count_parts(alloc, steps)?;
+    if parts < 2 {
+        return Ok(false);
+    }
+    let gets = all_freed(alloc, steps.gets)?;
+    Ok(count_free_parts(alloc, steps, &gets)? < parts)
+}
+
+/// The result of the steps: with gets that are asked beforehand where fewer parts are left by that, else get by get.
 fn result_by<F: Whole>(
     alloc: Global,
     steps: &Steps,
@@ -92,10 +119,10 @@ fn result_by<F: Whole>(
         arities,
         equations,
     };
-    if leads_on(alloc, &prepared)? {
-        return prepared_result(alloc, steps, arities, equations, fragments);
+    if falls_apart(alloc, &prepared)? {
+        return result_beforehand(alloc, &prepared, fragments);
     }
-    result_beforehand(alloc, &prepared, fragments)
+    prepared_result(alloc, steps, arities, equations, fragments)
 }
 
 /// The result of the steps, where gets give rows of these arities.
@@ -119,9 +146,9 @@ fn result_with<F: Whole>(
 /// Runs the steps over the fragments, which a get names by number and asks in one of their ways. The rows, read as a
 /// set, are exactly what the steps mean over the rows of the fragments, so they rest on those fragments alone that the
 /// steps name. The gets are joined in an order of the executor's own, in which each link is read either way. A get
-/// without inputs reads the rows of its fragment where they stand. Where no get leads by links to all others, those with
-/// inputs are asked beforehand, by the rows of the gets that their inputs lead back to, and what they give is joined in
-/// any order. Rows are joined by an index, one that they have or one that is made for the join, and of a joined row only
+/// without inputs reads the rows of its fragment where they stand. Where parts of the steps hang together by nothing but
+/// inputs, gets with inputs are asked beforehand, by the rows of the gets that their inputs lead back to, and what they
+/// give is joined in any order. Rows are joined by an index, one that they have or one that is made for the join, and of a joined row only
 /// those cells are kept that are still needed.
 pub fn run_plan<F: Whole>(
     alloc: Global,
