@@ -271,6 +271,30 @@ pub(crate) fn count_parts(alloc: Global, steps: &Prepared) -> Result<usize, OutO
     Ok(parts)
 }
 
+/// Whether the get of the number has to hold a constant.
+fn has_constant(steps: &Prepared, number: usize) -> bool {
+    'equations: for equation in steps.equations.items() {
+        if equation.slot.get == number {
+            if let Side::Constant(_) = &equation.side {
+                return true;
+            }
+        }
+    }
+    false
+}
+
+/// Whether each of the gets that can come first, as far as it has to hold a constant, leads to all others.
+pub(crate) fn constants_lead(alloc: Global, steps: &Prepared) -> Result<bool, OutOfMemory> {
+    let done = Values::new(alloc);
+    let ready = ready_gets(alloc, steps, &done)?;
+    'gets: for number in ready.items() {
+        if has_constant(steps, *number) && reach(alloc, steps, &done, *number)? < steps.gets.len() {
+            return Ok(false);
+        }
+    }
+    Ok(true)
+}
+
 /// Whether the get of the number can come next, has no inputs, and is linked to the done ones.
 fn narrows(done: &Places, steps: &Prepared, number: usize) -> bool {
     match steps.gets.items().get(number) {

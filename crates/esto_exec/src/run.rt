@@ -8,7 +8,7 @@ ghost use Rattle.esto_exec.specs.Slots.{equations_from};
 ghost use Rattle.esto_exec.specs.Turns.{AreArities};
 
 use crate::given::all_freed;
-use crate::order::count_parts;
+use crate::order::{constants_lead, count_parts};
 use crate::reading::{Readings, readings_of};
 use crate::result::{prepared_result, result_over};
 use crate::slots::{Equations, equations_of};
@@ -85,19 +85,20 @@ fn count_free_parts(alloc: Global, steps: &Prepared, gets: &Gets) -> Result<usiz
     count_parts(alloc, &free)
 }
 
-/// Whether the gets fall into more parts than where inputs are read as filters.
+/// Whether the gets fall into more parts than where inputs are read as filters, or all hang together but a get that has to
+/// hold a constant, and may well have few rows, can't come first.
 fn falls_apart(alloc: Global, steps: &Prepared) -> Result<bool, OutOfMemory>
     requires { length steps.now.gets.now ≡ length steps.now.arities.now }
 {
     let parts = count_parts(alloc, steps)?;
     if parts < 2 {
-        return Ok(false);
+        return Ok(!constants_lead(alloc, steps)?);
     }
     let gets = all_freed(alloc, steps.gets)?;
     Ok(count_free_parts(alloc, steps, &gets)? < parts)
 }
 
-/// The result of the steps: with gets that are asked beforehand where fewer parts are left by that, else get by get.
+/// The result of the steps: with gets that are asked beforehand where more can come first by that, else get by get.
 fn result_by<F: Whole>(
     alloc: Global,
     steps: &Steps,
@@ -148,8 +149,8 @@ fn result_with<F: Whole>(
 /// steps name. The gets are joined in an order of the executor's own, in which each link is read either way. A get
 /// without inputs reads the rows of its fragment where they stand. Where parts of the steps hang together by nothing but
 /// inputs, gets with inputs are asked beforehand, by the rows of the gets that their inputs lead back to, and what they
-/// give is joined in any order. Rows are joined by an index, one that they have or one that is made for the join, and of a joined row only
-/// those cells are kept that are still needed.
+/// give is joined in any order. Rows are joined by an index, one that they have or one that is made for the join, and of
+/// a joined row only those cells are kept that are still needed.
 pub fn run_plan<F: Whole>(
     alloc: Global,
     steps: &Steps,
