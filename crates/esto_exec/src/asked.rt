@@ -1,5 +1,5 @@
 //! What a get gives, asked by the rows of the gets that its inputs lead back to.
-ghost use Rattle.std.specs.Prelude.{◌≡◌, ◌≢◌, ◌<◌, List, ℕ, length, map, take, Contains, IfOk, OnOk, IsTrue};
+ghost use Rattle.std.specs.Prelude.{◌≢◌, List, ℕ, map, take, Contains, IfOk, OnOk, IsTrue};
 ghost use Rattle.esto_columns.specs.Asked.{IsAllowed};
 ghost use Rattle.esto_steps.specs.declared.steps.Link.{Link};
 ghost use Rattle.esto_steps.specs.Meaning.{IsMet};

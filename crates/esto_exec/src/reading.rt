@@ -1,6 +1,5 @@
 //! Gets without inputs in place of those that have some, over rows that were asked for beforehand.
-ghost use Rattle.std.specs.Prelude.{◌≡◌, ◌≢◌, ◌↔◌, ◌<◌, ◌+◌, ◌++◌, ◌∷◌, [], List, ℕ, length, map, take, slice_get, Some, Contains, IfOk, OnOk};
-ghost use Rattle.esto_columns.specs.Asked.{IsAllowed};
+ghost use Rattle.std.specs.Prelude.{◌≡◌, ◌≢◌, ◌<◌, ◌+◌, ◌++◌, ◌∷◌, [], List, length, map, take, slice_get, Some, Contains, IfOk, OnOk};
 ghost use Rattle.esto_steps.specs.declared.steps.Get.{Get};
 ghost use Rattle.esto_steps.specs.declared.steps.Link.{Link};
 ghost use Rattle.esto_steps.specs.Rows.{IsRowOf, held_by};
