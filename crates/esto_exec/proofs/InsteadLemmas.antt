@@ -91,7 +91,8 @@ module _ (arities : List ℕ) (gets : List Get) (number : ℕ) (get own : Get) (
       → IsInstead arities gets number own own_shape
   like_instead inputs filters allowed = record {
     fragment = fragment;
-    links = λ other other_at. inr (subst (λ (it : Get). IsLike it own) (same_Some get other (sym at ∙ other_at)) (record { inputs = inputs; filters = filters }));
+    links = λ other other_at. inr (subst (λ (it : Get). IsLike it own) (same_Some get other (sym at ∙ other_at))
+        (record { inputs = inputs; filters = filters }));
     allowed = subst (λ it. IsAllowed it (map (λ (link : Link). link.column) own.inputs)) (sym same)
         (subst (λ them. IsAllowed shape (map (λ (link : Link). link.column) them)) (sym inputs) allowed);
   }
@@ -153,7 +154,8 @@ module _ (Holds : Fact ℕ → Type 0) (arities : List ℕ) (gets : List Get) (e
       by n it its_shape (inl old) (inr last) =
           let below = slice_get_within owns n it old in let long = before.shapes_long in let place = last.0 in absurd (omega (arith, below, long, place))
       by n it its_shape (inr last) (inl old) =
-          let below = slice_get_within shapes n its_shape old in let long = before.shapes_long in let place = last.0 in absurd (omega (arith, below, long, place))
+          let below = slice_get_within shapes n its_shape old in let long = before.shapes_long in let place = last.0 in
+          absurd (omega (arith, below, long, place))
       by n it its_shape (inr last) (inr last_shape) =
           let same : number ≡ n = sym many ∙ sym last.0 in
           subst (λ m. IsInstead arities gets m it its_shape) same

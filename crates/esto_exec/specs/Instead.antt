@@ -19,12 +19,14 @@ given_rows rows (Own fragment) = rows fragment.now
 given_rows rows (Asked stored) = stored.rows.rows
 
 -- The rows are among those of the get of the number, and have each that it has in a choice for all gets.
-pub record AreEnough (Holds : Fact ℕ → Type 0) (arities : List ℕ) (gets : List Get) (equations : List Equation) (number : ℕ) (rows : List (List ℕ)) : Type 0 where
+pub record AreEnough (Holds : Fact ℕ → Type 0) (arities : List ℕ) (gets : List Get) (equations : List Equation) (number : ℕ)
+    (rows : List (List ℕ)) : Type 0 where
   pub sound : (get : Get) (row : List ℕ) → slice_get gets number ≡ Some get → Contains rows row → Holds (record { relation = get.fragment; terms = row })
   pub complete : (get : Get) (choice : ℕ → List ℕ) → slice_get gets number ≡ Some get → IsWhole Holds arities gets equations choice
       → Contains rows (choice number)
 
--- The own get stands for that of the number: it has its links or is freed of its inputs, and reads the rows of the number, of this shape.
+-- The own get stands for that of the number: it has its links or is freed of its inputs, and reads the rows of the number, of this shape, by which its
+-- inputs may be asked.
 pub record IsInstead (arities : List ℕ) (gets : List Get) (number : ℕ) (own : Get) (shape : Shape) : Type 0 where
   pub fragment : own.fragment ≡ number
   pub links : (get : Get) → slice_get gets number ≡ Some get → IsFreed arities number get own ⊎ IsLike get own

@@ -1,5 +1,5 @@
 //! What a get gives, asked by the rows of the gets that its inputs lead back to.
-ghost use Rattle.std.specs.Prelude.{◌≢◌, List, ℕ, map, take, Contains, IfOk, OnOk, IsTrue};
+ghost use Rattle.std.specs.Prelude.{◌≢◌, ◌<◌, List, ℕ, length, map, take, Contains, IfOk, OnOk, IsTrue};
 ghost use Rattle.esto_columns.specs.Asked.{IsAllowed};
 ghost use Rattle.esto_steps.specs.declared.steps.Link.{Link};
 ghost use Rattle.esto_steps.specs.Meaning.{IsMet};
@@ -10,7 +10,7 @@ ghost use Rattle.esto_exec.specs.Slots.{side_of, IsKnown};
 ghost use Rattle.esto_exec.specs.SoFar.{IsSoFar};
 ghost use Rattle.esto_exec.specs.Turns.{link_in, AreArities};
 
-use crate::order::{makes_product, next_narrowing};
+use crate::order::next_towards;
 use crate::slots::{Side, Slots, first_of, is_in, side_of};
 use crate::turns::{Prepared, SoFar, each_known, links_in, nothing_done, take_if_ready};
 use esto_columns::Rows;
@@ -50,98 +50,63 @@ fn led_back(alloc: Global, steps: &Prepared, number: usize) -> Result<Places, Ou
     Ok(named)
 }
 
-/// Joins a get without inputs that is linked to those that are done, if one leaves no more rows.
-fn take_narrowing<F: Whole>(
+/// Joins the get that comes next on the way to the inputs of the get of the number, if these are not known.
+fn take_towards<F: Whole>(
     alloc: Global,
     steps: &Prepared,
     fragments: &[F],
+    named: &Places,
+    number: usize,
     so_far: &mut SoFar,
 ) -> Result<(), OutOfMemory>
     requires runnable { AreRunnable (map F.shape fragments.now) steps.now.gets.now }
     requires arities { AreArities (IsRowOf (held_by (map F.rows fragments.now))) steps.now.gets.now
         steps.now.arities.now }
+    requires there { number < length steps.now.gets.now }
     requires under_way { IsSoFar (IsRowOf (held_by (map F.rows fragments.now)))
         steps.now so_far.old }
     ensures { OnOk result (IsSoFar (IsRowOf (held_by (map F.rows fragments.now)))
         steps.now so_far.new) }
 {
-    match next_narrowing(alloc, steps, fragments, so_far)? {
-        Some(number) => take_if_ready(alloc, steps, fragments, number, so_far),
+    if can_ask(steps, number, &steps.gets.item(number).inputs, so_far) {
+        return Ok(());
+    }
+    match next_towards(alloc, steps, fragments, named, so_far)? {
+        Some(next) => take_if_ready(alloc, steps, fragments, next, so_far),
         None => Ok(()),
     }
 }
 
-/// Joins gets without inputs that are linked to those that are done, while they leave no more rows.
-fn narrow<F: Whole>(
+/// Joins gets on the way to the inputs of the get of the number, until these are known or there is no way.
+fn take_up_to<F: Whole>(
     alloc: Global,
     steps: &Prepared,
     fragments: &[F],
+    named: &Places,
+    number: usize,
     so_far: &mut SoFar,
 ) -> Result<(), OutOfMemory>
     requires runnable { AreRunnable (map F.shape fragments.now) steps.now.gets.now }
     requires arities { AreArities (IsRowOf (held_by (map F.rows fragments.now))) steps.now.gets.now
         steps.now.arities.now }
+    requires there { number < length steps.now.gets.now }
     requires under_way { IsSoFar (IsRowOf (held_by (map F.rows fragments.now)))
         steps.now so_far.old }
     ensures { OnOk result (IsSoFar (IsRowOf (held_by (map F.rows fragments.now)))
         steps.now so_far.new) }
 {
     'turns: for _turn in 0..steps.gets.len() {
-        take_narrowing(alloc, steps, fragments, so_far)?;
+        let before = so_far.done.len();
+        take_towards(alloc, steps, fragments, named, number, so_far)?;
+        if so_far.done.len() == before {
+            return Ok(());
+        }
     }
     Ok(())
 }
 
-/// Joins the get of the number, if it is one of the named, is not done, its inputs are known, and it makes no product,
-/// and then those that leave no more rows.
-fn take_if_named<F: Whole>(
-    alloc: Global,
-    steps: &Prepared,
-    fragments: &[F],
-    named: &Places,
-    number: usize,
-    so_far: &mut SoFar,
-) -> Result<(), OutOfMemory>
-    requires runnable { AreRunnable (map F.shape fragments.now) steps.now.gets.now }
-    requires arities { AreArities (IsRowOf (held_by (map F.rows fragments.now))) steps.now.gets.now
-        steps.now.arities.now }
-    requires under_way { IsSoFar (IsRowOf (held_by (map F.rows fragments.now)))
-        steps.now so_far.old }
-    ensures { OnOk result (IsSoFar (IsRowOf (held_by (map F.rows fragments.now)))
-        steps.now so_far.new) }
-{
-    if !is_in(named, number) || makes_product(&so_far.done, steps, number) {
-        return Ok(());
-    }
-    take_if_ready(alloc, steps, fragments, number, so_far)?;
-    narrow(alloc, steps, fragments, so_far)
-}
-
-/// Joins those of the named gets that come before the number, in the stated order.
-fn take_named<F: Whole>(
-    alloc: Global,
-    steps: &Prepared,
-    fragments: &[F],
-    named: &Places,
-    number: usize,
-    so_far: &mut SoFar,
-) -> Result<(), OutOfMemory>
-    requires runnable { AreRunnable (map F.shape fragments.now) steps.now.gets.now }
-    requires arities { AreArities (IsRowOf (held_by (map F.rows fragments.now))) steps.now.gets.now
-        steps.now.arities.now }
-    requires under_way { IsSoFar (IsRowOf (held_by (map F.rows fragments.now)))
-        steps.now so_far.old }
-    ensures { OnOk result (IsSoFar (IsRowOf (held_by (map F.rows fragments.now)))
-        steps.now so_far.new) }
-{
-    'gets: for before in 0..number {
-        take_if_named(alloc, steps, fragments, named, before, so_far)?;
-    }
-    Ok(())
-}
-
-/// What those of the named gets give together that come before the number.
-fn rows_of_named<F: Whole>(
+/// What gets give together that lead by links to all those named.
+fn rows_towards<F: Whole>(
     alloc: Global,
     steps: &Prepared,
     fragments: &[F],
@@ -151,14 +116,16 @@ fn rows_of_named<F: Whole>(
     requires runnable { AreRunnable (map F.shape fragments.now) steps.now.gets.now }
     requires arities { AreArities (IsRowOf (held_by (map F.rows fragments.now))) steps.now.gets.now
         steps.now.arities.now }
+    requires there { number < length steps.now.gets.now }
     ensures { IfOk result (IsSoFar (IsRowOf (held_by (map F.rows fragments.now))) steps.now) }
 {
     let mut so_far = nothing_done(alloc)?;
-    take_named(alloc, steps, fragments, named, number, &mut so_far)?;
+    take_up_to(alloc, steps, fragments, named, number, &mut so_far)?;
     Ok(so_far)
 }
 
-/// What the gets give together that the inputs of the get of the number lead back to.
+/// What the gets give together that the inputs of the get of the number lead back to, with others on the way, as far as
+/// links lead to all of these from one. So no product is made only to ask.
 pub(crate) fn rows_before<F: Whole>(
     alloc: Global,
     steps: &Prepared,
@@ -168,10 +135,11 @@ pub(crate) fn rows_before<F: Whole>(
     requires runnable { AreRunnable (map F.shape fragments.now) steps.now.gets.now }
     requires arities { AreArities (IsRowOf (held_by (map F.rows fragments.now))) steps.now.gets.now
         steps.now.arities.now }
+    requires there { number < length steps.now.gets.now }
     ensures { IfOk result (IsSoFar (IsRowOf (held_by (map F.rows fragments.now))) steps.now) }
 {
     let named = led_back(alloc, steps, number)?;
-    rows_of_named(alloc, steps, fragments, &named, number)
+    rows_towards(alloc, steps, fragments, &named, number)
 }
 
 /// Whether the link names something.

@@ -1,22 +1,13 @@
-//! Which get is joined next. Nothing rests on it but speed, so nothing here says what it gives.
+//! Which get is joined next, and whether gets fall into parts. Nothing rests on it but speed, so nothing here says what it
+//! gives.
 ghost use Rattle.std.specs.Prelude.{map};
 ghost use Rattle.esto_exec.specs.Runnable.{AreRunnable};
 
 use crate::slots::{Equation, Side, first_of, is_in, is_known, side_of};
-use crate::turns::{Prepared, SoFar, links_at};
+use crate::turns::{Prepared, SoFar, each_known, links_at};
 use esto_steps::{Get, Whole, guessed_count};
 use esto_term::{OutOfMemory, Places, Replicate, Values};
 use std::alloc::Global;
-
-/// Whether the inputs of the get are known.
-fn is_ready(done: &Places, arities: &[usize], get: &Get) -> bool {
-    'inputs: for link in get.inputs.items() {
-        if !is_known(done, &side_of(arities, &link.source)) {
-            return false;
-        }
-    }
-    true
-}
 
 /// Whether an input of the get names a cell of another one's row.
 fn asks_by_cells(arities: &[usize], get: &Get) -> bool {
@@ -53,15 +44,12 @@ fn is_linked(done: &Places, steps: &Prepared, number: usize) -> bool {
     false
 }
 
-/// Whether some gets are done, and the get of the number is linked to none of them.
-pub(crate) fn makes_product(done: &Places, steps: &Prepared, number: usize) -> bool {
-    !done.is_empty() && !is_linked(done, steps, number)
-}
-
 /// Whether the get of the number is not done and its inputs are known.
 fn can_come(done: &Places, steps: &Prepared, number: usize) -> bool {
     match steps.gets.items().get(number) {
-        Some(get) => !is_in(done, number) && is_ready(done, first_of(steps.arities, number), get),
+        Some(get) => {
+            !is_in(done, number) && each_known(done, first_of(steps.arities, number), &get.inputs)
+        }
         None => false,
     }
 }
@@ -257,7 +245,8 @@ fn start_part(alloc: Global, steps: &Prepared, done: &mut Places) -> Result<(), 
     Ok(())
 }
 
-/// Into how many parts the gets fall that links don't lead from one to another.
+/// How often a get has to come to which no links lead from those before it, if each time the one comes that leads to the
+/// most others.
 pub(crate) fn count_parts(alloc: Global, steps: &Prepared) -> Result<usize, OutOfMemory> {
     let mut done = Values::new(alloc);
     let mut parts: usize = 0;
@@ -283,54 +272,100 @@ fn has_constant(steps: &Prepared, number: usize) -> bool {
     false
 }
 
-/// Whether each of the gets that can come first, as far as it has to hold a constant, leads to all others.
+/// Whether of the gets that can come first and have to hold a constant, if there are some, one leads to all others.
 pub(crate) fn constants_lead(alloc: Global, steps: &Prepared) -> Result<bool, OutOfMemory> {
     let done = Values::new(alloc);
     let ready = ready_gets(alloc, steps, &done)?;
+    let mut found = false;
     'gets: for number in ready.items() {
-        if has_constant(steps, *number) && reach(alloc, steps, &done, *number)? < steps.gets.len() {
-            return Ok(false);
+        if has_constant(steps, *number) {
+            if reach(alloc, steps, &done, *number)? >= steps.gets.len() {
+                return Ok(true);
+            }
+            found = true;
         }
     }
-    Ok(true)
+    Ok(!found)
 }
 
-/// Whether the get of the number can come next, has no inputs, and is linked to the done ones.
-fn narrows(done: &Places, steps: &Prepared, number: usize) -> bool {
+/// Whether the numbers have all of the others.
+fn has_all(numbers: &Places, others: &Places) -> bool {
+    'others: for other in others.items() {
+        if !is_in(numbers, *other) {
+            return false;
+        }
+    }
+    true
+}
+
+/// Whether links lead from the get of the number to all those named.
+fn leads_to(
+    alloc: Global,
+    steps: &Prepared,
+    named: &Places,
+    number: usize,
+) -> Result<bool, OutOfMemory> {
+    let mut done = Values::new(alloc);
+    reach_from(alloc, steps, number, &mut done)?;
+    Ok(has_all(&done, named))
+}
+
+/// The gets that can come first from which links lead to all those named.
+fn leading_to(alloc: Global, steps: &Prepared, named: &Places) -> Result<Places, OutOfMemory> {
+    let done = Values::new(alloc);
+    let ready = ready_gets(alloc, steps, &done)?;
+    let mut leading = Values::new(alloc);
+    'gets: for number in ready.items() {
+        if leads_to(alloc, steps, named, *number)? {
+            leading.push(*number)?;
+        }
+    }
+    Ok(leading)
+}
+
+/// Whether the get of the number can come next on the way to those named: it is linked to the done ones, and is one of
+/// those or has no inputs.
+fn is_on_the_way(done: &Places, steps: &Prepared, named: &Places, number: usize) -> bool {
     match steps.gets.items().get(number) {
         Some(get) => {
-            get.inputs.is_empty() && can_come(done, steps, number) && is_linked(done, steps, number)
+            (get.inputs.is_empty() || is_in(named, number))
+                && can_come(done, steps, number)
+                && is_linked(done, steps, number)
         }
         None => false,
     }
 }
 
-/// The gets without inputs that can come next and are linked to the done ones.
-fn narrowing(alloc: Global, steps: &Prepared, done: &Places) -> Result<Places, OutOfMemory> {
+/// The gets that can come next on the way to those named.
+fn on_the_way(
+    alloc: Global,
+    steps: &Prepared,
+    named: &Places,
+    done: &Places,
+) -> Result<Places, OutOfMemory> {
+    if done.is_empty() {
+        return leading_to(alloc, steps, named);
+    }
     let mut linked = Values::new(alloc);
     'gets: for number in 0..steps.gets.len() {
-        if narrows(done, steps, number) {
+        if is_on_the_way(done, steps, named, number) {
             linked.push(number)?;
         }
     }
     Ok(linked)
 }
 
-/// The get without inputs that is linked to the done ones and leaves the fewest rows, if these are no more than before.
-pub(crate) fn next_narrowing<F: Whole>(
+/// The get that is joined next on the way to those named: of those that can come, the one after which there are the
+/// fewest rows.
+pub(crate) fn next_towards<F: Whole>(
     alloc: Global,
     steps: &Prepared,
     fragments: &[F],
+    named: &Places,
     so_far: &SoFar,
 ) -> Result<Option<usize>, OutOfMemory>
     requires { AreRunnable (map F.shape fragments.now) steps.now.gets.now }
 {
-    let linked = narrowing(alloc, steps, &so_far.done)?;
-    let Some(number) = best_of(alloc, steps, fragments, so_far, &linked)? else {
-        return Ok(None);
-    };
-    if rows_after(alloc, steps, fragments, number, so_far)? > so_far.rows.len() {
-        return Ok(None);
-    }
-    Ok(Some(number))
+    let candidates = on_the_way(alloc, steps, named, &so_far.done)?;
+    best_of(alloc, steps, fragments, so_far, &candidates)
 }

@@ -212,7 +212,8 @@ fn add_reading<'a, F: Whole>(
     requires many { length readings.old.gets ≡ number }
     requires instead { AreInstead (IsRowOf (held_by (map F.rows fragments.now)))
         steps.now.arities.now steps.now.gets.now steps.now.equations.now readings.old.gets
-        (map (given_shape F.shape) readings.old.given) (map (given_rows F.rows) readings.old.given) }
+        (map (given_shape F.shape) readings.old.given)
+        (map (given_rows F.rows) readings.old.given) }
     ensures many { OnOk result (length readings.new.gets ≡ number + 1) }
     ensures instead { OnOk result (AreInstead (IsRowOf (held_by (map F.rows fragments.now)))
         steps.now.arities.now steps.now.gets.now steps.now.equations.now readings.new.gets
@@ -236,7 +237,8 @@ fn add_readings<'a, F: Whole>(
     requires many { length readings.old.gets ≡ 0 }
     requires instead { AreInstead (IsRowOf (held_by (map F.rows fragments.now)))
         steps.now.arities.now steps.now.gets.now steps.now.equations.now readings.old.gets
-        (map (given_shape F.shape) readings.old.given) (map (given_rows F.rows) readings.old.given) }
+        (map (given_shape F.shape) readings.old.given)
+        (map (given_rows F.rows) readings.old.given) }
     ensures many { OnOk result (length readings.new.gets ≡ length steps.now.gets.now) }
     ensures instead { OnOk result (AreInstead (IsRowOf (held_by (map F.rows fragments.now)))
         steps.now.arities.now steps.now.gets.now steps.now.equations.now readings.new.gets

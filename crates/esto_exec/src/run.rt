@@ -51,7 +51,7 @@ fn result_of_readings<'a, F: Whole>(
     joined_result(alloc, &steps, readings.given.items())
 }
 
-/// The result of the steps, where the gets that have inputs are asked beforehand.
+/// The result of the steps, where the gets that have inputs are asked beforehand, as far as they can be.
 fn result_beforehand<F: Whole>(
     alloc: Global,
     steps: &Prepared,
@@ -85,11 +85,24 @@ fn count_free_parts(alloc: Global, steps: &Prepared, gets: &Gets) -> Result<usiz
     count_parts(alloc, &free)
 }
 
-/// Whether the gets fall into more parts than where inputs are read as filters, or all hang together but a get that has to
-/// hold a constant, and may well have few rows, can't come first.
-fn falls_apart(alloc: Global, steps: &Prepared) -> Result<bool, OutOfMemory>
+/// Whether one of the gets has inputs.
+fn some_ask(gets: &Gets) -> bool {
+    'gets: for get in gets.items() {
+        if !get.inputs.is_empty() {
+            return true;
+        }
+    }
+    false
+}
+
+/// Whether gets are to be asked beforehand: where they fall into fewer parts if inputs are read as filters; or where all
+/// hang together, but no get leads to all others that has to hold a constant, and may well have few rows.
+fn asks_beforehand(alloc: Global, steps: &Prepared) -> Result<bool, OutOfMemory>
     requires { length steps.now.gets.now ≡ length steps.now.arities.now }
 {
+    if !some_ask(steps.gets) {
+        return Ok(false);
+    }
     let parts = count_parts(alloc, steps)?;
     if parts < 2 {
         return Ok(!constants_lead(alloc, steps)?);
@@ -98,7 +111,7 @@ fn falls_apart(alloc: Global, steps: &Prepared) -> Result<bool, OutOfMemory>
     Ok(count_free_parts(alloc, steps, &gets)? < parts)
 }
 
-/// The result of the steps: with gets that are asked beforehand where more can come first by that, else get by get.
+/// The result of the steps: with gets that are asked beforehand where links don't lead on without that, else get by get.
 fn result_by<F: Whole>(
     alloc: Global,
     steps: &Steps,
@@ -120,7 +133,7 @@ fn result_by<F: Whole>(
         arities,
         equations,
     };
-    if falls_apart(alloc, &prepared)? {
+    if asks_beforehand(alloc, &prepared)? {
         return result_beforehand(alloc, &prepared, fragments);
     }
     prepared_result(alloc, steps, arities, equations, fragments)
@@ -147,10 +160,11 @@ fn result_with<F: Whole>(
 /// Runs the steps over the fragments, which a get names by number and asks in one of their ways. The rows, read as a
 /// set, are exactly what the steps mean over the rows of the fragments, so they rest on those fragments alone that the
 /// steps name. The gets are joined in an order of the executor's own, in which each link is read either way. A get
-/// without inputs reads the rows of its fragment where they stand. Where parts of the steps hang together by nothing but
-/// inputs, gets with inputs are asked beforehand, by the rows of the gets that their inputs lead back to, and what they
-/// give is joined in any order. Rows are joined by an index, one that they have or one that is made for the join, and of
-/// a joined row only those cells are kept that are still needed.
+/// without inputs reads the rows of its fragment where they stand. Where links do not lead from one get to all others,
+/// but would if inputs were filters, or not from one that has to hold a constant, gets with inputs are asked beforehand,
+/// by the rows of the gets that their inputs lead back to, and what they give is joined in any order. Rows are joined by
+/// an index, one that they have or one that is made for the join, and of a joined row only those cells are kept that are
+/// still needed.
 pub fn run_plan<F: Whole>(
     alloc: Global,
     steps: &Steps,
