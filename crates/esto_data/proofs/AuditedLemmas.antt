@@ -11,6 +11,7 @@ use Rattle.esto_fill.specs.Laws.{AnswersRestOnDatasets}
 use Rattle.esto_fill.specs.Texts.{AreTextsOf, HaveTextsOnly}
 use Rattle.esto_fill.specs.declared.datasets.DatasetBytes.{DatasetBytes}
 use Rattle.esto_fill.proofs.LawLemmas.{texts_no_node}
+use Rattle.esto_fill.proofs.TextLemmas.{texts_same}
 use Rattle.esto_ports.specs.Files.{Files}
 use Rattle.esto_query.specs.Making.{query_of}
 use Rattle.esto_query.specs.declared.query.Query.{Query}
@@ -36,7 +37,7 @@ use Rattle.esto_data.specs.DataLaws.{DataLaws}
 use Rattle.esto_data.proofs.DatasetLemmas.{sources_there}
 use Rattle.esto_data.proofs.LeadLemmas.{AreLoaded, AreOpenedFiles, CanOpen, are_loaded, entries_apart, loads_never}
 use Rattle.esto_data.proofs.LoadLemmas.{dataset_agree}
-use Rattle.esto_data.proofs.UnionLemmas.{same_queries, same_union, same_union_text, texts_moved}
+use Rattle.esto_data.proofs.UnionLemmas.{same_queries, same_union, same_union_text}
 
 -- ---- the files of some of the datasets
 
@@ -186,7 +187,7 @@ module _ (laws : DataLaws) (rest : AnswersRestOnDatasets) (files : Files) (datas
         reply_is,
         (
           rows,
-          texts_moved (IsUnionAnswerOfFacts others facts) (IsUnionAnswerOfFacts queries facts) back rows are,
+          texts_same (IsUnionAnswerOfFacts others facts) (IsUnionAnswerOfFacts queries facts) back rows are,
           sym (same_union_text queries others same rows),
         ),
       )) (gives-leads (Done (union_rows_text others rows)) (λ _. ⊥))))

@@ -5,8 +5,7 @@ use Rattle.std.proofs.lemmas.List.Elements.{Contains-get_or}
 use Rattle.esto_mapping.specs.declared.dataset.Dataset.{Dataset}
 use Rattle.esto_course.specs.Course.{judges}
 use Rattle.esto_fill.specs.Databases.{database_of}
-use Rattle.esto_fill.specs.Texts.{AreTextsOf}
-use Rattle.esto_fill.proofs.TextLemmas.{column_moved}
+use Rattle.esto_fill.proofs.TextLemmas.{column_moved, texts_same}
 use Rattle.esto_ports.specs.Files.{Files}
 use Rattle.esto_query.specs.Making.{query_of}
 use Rattle.esto_query.specs.declared.query.Query.{Query}
@@ -48,13 +47,6 @@ same_union_text (query ∷ queries) (other ∷ others) (same, rest) rows = same_
 
 -- ---- the same rows of values
 
-module _ (One Other : List Value → Type 0) (same : (values : List Value) → One values ↔ Other values) where
-  pub texts_moved : (rows : List Row) → AreTextsOf One rows → AreTextsOf Other rows
-  texts_moved rows are = record {
-    exact = λ values. ((λ there. (are.exact values).0 ((same values).1 there)), (λ found. (same values).0 ((are.exact values).1 found)));
-    rising = are.rising;
-  }
-
 -- what is given exactly of the one rows is given exactly of the others, where they have one text
 pub gives_moved : (One Other : List Value → Type 0) → ((values : List Value) → One values ↔ Other values) → (text_of other_of : List Row → List ℕ)
     → ((rows : List Row) → text_of rows ≡ other_of rows) → (said : Status) (text : List ℕ) → GivesExactly One text_of said text
@@ -62,7 +54,7 @@ pub gives_moved : (One Other : List Value → Type 0) → ((values : List Value)
 gives_moved One Other same text_of other_of one said text exact = record {
   prints = λ texts.
       let found = exact.prints (λ values there. texts values ((same values).0 there)) in
-      (found.0, (found.1.0, texts_moved One Other same found.1.0 found.1.1, found.1.2 ∙ one found.1.0));
+      (found.0, (found.1.0, texts_same One Other same found.1.0 found.1.1, found.1.2 ∙ one found.1.0));
   node = λ column. (
     (λ told. column_moved One Other same column ((exact.node column).0 told)),
     (λ first. (exact.node column).1 (column_moved Other One (λ values. ((same values).1, (same values).0)) column first)),

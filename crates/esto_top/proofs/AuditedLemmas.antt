@@ -4,6 +4,7 @@ use Rattle.esto_mapping.specs.Catalogues.{AreSame}
 use Rattle.esto_course.specs.Course.{judges, and_then}
 use Rattle.esto_fill.specs.Laws.{AnswersRestOnDatasets}
 use Rattle.esto_fill.specs.Texts.{HaveTextsOnly}
+use Rattle.esto_fill.proofs.TextLemmas.{texts_same}
 use Rattle.esto_query.specs.declared.query.Query.{Query}
 use Rattle.esto_semantics.specs.declared.fact.Fact.{Fact}
 use Rattle.esto_term.specs.declared.term.Term.{Term}
@@ -22,7 +23,7 @@ use Rattle.esto_top.specs.DataLaws.{DataCommandLaws, RepliesAreAudited}
 use Rattle.esto_data.proofs.AlikeLemmas.{fragments_long}
 use Rattle.esto_data.proofs.FragmentLemmas.{each_opened, opened_within}
 use Rattle.esto_data.proofs.MovedLemmas.{over_this}
-use Rattle.esto_data.proofs.UnionLemmas.{one_union, texts_moved}
+use Rattle.esto_data.proofs.UnionLemmas.{one_union}
 use Rattle.esto_data.proofs.AuditedLemmas.{readable_goes, union_leads}
 
 pub replies_audited : DataCommandLaws → UnionsOfOneAreQueries → AnswersRestOnDatasets → RepliesAreAudited
@@ -44,7 +45,7 @@ replies_audited laws one rest files catalogue_name catalogue reply
           leads-more _ _ _ (λ _. ⊥) (λ said (text, is, (rows, are, printed)). (
             text,
             is,
-            (rows, texts_moved (IsUnionAnswerOfFacts (query ∷ []) facts) (IsAnswerOfFacts query facts) (one_union query facts) rows are, printed),
+            (rows, texts_same (IsUnionAnswerOfFacts (query ∷ []) facts) (IsAnswerOfFacts query facts) (one_union query facts) rows are, printed),
           ))
           (union_answers alike facts loaded query_name (query ∷ []) ((one (Some files) query_name catalogue query).1 reads)
           (λ values holds. query_texts values ((one_union query facts values).0 holds)));
