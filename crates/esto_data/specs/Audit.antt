@@ -44,7 +44,8 @@ audit_text catalogue =
 
 -- ---- the steps
 
--- The rows of all views over the facts are rows of texts; or of the first view of which one is not, this is the least column.
+-- The rows of all views over the facts are rows of texts; or of the first view of which one is not, this is the least
+-- column.
 abbrev pub judges_views : Catalogue → List (Fact Term) → Course Status (Unit {0})
 judges_views catalogue facts =
     judges (λ _. AreTextViews (views_of catalogue.fragments) (database_of facts))
@@ -97,7 +98,8 @@ pub record AreFactsToAudit (catalogue : Catalogue) (files : List DatasetBytes) (
   pub are : AreFactsOfFiles catalogue.datasets files facts
   pub lawful : AreLawful catalogue.datasets facts
 
--- The rows of codes stand for what is left of the facts to audit, and the rows of the views over these are rows of texts.
+-- The rows of codes stand for what is left of the facts to audit, and the rows of the views over these are rows of
+-- texts.
 pub record HoldsAudit (catalogue : Catalogue) (wanted : Wanted) (files : List DatasetBytes) (facts : List (Fact Term)) (coded : CodedData) : Type 0 where
   pub held : HoldsFiles catalogue.datasets wanted facts files coded
   pub texts : AreTextViews (views_of catalogue.fragments) (database_of facts)
@@ -113,8 +115,8 @@ pub record HoldContents (catalogue : Catalogue) (contents : ℕ → List ℕ) (t
   pub coded : AreCodedLists texts lists rows
   pub are : AreRowsOfFiles catalogue contents rows
 
--- The rows of codes of all fragments are those of their files, all of which were opened; or the course stops. To the names that were asked for came those for
--- which it asked.
+-- The rows of codes of all fragments are those of their files, all of which were opened; or the course stops. To the
+-- names that were asked for came those for which it asked.
 abbrev pub OpensRows : Option Files → Catalogue → List (List ℕ) → Type 0 → Option Names → Option Names → Result (List CodedRows) Status → Type 0
 OpensRows files catalogue texts rose before after (Ok lists) =
     (contents : ℕ → List ℕ) × (opens_fragments files catalogue (all_fragments catalogue)).goes contents × HoldContents catalogue contents texts lists
@@ -127,8 +129,8 @@ OpensRows files catalogue texts rose before after (Err refusal) =
 abbrev pub AddsRows : Shape → List ℕ → List (List ℕ) → List (List ℕ) → List CodedRows → List CodedRows → Type 0
 AddsRows shape bytes texts more old new = AddsList (IsRowIn shape bytes) texts more old new
 
--- The file of the fragment of the number was opened, and its rows came to those that were there; or the course stops. To the names that were asked for came
--- those for which it asked.
+-- The file of the fragment of the number was opened, and its rows came to those that were there; or the course stops.
+-- To the names that were asked for came those for which it asked.
 abbrev pub OpensNextRows : Option Files → Catalogue → ℕ → List (List ℕ) → List (List ℕ) → List CodedRows → List CodedRows → Type 0 → Option Names → Option Names
     → Result (Unit {0}) Status → Type 0
 OpensNextRows files catalogue number texts more old new rose before after (Ok _) =

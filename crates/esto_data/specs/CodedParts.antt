@@ -52,8 +52,8 @@ HasRelations dataset coded =
     (number : ℕ) (relation : Relation) → slice_get (relations_of dataset) number ≡ Some relation
     → slice_get (arities_of coded.facts) (dataset.base + number) ≡ Some relation.arity
 
--- For whatever facts the rows stood in order, they stand now for those and then for more, of which these facts are all, in the order in which they first
--- stand; and no relation has other columns.
+-- For whatever facts the rows stood in order, they stand now for those and then for more, of which these facts are all,
+-- in the order in which they first stand; and no relation has other columns.
 pub record Puts (own : List (Fact Term)) (old new : CodedData) : Type 0 where
   pub more : List (Fact Term)
   pub ordered : (facts : List (Fact Term)) → StandInOrder old.facts facts → StandInOrder new.facts (facts ++ more)
@@ -86,7 +86,8 @@ PutsTrees relations trees fault old new (Ok _) = (fault ≡ None) × PutsKept re
 PutsTrees relations trees fault old new (Err (content.Fault found)) = fault ≡ Some found
 PutsTrees relations trees fault old new (Err content.OutOfMemory) = Unit {0}
 
--- Of the facts of the file, which has no fault, those that are wanted are put; or it is the file's first fault; or memory is wanting.
+-- Of the facts of the file, which has no fault, those that are wanted are put; or it is the file's first fault; or
+-- memory is wanting.
 abbrev pub PutsFile : DataModel → Dataset → Wanted → List ℕ → CodedData → CodedData → Result (Unit {0}) FileError → Type 0
 PutsFile model dataset wanted bytes old new (Ok _) =
     (fault_by_model model dataset bytes ≡ None)
@@ -104,13 +105,15 @@ IsUnionRow queries facts row = (query : Query) × Contains queries query × IsAn
 abbrev pub HaveTerms : List (List ℕ) → List (List ℕ) → Type 0
 HaveTerms texts rows = (row : List ℕ) → Contains rows row → (terms : List Term) × AreCodesOf texts terms row
 
--- Each of the rows of codes is that of one of the rows of terms, and each of those has one; and the codes of texts stand below those of nodes.
+-- Each of the rows of codes is that of one of the rows of terms, and each of those has one; and the codes of texts
+-- stand below those of nodes.
 pub record AreRowsOf (texts : List (List ℕ)) (rows : List (List ℕ)) (Terms : List Term → Type 0) : Type 0 where
   pub there : (row : List ℕ) → Contains rows row → (terms : List Term) × Terms terms × AreCodesOf texts terms row
   pub back : (terms : List Term) → Terms terms → (row : List ℕ) × Contains rows row × AreCodesOf texts terms row
   pub few : (row : List ℕ) → Contains rows row → length texts ≤ FIRST_NODE
 
--- The answer is the list of the rows as texts, none of which has a node; or the least column, counted from 1, that has one; or memory is wanting.
+-- The answer is the list of the rows as texts, none of which has a node; or the least column, counted from 1, that has
+-- one; or memory is wanting.
 abbrev pub ShowsRows : List (List ℕ) → List (List ℕ) → Result (List Row) AnswerError → Type 0
 ShowsRows texts rows (Ok shown) =
     LeastNode rows None × ((row : Row) → Contains shown row ↔ ((own : List ℕ) × Contains rows own × interned.AreCodesOf texts own row)) × AreRising shown

@@ -25,7 +25,8 @@ use Rattle.esto_fill.specs.declared.wanted.Wanted.{Wanted}
 abbrev pub StandKept : Coded → List (Fact Term) → Type 0
 StandKept coded facts = (all : List (Fact Term)) × StandInOrder coded all × KeepAll all facts
 
--- The rows of codes stand for the facts that are loaded, in the order of these too, and nodes are numbered on from the same number.
+-- The rows of codes stand for the facts that are loaded, in the order of these too, and nodes are numbered on from the
+-- same number.
 pub record IsCodedOf (loaded : Loaded) (coded : CodedData) : Type 0 where
   pub stand : StandFor coded.facts loaded.facts
   pub ordered : StandKept coded.facts loaded.facts

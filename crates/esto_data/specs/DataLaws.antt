@@ -5,7 +5,8 @@ use Rattle.esto_fill.specs.Laws.{AuditsAreOne, FactsAreOne, FillsAreOne, Judgeme
 use Rattle.esto_semantics.specs.Rules.{IsRule}
 use Rattle.esto_run.specs.FragmentsAlike.{FragmentOpensAlike, FragmentsOpenAlike, StoresHaveOneContent, StoresHaveOneFault, StoresHaveOneFile}
 
--- Constraints are rules; the same files of fragments say the same; and what they say has one outcome each: facts, answers, judgements, filled files and audits.
+-- Constraints are rules; the same files of fragments say the same; and what they say has one outcome each: facts,
+-- answers, judgements, filled files and audits.
 pub record DataLaws : Type 0 where
   pub rules : (constraint : Constraint) → IsRule (rule_of constraint)
   pub fragment : FragmentOpensAlike

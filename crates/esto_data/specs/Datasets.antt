@@ -1,5 +1,5 @@
--- The files of the datasets that a command needs, as steps: each of the datasets has a file; then each file is fetched, and its content read, before the next
--- is fetched.
+-- The files of the datasets that a command needs, as steps: each of the datasets has a file; then each file is fetched,
+-- and its content read, before the next is fetched.
 use Rattle.std.specs.Prelude.{◌≡◌, ◌↔◌, ◌⊎◌, ℕ, ◌+◌, ◌<◌, ◌≤◌, List, [], ◌∷◌, ◌++◌, map, length, slice_get, AllPairs, Contains, Option, Some, None, IsSome}
 use Rattle.std.specs.Prelude.{Result, Ok, Err}
 use Rattle.esto_mapping.specs.Datasets.{relation_count}
@@ -150,20 +150,22 @@ abbrev pub Loads : {A : Type 0} → (List (Fact Term) → A → Type 0) → Cour
 Loads Holds course rose (Ok loaded) = (facts : List (Fact Term)) × course.goes facts × Holds facts loaded
 Loads Holds course rose (Err refusal) = Stops IsWant (IsCaused rose) course refusal
 
--- To the names that were asked for came those for which the course asked, up to the facts that what is loaded holds or to its stop.
+-- To the names that were asked for came those for which the course asked, up to the facts that what is loaded holds or
+-- to its stop.
 abbrev pub LoadsAsking : {A : Type 0} → Option (List (List ℕ)) → Option (List (List ℕ)) → (List (Fact Term) → A → Type 0)
     → Course Status (List (Fact Term)) → Result A Status → Type 0
 LoadsAsking before after Holds course (Ok loaded) = (facts : List (Fact Term)) × AsksIn before after course (Ok facts) × Holds facts loaded
 LoadsAsking before after Holds course (Err refusal) = AsksIn before after course (Err refusal)
 
--- After what was loaded come the facts of the file of the dataset of the number, with these bytes, as far as they are wanted.
+-- After what was loaded come the facts of the file of the dataset of the number, with these bytes, as far as they are
+-- wanted.
 abbrev pub LoadsMore : List Dataset → Wanted → ℕ → List ℕ → CodedData → CodedData → Type 0
 LoadsMore datasets wanted number bytes old new =
     (contents : List DatasetBytes) → IsCodedFrom datasets wanted contents old
     → IsCodedFrom datasets wanted (contents ++ record { dataset = number; bytes = bytes } ∷ []) new
 
--- The rows of codes stand for what is loaded of the files, all of which were opened; or the course stops. To the names that were asked for came those for which
--- it asked.
+-- The rows of codes stand for what is loaded of the files, all of which were opened; or the course stops. To the names
+-- that were asked for came those for which it asked.
 abbrev pub LoadsFiles : Option Files → List Dataset → Wanted → List ℕ → Type 0 → Option (List (List ℕ)) → Option (List (List ℕ))
     → Result CodedData Status → Type 0
 LoadsFiles files datasets wanted numbers rose before after (Ok coded) =

@@ -17,13 +17,14 @@ use Rattle.esto_term.specs.declared.term.Term.{Term}
 use Rattle.esto_data.specs.declared.coded_audit.Disagreement.{Disagreement}
 use Rattle.esto_data.specs.declared.coded_audit.Disagreement.TheVariants as disagreement
 
--- The verdict tells whether the rule is one of the laws or met, and the part that comes with it, if one does, is a part of the facts for it.
+-- The verdict tells whether the rule is one of the laws or met, and the part that comes with it, if one does, is a part
+-- of the facts for it.
 pub record JudgesTried (laws : List Rule) (facts : List (Fact Term)) (rule : Rule) (verdict : Verdict) : Type 0 where
   pub passed : Tells verdict (IsPassed laws facts rule)
   pub part : IfSome (given_part verdict) (IsPartFor rule facts)
 
--- The rule of the number is none of the laws and is not met, and each rule before it is passed; the part that comes, if one does, is a part of the facts for
--- the rule.
+-- The rule of the number is none of the laws and is not met, and each rule before it is passed; the part that comes, if
+-- one does, is a part of the facts for the rule.
 pub record IsFirstUnpassed (laws rules : List Rule) (facts : List (Fact Term)) (number : ℕ) (given : Option (List (Fact Term))) : Type 0 where
   pub rule : Rule
   pub there : slice_get rules number ≡ Some rule
@@ -55,8 +56,8 @@ FindsUnlike views facts lists None = HoldViewRows views (database_of facts) (IsR
 FindsUnlike views facts lists (Some (disagreement.Rule number given)) = ⊥
 FindsUnlike views facts lists (Some (disagreement.Rows number)) = IsFirstUnlike views facts lists number
 
--- Each rule is passed, and the fragments hold the rows of their views; or this is the first rule that is not passed; or each is, and this is the first
--- fragment that has other rows.
+-- Each rule is passed, and the fragments hold the rows of their views; or this is the first rule that is not passed; or
+-- each is, and this is the first fragment that has other rows.
 abbrev pub FindsDisagreement : List Rule → List Rule → List ConjunctiveQuery → List (Fact Term) → List (List Row) → Option Disagreement → Type 0
 FindsDisagreement laws rules views facts lists None = ArePassed laws facts rules × HoldViewRows views (database_of facts) (IsRowOf (held_by lists))
 FindsDisagreement laws rules views facts lists (Some (disagreement.Rule number given)) = IsFirstUnpassed laws rules facts number given

@@ -35,7 +35,8 @@ use Rattle.esto_status.specs.declared.limits.TheConstants.{DATA_LIMIT}
 
 -- ---- the files
 
--- The dataset has a file, which is no longer than a dataset's may be, has these bytes after one leading mark, and they have no fault.
+-- The dataset has a file, which is no longer than a dataset's may be, has these bytes after one leading mark, and they
+-- have no fault.
 abbrev pub IsReadableDataset : Files → Dataset → List ℕ → Type 0
 IsReadableDataset files dataset bytes =
     (name : List ℕ) × (dataset.file ≡ Some name) × HasWithin files name DATA_LIMIT bytes × (dataset_fault dataset bytes ≡ None)
@@ -64,8 +65,8 @@ AreReadableFragments files catalogue contents =
 abbrev pub PrintsRows : (List Value → Type 0) → (List Row → List ℕ) → List ℕ → Type 0
 PrintsRows Rows text_of text = (rows : List Row) × AreTextsOf Rows rows × (text ≡ text_of rows)
 
--- Where each of the rows of values is a row of texts, the status is Done and the text prints exactly the rows. The status tells of a node exactly where a row
--- holds one, with the least column that has one.
+-- Where each of the rows of values is a row of texts, the status is Done and the text prints exactly the rows. The
+-- status tells of a node exactly where a row holds one, with the least column that has one.
 pub record GivesExactly (Rows : List Value → Type 0) (text_of : List Row → List ℕ) (said : Status) (text : List ℕ) : Type 0 where
   pub prints : HaveTextsOnly Rows → (said ≡ status.Done) × PrintsRows Rows text_of text
   pub node : (column : ℕ) → (said ≡ status.NodeInRow column) ↔ IsFirstNodeColumn Rows column
@@ -74,8 +75,8 @@ pub record GivesExactly (Rows : List Value → Type 0) (text_of : List Row → L
 abbrev pub PrintsAnswersOfFacts : Query → List (Fact Term) → List ℕ → Type 0
 PrintsAnswersOfFacts query facts text = PrintsRows (IsAnswerOfFacts query facts) (rows_text query) text
 
--- Where each answer of the query over the facts is a row of texts, the status is Done and the text prints exactly the answers. The status tells of a node
--- exactly where an answer holds one, with the least column that has one.
+-- Where each answer of the query over the facts is a row of texts, the status is Done and the text prints exactly the
+-- answers. The status tells of a node exactly where an answer holds one, with the least column that has one.
 abbrev pub AnswersExactly : Query → List (Fact Term) → Status → List ℕ → Type 0
 AnswersExactly query facts said text = GivesExactly (IsAnswerOfFacts query facts) (rows_text query) said text
 
@@ -84,8 +85,8 @@ abbrev pub IsExactAnswer : Files → Catalogue → Query → Status → List ℕ
 IsExactAnswer files catalogue query said text =
     (facts : List (Fact Term)) → HoldFacts files catalogue.datasets (Names (query_of query).body) facts → AnswersExactly query facts said text
 
--- And so it is with the answers of the union of the queries, under the names of the first one's head, where the files of the datasets that one of the queries
--- names are readable.
+-- And so it is with the answers of the union of the queries, under the names of the first one's head, where the files
+-- of the datasets that one of the queries names are readable.
 abbrev pub IsExactUnionAnswer : Files → Catalogue → List Query → Status → List ℕ → Type 0
 IsExactUnionAnswer files catalogue queries said text =
     (facts : List (Fact Term)) → HoldFacts files catalogue.datasets (OneNames (map query_of queries)) facts
@@ -93,8 +94,9 @@ IsExactUnionAnswer files catalogue queries said text =
 
 -- ---- `fill`
 
--- The status is Done and the text is that of a file with exactly the rows of the fragment's view over the facts, which says these rows when it is read; or a
--- row holds a node, and the status tells the least column that has one; or the file is one of keys, and the status tells the first cell that it can't hold.
+-- The status is Done and the text is that of a file with exactly the rows of the fragment's view over the facts, which
+-- says these rows when it is read; or a row holds a node, and the status tells the least column that has one; or the
+-- file is one of keys, and the status tells the first cell that it can't hold.
 pub data FillsExactly (stored : Stored) (facts : List (Fact Term)) (said : Status) (text : List ℕ) : Type 0 where
   prints : said ≡ status.Done → IsFilled stored facts text → FillsExactly stored facts said text
   tells_node : (column : ℕ) → IsFirstNodeColumn (IsRowOfView stored.definition facts) column → said ≡ status.NodeInRow column
@@ -102,8 +104,8 @@ pub data FillsExactly (stored : Stored) (facts : List (Fact Term)) (said : Statu
   tells_key : (cell : List ℕ) → Fills stored.store.shape (IsRowOfView stored.definition facts) (Err (KeyText cell)) → said ≡ status.KeyText cell
       → FillsExactly stored facts said text
 
--- So it is where the catalogue has a fragment of the name, the first of which this is, and the files of the datasets that its view names are readable. The
--- status is NoSuchFragment exactly where it has none.
+-- So it is where the catalogue has a fragment of the name, the first of which this is, and the files of the datasets
+-- that its view names are readable. The status is NoSuchFragment exactly where it has none.
 pub record IsExactFill (files : Files) (catalogue : Catalogue) (name : List ℕ) (said : Status) (text : List ℕ) : Type 0 where
   pub fills : (number : ℕ) (stored : Stored) (facts : List (Fact Term)) → IsFirstOf (names_of catalogue.fragments) name number
       → IsStoredAt catalogue number stored → HoldFacts files catalogue.datasets (Names (query_of stored.definition.view).body) facts
@@ -112,8 +114,9 @@ pub record IsExactFill (files : Files) (catalogue : Catalogue) (name : List ℕ)
 
 -- ---- `audit`
 
--- The status is Done exactly where the facts meet the rules and each fragment's file holds exactly the rows of its view over them, and then the text says so.
--- Where the rows of all views are of texts and there is a difference, the status tells the first.
+-- The status is Done exactly where the facts meet the rules and each fragment's file holds exactly the rows of its view
+-- over them, and then the text says so. Where the rows of all views are of texts and there is a difference, the status
+-- tells the first.
 pub record AuditsExactly (catalogue : Catalogue) (facts : List (Fact Term)) (contents : ℕ → List ℕ) (said : Status) (text : List ℕ) : Type 0 where
   pub done : (said ≡ status.Done)
       ↔ Agree (rules_of catalogue.rules) (views_of catalogue.fragments) (database_of facts) (IsFileRow catalogue.stores contents)
@@ -123,8 +126,9 @@ pub record AuditsExactly (catalogue : Catalogue) (facts : List (Fact Term)) (con
       ↔ IsFirstDifference (rules_of catalogue.rules) (map written catalogue.rules) (names_of catalogue.fragments) (views_of catalogue.fragments) facts
       (IsFileRow catalogue.stores contents) difference
 
--- Where the files of all datasets are readable, the status tells of a node exactly where the rows of a view hold one, with the least column of the first such
--- view, whatever the files of fragments are. Where those are readable too, the audit is exact.
+-- Where the files of all datasets are readable, the status tells of a node exactly where the rows of a view hold one,
+-- with the least column of the first such view, whatever the files of fragments are. Where those are readable too, the
+-- audit is exact.
 pub record IsExactAudit (files : Files) (catalogue : Catalogue) (said : Status) (text : List ℕ) : Type 0 where
   pub node : (facts : List (Fact Term)) → HoldFacts files catalogue.datasets IsAny facts → (column : ℕ)
       → (said ≡ status.NodeInRow column) ↔ IsFirstNodeView (views_of catalogue.fragments) (database_of facts) column

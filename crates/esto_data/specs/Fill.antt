@@ -61,7 +61,8 @@ gives_file Is stored facts =
     judges (Is stored facts)
     (λ refusal. (cause : FillError) × Fills stored.store.shape (IsRowOfView stored.definition facts) (Err cause) × (refusal ≡ fill_status cause))
 
--- The datasets that the view of the fragment of the number names are loaded, and the text of the fragment's file is the reply.
+-- The datasets that the view of the fragment of the number names are loaded, and the text of the fragment's file is the
+-- reply.
 abbrev pub gives_fragment : (Stored → List (Fact Term) → List ℕ → Type 0) → Option Files → Catalogue → ℕ → Course Status Reply
 gives_fragment Is files catalogue number =
     and_then (judges (IsStoredAt catalogue number) (λ _. ⊥)) (λ stored.

@@ -34,7 +34,8 @@ fn rows_of(alloc: Global, queries: &Queries, coded: &mut CodedData) -> Result<Te
     }
 }
 
-// The answers of the queries together over the facts, which are let go, as rows of texts; or the status of a node in one.
+// The answers of the queries together over the facts, which are let go, as rows of texts; or the status of a node in
+// one.
 fn taken_rows(alloc: Global, queries: &Queries, coded: CodedData) -> Result<TextRows, Status>
     requires union { FormUnion queries.now }
     requires coded { IsCoded coded }

@@ -38,11 +38,11 @@ pub type CodedRowsList = List<Rows>;
 /// Where facts and the rows of fragments do not agree.
 #[derive(Drop)]
 pub enum Disagreement {
-    /// The rule of this number, counted from 0, is the first that is neither one of the laws nor met. With it may come a
-    /// part of the facts that has those of its active matches.
+    /// The rule of this number, counted from 0, is the first that is neither one of the laws nor met. With it may come
+    /// a part of the facts that has those of its active matches.
     Rule(usize, Option<Facts>),
-    /// Each rule is one of the laws or met, and the fragment of this number, counted from 0, is the first that has other
-    /// rows than its view.
+    /// Each rule is one of the laws or met, and the fragment of this number, counted from 0, is the first that has
+    /// other rows than its view.
     Rows(usize),
 }
 
@@ -128,9 +128,9 @@ fn first_unlike(
 
 /// Where the facts that the rows of codes stand for and the rows of the fragments do not agree: the first rule of the
 /// catalogue that is none of the laws and that the facts do not meet, with the part of them that comes with the verdict
-/// on it; or else the first fragment that has other rows than its view over them. None comes exactly where all agree. The
-/// laws are not tried. So where facts meet the laws, and the rows of codes stand for enough of them, they agree with the
-/// rows of the fragments.
+/// on it; or else the first fragment that has other rows than its view over them. None comes exactly where all agree.
+/// The laws are not tried. So where facts meet the laws, and the rows of codes stand for enough of them, they agree
+/// with the rows of the fragments.
 pub fn first_disagreement(
     alloc: Global,
     catalogue: &Catalogue,

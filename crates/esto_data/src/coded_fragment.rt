@@ -34,8 +34,9 @@ fn view_texts(alloc: Global, view: &Query, coded: &mut CodedData) -> Result<Text
     }
 }
 
-/// The least row, cell by cell by bytes, that is in one alone of the fragment's view and the rows of codes: the fragment
-/// lacks it where the view has it, and else holds it too many. None comes exactly where both have the same rows.
+/// The least row, cell by cell by bytes, that is in one alone of the fragment's view and the rows of codes: the
+/// fragment lacks it where the view has it, and else holds it too many. None comes exactly where both have the same
+/// rows.
 pub fn fragment_difference(
     alloc: Global,
     fragment: &FragmentDef,

@@ -114,7 +114,8 @@ fn compare_by_fragment(
     }
 }
 
-/// The facts meet the rules, and the rows of the fragments are those of their views; or the status of the first difference.
+/// The facts meet the rules, and the rows of the fragments are those of their views; or the status of the first
+/// difference.
 pub fn compare(
     alloc: Global,
     catalogue: &Catalogue,

@@ -91,7 +91,8 @@ pub fn demand_files(alloc: Global, datasets: &Datasets, numbers: &Places) -> Res
     Ok(())
 }
 
-// Puts the facts of the content of the dataset's file into the data, or answers the status of the content's first fault.
+// Puts the facts of the content of the dataset's file into the data, or answers the status of the content's first
+// fault.
 fn load_content(
     alloc: Global,
     catalogue: &Catalogue,
@@ -169,8 +170,8 @@ pub fn load_files<S: Shelf>(
     Ok(coded)
 }
 
-/// Loads, of the facts of the files of the datasets that the body names, in order, those to which one of its atoms can go.
-/// Each of the datasets has to have a file; then each is fetched, and its content read, before the next is fetched.
+/// Loads, of the facts of the files of the datasets that the body names, in order, those to which one of its atoms can
+/// go. Each of the datasets has to have a file; then each is fetched, and its content read, before the next is fetched.
 pub fn load_named<S: Shelf>(
     alloc: Global,
     shelf: &mut S,

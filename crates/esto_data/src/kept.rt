@@ -30,7 +30,8 @@ fn all_datasets(alloc: Global, datasets: &Datasets) -> Result<Places, OutOfMemor
     Ok(numbers)
 }
 
-// Loads the facts of the files of the datasets of the numbers, in order, as far as they are wanted, and gives the files.
+// Loads the facts of the files of the datasets of the numbers, in order, as far as they are wanted, and gives the
+// files.
 fn keep_files<S: Shelf>(
     alloc: Global,
     shelf: &mut S,

@@ -15,8 +15,9 @@ pub fn data_laws_hold()
     rules_are_sound();
 }
 
-/// A law: where a database meets the rules and the files of fragments hold exactly their views' rows, a query that has a
-/// rewriting has answers of texts alone, and these are exactly the answers of each rewriting's candidate over the files.
+/// A law: where a database meets the rules and the files of fragments hold exactly their views' rows, a query that has
+/// a rewriting has answers of texts alone, and these are exactly the answers of each rewriting's candidate over the
+/// files.
 pub fn agreeing_answers_are_one()
     ensures texts { AgreeingAnswersAreTexts }
     ensures rows { AgreeingAnswersAreOne }

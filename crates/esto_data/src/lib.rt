@@ -1,6 +1,6 @@
-//! What the commands on data do over a catalogue that is read: `fill_named` writes the file of a fragment, `answer_queries`
-//! answers a union of queries, and `audit_catalogue` compares, each over the facts of the datasets' files, which are loaded as
-//! rows of codes.
+//! What the commands on data do over a catalogue that is read: `fill_named` writes the file of a fragment,
+//! `answer_queries` answers a union of queries, and `audit_catalogue` compares, each over the facts of the datasets'
+//! files, which are loaded as rows of codes.
 #![tactic(auto)]
 
 mod answering;

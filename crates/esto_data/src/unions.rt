@@ -57,9 +57,9 @@ fn named_datasets(
     Ok(numbers)
 }
 
-/// Loads, of the facts of the files of the datasets that one of the queries names, in order, those to which an atom of one
-/// of them can go. Each of the datasets has to have a file; then each is fetched, and its content read, before the next is
-/// fetched.
+/// Loads, of the facts of the files of the datasets that one of the queries names, in order, those to which an atom of
+/// one of them can go. Each of the datasets has to have a file; then each is fetched, and its content read, before the
+/// next is fetched.
 pub fn load_union<S: Shelf>(
     alloc: Global,
     shelf: &mut S,
