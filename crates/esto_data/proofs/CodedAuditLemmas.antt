@@ -3,6 +3,7 @@ use Rattle.std.proofs.Common.{◌≡◌, ◌↔◌, ◌<◌, ◌≤◌, ◌+◌,
 use Rattle.std.proofs.Common.{sym, ◌∙◌, subst, IsTrue, None, Result, Ok, Err, arith}
 use Rattle.std.proofs.lemmas.Bool.{false≢true}
 use Rattle.std.proofs.lemmas.List.{length-map}
+use Rattle.std.proofs.lemmas.Option.{get_or_from_slice_get, slice_get_within}
 use Rattle.std.specs.Prelude.{IfSome}
 use Rattle.std.specs.Result.{IfOk}
 use Rattle.esto_coded.specs.Coded.{StandFor, StandInOrder}
@@ -22,7 +23,7 @@ use Rattle.esto_semantics.specs.declared.fact.Fact.{Fact}
 use Rattle.esto_steps.specs.Rows.{IsRowOf, held_by}
 use Rattle.esto_stores.specs.Rows.{Row}
 use Rattle.esto_term.specs.declared.list.OutOfMemory.{OutOfMemory}
-use Rattle.esto_term.proofs.ListLemmas.{holds_more, map_at, thing_at}
+use Rattle.esto_term.proofs.ListLemmas.{each_more, each_seen, holds_more, map_at, thing_at}
 use Rattle.esto_term.proofs.PlaceLemmas.{item_at}
 use Rattle.esto_term.specs.declared.term.Term.{Term}
 use Rattle.esto_views.specs.Fragments.{views_of}
@@ -32,7 +33,7 @@ use Rattle.esto_data.specs.Coding.{AreCodedLists, IsCodedOf}
 use Rattle.esto_data.specs.Disagreeing.{FindsDisagreement, FindsUnlike, FindsUnpassed, IsFirstUnlike, IsFirstUnpassed, JudgesTried}
 use Rattle.esto_fill.specs.Databases.{database_of}
 use Rattle.esto_fill.specs.Differences.{Agree, HoldViewRows}
-use Rattle.esto_fill.specs.Judging.{ArePassed}
+use Rattle.esto_fill.specs.Judging.{ArePassed, IsPassed}
 use Rattle.esto_fill.specs.Texts.{AreExactly}
 use Rattle.esto_fill.specs.Trials.{IsEnough}
 use Rattle.esto_data.specs.declared.coded_audit.Disagreement.{Disagreement}
@@ -43,7 +44,6 @@ use Rattle.esto_data.proofs.CodedRowLemmas.{stays_itself, stays_on}
 use Rattle.esto_data.proofs.CodedViewLemmas.{HoldBelow, each_below, exact_from, hold_all, list_at, lists_long}
 use Rattle.esto_data.proofs.PartLemmas.{part_moves}
 use Rattle.esto_fill.proofs.TrialLemmas.{fragments_all, rules_met}
-use Rattle.esto_fill.proofs.TriedLemmas.{passed_all, passed_more}
 
 -- ---- rules
 
@@ -80,6 +80,20 @@ pub tried_judged : (laws : List Rule) (rule : Rule) (coded : CodedData) → ¬ (
 tried_judged laws rule coded tried (Ok verdict) met part = λ loaded its.
     rule_judged laws loaded.facts rule tried verdict (met loaded.facts its.stand) (part_loaded coded rule (given_part verdict) part loaded its)
 tried_judged laws rule coded tried (Err error) met part = tt
+
+-- rules that are passed, one more and all
+module _ (laws : List Rule) (facts : List (Fact Term)) (rules : List Constraint) (count : ℕ) where
+  passed_more : (rule : Constraint) → slice_get rules count ≡ Some rule → IsPassed laws facts (rule_of rule)
+      → ArePassed laws facts (take count (rules_of rules)) → ArePassed laws facts (take (count + 1) (rules_of rules))
+  passed_more rule at here before =
+      each_more (IsPassed laws facts) (rules_of rules) count (rule_of rule)
+      (slice_get_within (rules_of rules) count (rule_of rule) (map_at rule_of rules count rule at))
+      (sym (get_or_from_slice_get (rules_of rules) count (rule_of rule) (rule_of rule) (map_at rule_of rules count rule at)))
+      here before
+
+  passed_all : length rules ≤ count → ArePassed laws facts (take count (rules_of rules)) → ArePassed laws facts (rules_of rules)
+  passed_all all before =
+      each_seen (IsPassed laws facts) (rules_of rules) count (subst (λ long. long ≤ count) (sym (length-map rules rule_of)) all) before
 
 -- where the loop over the rules stands: those so far are passed
 pub record RulesSoFar (old new : CodedData) (laws : List Rule) (rules : List Constraint) (count : ℕ) : Type 0 where

@@ -12,6 +12,5 @@ pub mod LawLemmas
 pub mod AuditLemmas
 pub mod MovedLemmas
 pub mod LawfulLemmas
-pub mod TriedLemmas
 pub mod TrialLemmas
 pub mod PartLemmas
