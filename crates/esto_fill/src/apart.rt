@@ -83,8 +83,8 @@ fn extra(alloc: Global, name: &Text, row: &TextRow) -> Result<Option<Difference>
     Ok(Some(Difference::Extra(name, row)))
 }
 
-/// The least row, cell by cell by bytes, that is in one of the two lists alone: the fragment of the name lacks it where the
-/// first list has it, and else holds it too many. None comes exactly where both have the same rows.
+/// The least row, cell by cell by bytes, that is in one of the two lists alone: the fragment of the name lacks it where
+/// the first list has it, and else holds it too many. None comes exactly where both have the same rows.
 pub fn apart_rows(
     alloc: Global,
     name: &Text,
