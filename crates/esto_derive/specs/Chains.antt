@@ -19,13 +19,15 @@ reached_terms reached = map (λ (it : Reached). it.term.now) reached
 abbrev pub IsAt : List Reached → Term → ℕ → Type 0
 IsAt reached term place = (it : Reached) × (slice_get reached place ≡ Some it) × (it.term.now ≡ term)
 
--- The term at the place is the first one; or it is reached from the term at an earlier place, over an equality of the world.
+-- The term at the place is the first one; or it is reached from the term at an earlier place, over an equality of the
+-- world.
 abbrev pub IsReached : List Entry → List Bool → Term → List Reached → ℕ → Term → Option (ℕ × ℕ) → Type 0
 IsReached entries set first reached place term None = first ≡ term
 IsReached entries set first reached place term (Some by) =
     (by.0 < place) × (from : Reached) × (slice_get reached by.0 ≡ Some from) × SaysOneIn entries set by.1 from.term.now term
 
--- The first term is reached, and each other one over an equality of the world from a term that is reached at an earlier place; no term is reached twice.
+-- The first term is reached, and each other one over an equality of the world from a term that is reached at an earlier
+-- place; no term is reached twice.
 pub record AreReached (entries : List Entry) (set : List Bool) (first : Term) (reached : List Reached) : Type 0 where
   pub has_first : Contains (reached_terms reached) first
   pub each : (place : ℕ) (it : Reached) → slice_get reached place ≡ Some it → IsReached entries set first reached place it.term.now it.by
@@ -41,7 +43,8 @@ abbrev pub IsPassed : List Entry → List Bool → List Reached → ℕ → ℕ 
 IsPassed entries set reached place link =
     (it : Reached) (next : Term) → slice_get reached place ≡ Some it → SaysOneIn entries set link it.term.now next → Contains (reached_terms reached) next
 
--- The places are those of a chain of equalities from the first term to the one at the place, in each world in which the terms are so reached.
+-- The places are those of a chain of equalities from the first term to the one at the place, in each world in which the
+-- terms are so reached.
 abbrev pub LeadsTo : List Reached → ℕ → List ℕ → Type 0
 LeadsTo reached place chain =
     (entries : List Entry) (set : List Bool) (first : Term) (it : Reached) → AreReached entries set first reached → slice_get reached place ≡ Some it

@@ -31,16 +31,16 @@ abbrev pub IsNamedByUsed : List Entry → List Bool → ℕ → Type 0
 IsNamedByUsed entries used place =
     (by : ℕ) × (entry : Entry) × (slice_get entries by ≡ Some entry) × Has used by × Contains (named_by entry.reason) place
 
--- All that was used still is, and what else is used is named by a used entry. What is used names used entries alone, and it stays within each set that it was
--- within.
+-- All that was used still is, and what else is used is named by a used entry. What is used names used entries alone,
+-- and it stays within each set that it was within.
 pub record Closes (entries : List Entry) (old new : List Bool) : Type 0 where
   pub keeps : (place : ℕ) → Has old place → Has new place
   pub only : (place : ℕ) → Has new place → Has old place ⊎ IsNamedByUsed entries new place
   pub closed : AreClosed entries new
   pub within : (set : List Bool) → AreUsedWithin entries set old → AreUsedWithin entries set new
 
--- The entries at the places, and all that they name directly or through others, are used, and no others are. These stay within each set that the entries at the
--- places are within.
+-- The entries at the places, and all that they name directly or through others, are used, and no others are. These stay
+-- within each set that the entries at the places are within.
 pub record AreUsed (entries : List Entry) (facts links : List ℕ) (used : List Bool) : Type 0 where
   pub has_facts : (place : ℕ) → Contains facts place → Has used place
   pub has_links : (place : ℕ) → Contains links place → Has used place

@@ -18,15 +18,16 @@ HasLine (reason.Expanded atom place) = ⊤
 HasLine (reason.Step number places) = ⊤
 HasLine (reason.Equal places) = ⊥
 
--- In a certificate the entry at the second place stands for that at the first: it is the same and has a line, or the first is a chain of equalities, and it
--- stands for one of these.
+-- In a certificate the entry at the second place stands for that at the first: it is the same and has a line, or the
+-- first is a chain of equalities, and it stands for one of these.
 pub data IsBehind (entries : List Entry) : ℕ → ℕ → Type 0 where
   itself : {place : ℕ} {entry : Entry} → slice_get entries place ≡ Some entry → HasLine entry.reason → IsBehind entries place place
   through : {place named other : ℕ} {entry : Entry} {places : List ℕ} → slice_get entries place ≡ Some entry → entry.reason ≡ reason.Equal places
       → Contains places named → IsBehind entries named other → IsBehind entries place other
 
--- Where the lines are those of the entries at `written`, the numbers `facts` and `links` name what is at the places: first facts, each by the number of its own
--- line, in order; and then equalities, by the numbers of the lines of all that stands for them, and of no others.
+-- Where the lines are those of the entries at `written`, the numbers `facts` and `links` name what is at the places:
+-- first facts, each by the number of its own line, in order; and then equalities, by the numbers of the lines of all
+-- that stands for them, and of no others.
 pub record AreNamedBy (entries : List Entry) (written places facts links : List ℕ) : Type 0 where
   pub stated : List ℕ
   pub equal : List ℕ
@@ -37,8 +38,8 @@ pub record AreNamedBy (entries : List Entry) (written places facts links : List 
   pub links_only : (number : ℕ) → Contains links number
       → (place : ℕ) × (other : ℕ) × Contains equal place × IsBehind entries place other × (numbered written number ≡ Some other)
 
--- The line says the reason, where the lines are those of the entries at `written`: the expanded fact, or the step by the rule from what the reason names. A
--- chain of equalities has no line.
+-- The line says the reason, where the lines are those of the entries at `written`: the expanded fact, or the step by
+-- the rule from what the reason names. A chain of equalities has no line.
 abbrev pub SaysReason : List Entry → List ℕ → Reason → Line → Type 0
 SaysReason entries written (reason.Expanded atom place) line = line ≡ Expanded (atom + 1) (place + 1)
 SaysReason entries written (reason.Step number places) line =
@@ -50,7 +51,8 @@ abbrev pub IsLineOf : List Entry → List Bool → List ℕ → ℕ → Line →
 IsLineOf entries set written place line =
     (entry : Entry) × (slice_get entries place ≡ Some entry) × Within entry.product set × SaysReason entries written entry.reason line
 
--- The lines are those of the entries at the places, each once and in order: they make these claims, which are the entries', and say the entries' reasons.
+-- The lines are those of the entries at the places, each once and in order: they make these claims, which are the
+-- entries', and say the entries' reasons.
 pub record AreOfEntries (case : Case) (entries : List Entry) (places : List ℕ) (lines : List Line) (claims : List Claim) : Type 0 where
   pub rising : AllPairs ◌<◌ places
   pub says : AllZip (IsLineOf entries case.set places) places lines

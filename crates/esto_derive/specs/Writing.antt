@@ -29,8 +29,9 @@ use Rattle.esto_derive.specs.Printing.{line_text, IsReadable}
 use Rattle.esto_derive.specs.Reasons.{AreOfEntries, HasLine, IsBehind, IsNamedLater}
 use Rattle.esto_derive.specs.declared.writing.Written.{Written}
 
--- The bytes are a certificate of the match that its last line states: one line for each entry that this match uses, directly or through others, by that entry's
--- reason. Each line before the last is named by a later one, and each of their entries is in the world of the set.
+-- The bytes are a certificate of the match that its last line states: one line for each entry that this match uses,
+-- directly or through others, by that entry's reason. Each line before the last is named by a later one, and each of
+-- their entries is in the world of the set.
 pub record IsWritten (case : Case) (entries : List Entry) (bytes : List ℕ) : Type 0 where
   pub places : List ℕ
   pub lines : List Line
@@ -48,7 +49,8 @@ IsWrittenFor catalogue query plan set entries bytes =
     (expanded : List ExpandedFact) × AreExpanded catalogue.fragments 0 (length plan.names) plan.atoms expanded
     × Expands plan catalogue.fragments expanded × IsWritten (case_for plan set catalogue.rules query expanded) entries bytes
 
--- The bytes are such a certificate of a match of the query in the set's world, for all expanded facts from which the entries are derived by the rules.
+-- The bytes are such a certificate of a match of the query in the set's world, for all expanded facts from which the
+-- entries are derived by the rules.
 abbrev pub IsWrittenOf : List Bool → List Constraint → Query → List Term → List Entry → List ℕ → Type 0
 IsWrittenOf set rules query targets entries bytes =
     (expanded : List ExpandedFact) → AreDerived expanded (rules_of rules) entries
@@ -65,7 +67,8 @@ abbrev pub AreEqualities : List Claim → List ℕ → Type 0
 AreEqualities claims lines =
     (line : ℕ) → Contains lines line → (left : Term) × (right : Term) × (slice_get claims line ≡ Some (Same left right))
 
--- The lines stand for the claim: of a fact, one line makes it; of an equality, lines that claim equalities link its sides.
+-- The lines stand for the claim: of a fact, one line makes it; of an equality, lines that claim equalities link its
+-- sides.
 abbrev pub StandFor : List Claim → List ℕ → Claim → Type 0
 StandFor claims lines (Stated fact) = (line : ℕ) × (lines ≡ line ∷ []) × (slice_get claims line ≡ Some (Stated fact))
 StandFor claims lines (Same left right) = AreEqualities claims lines × Linked (AtLines claims lines) left right
@@ -85,7 +88,8 @@ pub record IsBasis (case : Case) (entries : List Entry) (used : List Bool) : Typ
   pub closed : AreClosed entries used
   pub within : AreUsedWithin entries case.set used
 
--- The lines are those of all that stands for the entry at the place, and no others, where the lines are those of the entries at `written`.
+-- The lines are those of all that stands for the entry at the place, and no others, where the lines are those of the
+-- entries at `written`.
 pub record AreOwn (entries : List Entry) (written : List ℕ) (place : ℕ) (lines : List ℕ) : Type 0 where
   pub all : (other : ℕ) → IsBehind entries place other → (line : ℕ) × Contains lines line × (slice_get written line ≡ Some other)
   pub only : (line : ℕ) → Contains lines line → (other : ℕ) × IsBehind entries place other × (slice_get written line ≡ Some other)
@@ -123,8 +127,8 @@ WritesIfUsed rules entries used lines old new own =
 abbrev pub WritesAll : List Constraint → List Entry → List Bool → Written → List (List ℕ) → Type 0
 WritesAll rules entries used written lines = (case : Case) → case.rules ≡ rules_of rules → IsBasis case entries used → IsState case entries used lines written
 
--- The entries at the places `facts` state facts that match the body, where terms that the entries at the places `links` link count as one, and make the head,
--- place by place, one with the targets.
+-- The entries at the places `facts` state facts that match the body, where terms that the entries at the places `links`
+-- link count as one, and make the head, place by place, one with the targets.
 pub record IsMatchAt (entries : List Entry) (head targets : List Term) (body : List (Fact Term)) (facts links : List ℕ) : Type 0 where
   pub chosen : List (Fact Term)
   pub stated : AllZip (λ (place : ℕ) (fact : Fact Term). Claims entries place (Stated fact)) facts chosen
@@ -143,7 +147,8 @@ WritesMatch rules entries used facts links bytes =
 abbrev pub AddsNew : List ℕ → List ℕ → List ℕ → Type 0
 AddsNew old more new = (number : ℕ) → Contains new number ↔ (Contains old number ⊎ Contains more number)
 
--- The text goes on by what is said of the numbers, counted from 1, of the lines that stand for the entries at the places, each once.
+-- The text goes on by what is said of the numbers, counted from 1, of the lines that stand for the entries at the
+-- places, each once.
 abbrev pub GoesOnByLinks : List (List ℕ) → List ℕ → (List ℕ → List ℕ) → List ℕ → List ℕ → Type 0
 GoesOnByLinks lines places said old new =
     (linked : List ℕ) × AddsNew [] (lines_at lines places) linked × (new ≡ old ++ said (map (λ line. line + 1) linked))
