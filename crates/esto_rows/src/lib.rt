@@ -1,6 +1,6 @@
 //! Rows of codes, whatever these stand for: whether two lists of rows are one set, whether the codes after the first
-//! tell the first, the codes of those rows that are wanted, and rows as texts, sorted. Start from `hold_same`, `are_told`,
-//! `wanted_codes`, `LentRows`, `sorted_rows`.
+//! tell the first, the codes of those rows that are wanted, and rows as texts, sorted. Start from `hold_same`,
+//! `are_told`, `wanted_codes`, `LentRows`, `sorted_rows`.
 #![tactic(auto)]
 
 mod code_set;
