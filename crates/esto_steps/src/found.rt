@@ -11,7 +11,7 @@ use esto_term::{OutOfMemory, Values};
 use std::alloc::Global;
 
 /// How many of the table's rows are looked at, where no index serves.
-const LOOKED: usize = 32_768;
+const LOOKED: usize = 4_096;
 
 /// How many places an index gives for all keys, at most, where it serves.
 const MOST: usize = 65_536;

@@ -9,7 +9,7 @@ use esto_term::{OutOfMemory, Values};
 use std::alloc::Global;
 
 /// How many of the rows so far a guess looks at.
-const SAMPLE: usize = 64;
+const SAMPLE: usize = 1_024;
 
 /// Puts the codes that the sources name in the row at the place, if there is one, after the keys, if they are new. They
 /// are read into the list.
@@ -37,7 +37,7 @@ fn put_each_key(
     keys: &mut Seen,
 ) -> Result<(), OutOfMemory> {
     let step = rows.len() / SAMPLE + 1;
-    'sample: for turn in 0..SAMPLE {
+    'sample: for turn in 0..SAMPLE.min(rows.len()) {
         put_key(alloc, rows, step.saturating_mul(turn), sources, key, keys)?;
     }
     Ok(())
@@ -81,6 +81,6 @@ pub fn guessed_count(
     if links.is_empty() {
         return Ok(so_far.len().saturating_mul(table.len()));
     }
-    let mut keys = Seen::new(alloc, links.len(), SAMPLE)?;
+    let mut keys = Seen::new(alloc, links.len(), SAMPLE.min(so_far.len()))?;
     count_joined(alloc, links, table, so_far, &mut keys)
 }
