@@ -17,6 +17,7 @@ use Rattle.esto_exec.specs.Turns.{AreArities}
 use Rattle.esto_exec.specs.Given.{IsFreed, IsLike, AreGiven}
 use Rattle.esto_exec.specs.declared.slots.Side.TheVariants.{Nothing}
 use Rattle.esto_exec.proofs.SlotLemmas.{cells_from, AreLong, side_inside}
+use Rattle.esto_exec.proofs.HubLemmas.{same_self}
 use Rattle.esto_exec.proofs.ResultLemmas.{IsNext, Goes, leads_goes, goes_leads, rows_long, goes_choice}
 
 -- ---- links
@@ -88,7 +89,8 @@ module _ (Holds Given : Fact ℕ → Type 0) (arities : List ℕ) (gets owns : L
       let first : number ≡ 0 + number = omega (arith) in
       let next = subst (IsNext Holds get.0 choice) (sym first) (goes number get.0 get.1) in
       subst (IsNext Given own choice) first (
-        given.complete number get.0 own choice get.1 there (λ done named. goes_choice Holds arities gets are.long are.fit choice done goes),
+        given.complete number get.0 own choice get.1 there (λ done named. goes_choice Holds arities gets are.long are.fit
+            (equations_from arities 0 gets) (same_self (equations_from arities 0 gets)) choice done goes),
         elim (given.links number get.0 own get.1 there) [
           | inl freed ↦ freed_follows arities number get.0 own (cells_from choice 0 number) (choice number) freed next.1
           | inr like ↦ like_follows get.0 own (cells_from choice 0 number) (choice number) like next.1

@@ -14,6 +14,7 @@ use Rattle.esto_steps.specs.Meaning.{code_at, IsMet, Follows, Leads}
 use Rattle.esto_steps.specs.Named.{NamesCodes}
 use Rattle.esto_exec.specs.Slots.{side_of, slot_at, side_at, AreEqual, IsKnown, IsChoice, equations_by, equations_from}
 use Rattle.esto_exec.specs.Turns.{source_in, AreSlots, AreParts}
+use Rattle.esto_exec.specs.Hubs.{AreMet, AreKnown, SayTheSame}
 use Rattle.esto_exec.specs.declared.slots.Slot.{Slot}
 use Rattle.esto_exec.specs.declared.slots.Equation.{Equation}
 use Rattle.esto_exec.specs.declared.slots.Side.TheVariants.{Held}
@@ -236,28 +237,15 @@ module _ (Holds : Fact ℕ → Type 0) (arities : List ℕ) (gets : List Get) (l
       let next : suc number ≡ number + 1 = omega (arith) in
       ap (λ n. cells_from choice 0 number ++ choice n) own ∙ sym (cells_more choice 0 number) ∙ ap (cells_from choice 0) next
 
-  pub goes_choice : (choice : ℕ → List ℕ) (done : List ℕ) → Goes Holds gets 0 choice → IsChoice Holds arities gets (equations_from arities 0 gets) done choice
-  goes_choice choice done goes = record {
+  pub goes_choice : (own : List Equation) → SayTheSame (equations_from arities 0 gets) own → (choice : ℕ → List ℕ) (done : List ℕ)
+      → Goes Holds gets 0 choice → IsChoice Holds arities gets own done choice
+  goes_choice own same choice done goes = record {
     held = λ n get inside there. held n get there;
     inputs = λ n get link inside there linked.
         let met = (each n get there).1.inputs link linked in
         let below = slice_get_within gets n get there in
         (met.0, met.1, sym (reads choice held n (omega (arith, below)) link.source) ∙ met.2);
-    filters = λ equation among inside known_side.
-        let found = equations_are arities 0 gets equation among in
-        let number : found.0 ≡ 0 + found.0 = omega (arith) in
-        let met = (each found.0 found.1 found.3).1.filters found.2 found.4 in
-        let below = slice_get_within gets found.0 found.1 found.3 in
-        let own : AreEqual choice (record { get = found.0; column = (found.2).column }) (side_of (take (found.0 + 1) arities) (found.2).source) = (
-          met.0,
-          met.1,
-          sym (ap (λ cells. code_at cells (found.2).source) (row_after choice found.0)
-              ∙ reads choice held (found.0 + 1) (omega (arith, below)) (found.2).source)
-              ∙ met.2,
-        ) in
-        let shifted = subst (λ n. AreEqual choice (record { get = n; column = (found.2).column }) (side_of (take (n + 1) arities)
-        (found.2).source)) number own in
-        subst (λ (it : Equation). AreEqual choice it.slot it.side) (sym found.5) shifted;
+    filters = λ equation among inside known_side. (same.met choice).0 stated equation among;
   }
     where
       each : (n : ℕ) (get : Get) → slice_get gets n ≡ Some get → IsNext Holds get choice n
@@ -268,13 +256,43 @@ module _ (Holds : Fact ℕ → Type 0) (arities : List ℕ) (gets : List Get) (l
       held : AreHeld choice
       held n get there = (each n get there).0
 
+      stated : AreMet choice (equations_from arities 0 gets)
+      stated equation among =
+          let found = equations_are arities 0 gets equation among in
+          let number : found.0 ≡ 0 + found.0 = omega (arith) in
+          let met = (each found.0 found.1 found.3).1.filters found.2 found.4 in
+          let below = slice_get_within gets found.0 found.1 found.3 in
+          let own : AreEqual choice (record { get = found.0; column = (found.2).column }) (side_of (take (found.0 + 1) arities) (found.2).source) = (
+            met.0,
+            met.1,
+            sym (ap (λ cells. code_at cells (found.2).source) (row_after choice found.0)
+                ∙ reads choice held (found.0 + 1) (omega (arith, below)) (found.2).source)
+                ∙ met.2,
+          ) in
+          let shifted = subst (λ n. AreEqual choice (record { get = n; column = (found.2).column }) (side_of (take (n + 1) arities)
+          (found.2).source)) number own in
+          subst (λ (it : Equation). AreEqual choice it.slot it.side) (sym found.5) shifted
+
   -- the gets of the numbers are all that there are
-  module _ (done : List ℕ) (all : (number : ℕ) → number < length gets → Contains done number) where
+  module _ (own : List Equation) (same : SayTheSame (equations_from arities 0 gets) own) (done : List ℕ)
+      (all : (number : ℕ) → number < length gets → Contains done number) where
     known : (count : ℕ) → count ≤ length gets → (source : Source) → IsKnown done (side_of (take count arities) source)
     known count within source = known_before (take count arities) source done (λ number below.
         all number (let taken = length-take-le count arities (omega (arith, within, long)) in omega (arith, below, taken, within)))
 
-    choice_goes : (choice : ℕ → List ℕ) → IsChoice Holds arities gets (equations_from arities 0 gets) done choice → Goes Holds gets 0 choice
+    all_known : AreKnown done (equations_from arities 0 gets)
+    all_known equation among =
+        let found = equations_are arities 0 gets equation among in
+        let below = slice_get_within gets found.0 found.1 found.3 in
+        subst (λ (it : Equation). Contains done it.slot.get × IsKnown done it.side) (sym found.5)
+        (all (0 + found.0) (omega (arith, below)), known (0 + found.0 + 1) (omega (arith, below)) (found.2).source)
+
+    -- what the choice meets is all that the gets state
+    all_met : (choice : ℕ → List ℕ) → IsChoice Holds arities gets own done choice → AreMet choice (equations_from arities 0 gets)
+    all_met choice is = (same.met choice).1
+        (λ equation among. let both = same.known done all_known equation among in is.filters equation among both.0 both.1)
+
+    choice_goes : (choice : ℕ → List ℕ) → IsChoice Holds arities gets own done choice → Goes Holds gets 0 choice
     choice_goes choice is at get there =
         let number : at ≡ 0 + at = omega (arith) in
         subst (IsNext Holds get choice) number (held at get there, record { inputs = inputs; filters = filters })
@@ -297,7 +315,7 @@ module _ (Holds : Fact ℕ → Type 0) (arities : List ℕ) (gets : List Get) (l
               slot = record { get = n; column = link.column };
               side = side_of (take (n + 1) arities) link.source;
             })) number (equations_have arities 0 gets at get link there linked) in
-            let equal = is.filters _ among (all at inside) (known (at + 1) (omega (arith, inside)) link.source) in (
+            let equal = all_met choice is _ among in (
               equal.0,
               equal.1,
               ap (λ cells. code_at cells link.source) (row_after choice at) ∙ reads choice held (at + 1) (omega (arith, inside)) link.source ∙ equal.2,
@@ -327,7 +345,7 @@ module _ (Holds : Fact ℕ → Type 0) (arities : List ℕ) (gets : List Get) (l
     pub parts_are_results : (needed : List Slot) (places : List Slot) (rows results : List (List ℕ)) (steps_head : List Source) (named : (n : ℕ)
         → Contains done n → n < length gets)
         → ((source : Source) (slot : Slot) → Contains steps_head source → side_of arities source ≡ Held slot → Contains needed slot)
-        → AreSlots needed arities done places → AreParts Holds arities gets (equations_from arities 0 gets) done places (Contains rows)
+        → AreSlots needed arities done places → AreParts Holds arities gets own done places (Contains rows)
         → ((row : List ℕ) → Contains results row
         ↔ ((end : List ℕ) × Contains rows end × NamesCodes end (map (λ source. source_in places (side_of arities source)) steps_head) row))
         → (row : List ℕ) → Contains results row
@@ -341,10 +359,10 @@ module _ (Holds : Fact ℕ → Type 0) (arities : List ℕ) (gets : List Get) (l
         done_long choice held n inside =
             let get = thing_at gets n (named n inside) in fits n get.0 (choice n) get.1 (held n get.0 get.1)
 
-        choice_held : (choice : ℕ → List ℕ) → IsChoice Holds arities gets (equations_from arities 0 gets) done choice → AreHeld choice
+        choice_held : (choice : ℕ → List ℕ) → IsChoice Holds arities gets own done choice → AreHeld choice
         choice_held choice is n get there = is.held n get (all n (slice_get_within gets n get there)) there
 
-        by_parts : (cells : List ℕ) (choice : ℕ → List ℕ) → IsChoice Holds arities gets (equations_from arities 0 gets) done choice
+        by_parts : (cells : List ℕ) (choice : ℕ → List ℕ) → IsChoice Holds arities gets own done choice
             → map (slot_at choice) places ≡ map Some cells
             → NamesCodes cells (map (λ source. source_in places (side_of arities source)) head) row
             → (end : List ℕ) × Leads Holds gets [] end × (map (code_at end) head ≡ map Some row)
@@ -360,7 +378,7 @@ module _ (Holds : Fact ℕ → Type 0) (arities : List ℕ) (gets : List Get) (l
             × (end ≡ cells_from choice 0 (0 + length gets)))
             → map (code_at end) head ≡ map Some row → Contains results row
         by_end end (choice, _, goes, end_is) head_is =
-            let is = goes_choice choice done goes in
+            let is = goes_choice own same choice done goes in
             let held = choice_held choice is in
             let cells = cells_of arities done choice (done_long choice held) places (λ slot among.
             (slots.own slot among, λ arity at. slots.within slot arity among at)) in

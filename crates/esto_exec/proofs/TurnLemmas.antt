@@ -36,12 +36,12 @@ both_true true true is = (refl, refl)
 both_true true false is = absurd (cc)
 both_true false b is = absurd (cc)
 
-slots_same : (slot other : Slot) → same_slot slot other ≡ true → slot ≡ other
+pub slots_same : (slot other : Slot) → same_slot slot other ≡ true → slot ≡ other
 slots_same slot other is =
     let parts = both_true (slot.get == other.get) (slot.column == other.column) is in
     λ i. record { get = equal_numbers slot.get other.get parts.0 i; column = equal_numbers slot.column other.column parts.1 i }
 
-same_slots : (slot other : Slot) → slot ≡ other → same_slot slot other ≡ true
+pub same_slots : (slot other : Slot) → slot ≡ other → same_slot slot other ≡ true
 same_slots slot other is =
     let gets = numbers_equal slot.get other.get (ap (λ (it : Slot). it.get) is) in
     let columns = numbers_equal slot.column other.column (ap (λ (it : Slot). it.column) is) in λ i. gets i && columns i

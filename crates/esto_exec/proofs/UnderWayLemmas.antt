@@ -18,6 +18,7 @@ use Rattle.esto_steps.specs.Named.{NamesCodes}
 use Rattle.esto_exec.specs.Slots.{IsChoice, side_of, IsKnown, equations_from, slot_at}
 use Rattle.esto_exec.specs.Turns.{AreSlots, needed_slots, kept_slots, source_in, link_in, links_of, slots_from, IsReady, AreArities, IsUnderWay}
 use Rattle.esto_exec.specs.Turns.{AreParts}
+use Rattle.esto_exec.specs.Hubs.{SayTheSame}
 use Rattle.esto_exec.specs.declared.slots.Slot.{Slot}
 use Rattle.esto_exec.specs.declared.slots.Side.TheVariants.{Held}
 use Rattle.esto_exec.specs.declared.slots.Equation.{Equation}
@@ -189,16 +190,18 @@ before_more done new number is before other below = subst (λ them. Contains the
 
 -- ---- the end
 
-pub results_told : (Holds : Fact ℕ → Type 0) (steps : Steps) (arities done : List ℕ) (places : List Slot) (rows results : List (List ℕ)) (head : List Source)
-    → AreArities Holds steps.gets arities → ((number : ℕ) → number < length steps.gets → Contains done number)
-    → IsUnderWay Holds arities steps.gets (equations_from arities 0 steps.gets) steps.head done places rows
+pub results_told : (Holds : Fact ℕ → Type 0) (steps : Steps) (arities : List ℕ) (own : List Equation) (done : List ℕ) (places : List Slot)
+    (rows results : List (List ℕ)) (head : List Source)
+    → AreArities Holds steps.gets arities → SayTheSame (equations_from arities 0 steps.gets) own
+    → ((number : ℕ) → number < length steps.gets → Contains done number)
+    → IsUnderWay Holds arities steps.gets own steps.head done places rows
     → head ≡ map (λ source. source_in places (side_of arities source)) steps.head
     → ((row : List ℕ) → Contains results row ↔ ((end : List ℕ) × Contains rows end × NamesCodes end head row))
     → (row : List ℕ) → Contains results row ↔ IsResult Holds steps row
-results_told Holds steps arities done places rows results head are all under head_is projected =
-    parts_are_results Holds arities steps.gets are.long are.fit done all
-    (needed_slots arities steps.gets (equations_from arities 0 steps.gets) steps.head done) places rows results steps.head under.named
-    (head_needed arities steps.gets (equations_from arities 0 steps.gets) steps.head done) under.slots under.parts
+results_told Holds steps arities own done places rows results head are same all under head_is projected =
+    parts_are_results Holds arities steps.gets are.long are.fit own same done all
+    (needed_slots arities steps.gets own steps.head done) places rows results steps.head under.named
+    (head_needed arities steps.gets own steps.head done) under.slots under.parts
     (λ row. subst (λ them. Contains results row ↔ ((end : List ℕ) × Contains rows end × NamesCodes end them row)) head_is (projected row))
 
 -- ---- the fragment of a get

@@ -7,7 +7,8 @@ use Rattle.esto_exec.specs.Slots.{side_of, IsChoice}
 use Rattle.esto_exec.specs.declared.slots.Equation.{Equation}
 use Rattle.esto_exec.specs.declared.slots.Side.TheVariants.{Nothing}
 
--- The second get has no inputs; its filters are the inputs and the filters of the first, and each of these inputs names a code or a cell before its row.
+-- The second get has no inputs; its filters are the inputs and the filters of the first, and each of these inputs names
+-- a code or a cell before its row.
 pub record IsFreed (arities : List ℕ) (number : ℕ) (get own : Get) : Type 0 where
   pub inputs : own.inputs ≡ []
   pub filters : own.filters ≡ get.inputs ++ get.filters
@@ -23,8 +24,8 @@ abbrev pub IsWhole : (Fact ℕ → Type 0) → List ℕ → List Get → List Eq
 IsWhole Holds arities gets equations choice =
     (done : List ℕ) → ((number : ℕ) → Contains done number → number < length gets) → IsChoice Holds arities gets equations done choice
 
--- For each get there is another, which has its links, or is freed of its inputs. What the other one reads are rows that the get reads too, and among them are
--- all that the get has in a choice for all gets.
+-- For each get there is another, which has its links, or is freed of its inputs. What the other one reads are rows that
+-- the get reads too, and among them are all that the get has in a choice for all gets.
 pub record AreGiven (Holds Given : Fact ℕ → Type 0) (arities : List ℕ) (gets owns : List Get) (equations : List Equation) : Type 0 where
   pub many : length owns ≡ length gets
   pub links : (number : ℕ) (get own : Get) → slice_get gets number ≡ Some get → slice_get owns number ≡ Some own

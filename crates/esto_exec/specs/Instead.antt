@@ -25,8 +25,8 @@ pub record AreEnough (Holds : Fact ℕ → Type 0) (arities : List ℕ) (gets : 
   pub complete : (get : Get) (choice : ℕ → List ℕ) → slice_get gets number ≡ Some get → IsWhole Holds arities gets equations choice
       → Contains rows (choice number)
 
--- The own get stands for that of the number: it has its links or is freed of its inputs, and reads the rows of the number, of this shape, by which its
--- inputs may be asked.
+-- The own get stands for that of the number: it has its links or is freed of its inputs, and reads the rows of the
+-- number, of this shape, by which its inputs may be asked.
 pub record IsInstead (arities : List ℕ) (gets : List Get) (number : ℕ) (own : Get) (shape : Shape) : Type 0 where
   pub fragment : own.fragment ≡ number
   pub links : (get : Get) → slice_get gets number ≡ Some get → IsFreed arities number get own ⊎ IsLike get own

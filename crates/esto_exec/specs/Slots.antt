@@ -10,7 +10,8 @@ use Rattle.esto_exec.specs.declared.slots.Side.{Side}
 use Rattle.esto_exec.specs.declared.slots.Side.TheVariants.{Constant, Held, Nothing}
 use Rattle.esto_exec.specs.declared.slots.Equation.{Equation}
 
--- The cell at the place of the rows of gets with these arities, which stand one after another; the first get has the number.
+-- The cell at the place of the rows of gets with these arities, which stand one after another; the first get has the
+-- number.
 abbrev pub side_from : ℕ → List ℕ → ℕ → Side
 side_from number [] place = Nothing
 side_from number (arity ∷ rest) place =
@@ -26,7 +27,8 @@ abbrev pub equations_by : List ℕ → ℕ → List Link → List Equation
 equations_by arities number links =
     map (λ (link : Link). record { slot = record { get = number; column = link.column }; side = side_of arities link.source }) links
 
--- The equations of the filters of the gets, the first of which has the number. A filter may name cells of the get's own row.
+-- The equations of the filters of the gets, the first of which has the number. A filter may name cells of the get's own
+-- row.
 abbrev pub equations_from : List ℕ → ℕ → List Get → List Equation
 equations_from arities number [] = []
 equations_from arities number (get ∷ gets) = equations_by (take (number + 1) arities) number get.filters ++ equations_from arities (number + 1) gets

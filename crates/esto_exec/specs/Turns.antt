@@ -26,13 +26,15 @@ abbrev pub is_in : List ℕ → ℕ → Bool
 is_in [] number = false
 is_in (first ∷ rest) number = (first == number) || is_in rest number
 
--- Whether the side is known where the gets of the numbers are done: a slot is where its get is one of these; what is no slot always is.
+-- Whether the side is known where the gets of the numbers are done: a slot is where its get is one of these; what is no
+-- slot always is.
 abbrev pub is_known : List ℕ → Side → Bool
 is_known done (Constant code) = true
 is_known done (Held slot) = is_in done slot.get
 is_known done Nothing = true
 
--- What names the side's code in rows whose cells are those of the slots; what is not there is named by a place past the end.
+-- What names the side's code in rows whose cells are those of the slots; what is not there is named by a place past the
+-- end.
 abbrev pub source_in : List Slot → Side → Source
 source_in places (Constant code) = Code code
 source_in places (Held slot) = Cell (place_in places slot)
@@ -90,7 +92,8 @@ equation_slots done equations =
 abbrev pub head_slots : List ℕ → List Source → List Slot
 head_slots arities head = flat_map (λ source. side_slots (side_of arities source)) head
 
--- The slots that are needed where the gets of the numbers are done: those that inputs, equations or the head still name.
+-- The slots that are needed where the gets of the numbers are done: those that inputs, equations or the head still
+-- name.
 abbrev pub needed_slots : List ℕ → List Get → List Equation → List Source → List ℕ → List Slot
 needed_slots arities gets equations head done = (equation_slots done equations ++ input_slots arities done 0 gets) ++ head_slots arities head
 
@@ -104,7 +107,8 @@ abbrev pub kept_slots : List Slot → List Slot → List Slot
 kept_slots needed [] = []
 kept_slots needed (slot ∷ slots) = cond (is_among needed slot) (slot ∷ []) [] ++ kept_slots needed slots
 
--- Each slot is needed that is named by an input of a get which is not done, or by an equation whose sides are not both known.
+-- Each slot is needed that is named by an input of a get which is not done, or by an equation whose sides are not both
+-- known.
 pub record AreNeeded (arities : List ℕ) (gets : List Get) (equations : List Equation) (done : List ℕ) (needed : List Slot) : Type 0 where
   pub slots : (equation : Equation) → Contains equations equation → ¬ (Contains done equation.slot.get × IsKnown done equation.side)
       → Contains needed equation.slot

@@ -10,45 +10,14 @@ ghost use Rattle.esto_exec.specs.Slots.{side_of, IsKnown};
 ghost use Rattle.esto_exec.specs.SoFar.{IsSoFar};
 ghost use Rattle.esto_exec.specs.Turns.{link_in, AreArities};
 
-use crate::order::next_towards;
+use crate::order::{graph_of, next_towards};
 use crate::slots::{Side, Slots, first_of, is_in, side_of};
 use crate::turns::{Prepared, SoFar, each_known, links_in, nothing_done, take_if_ready};
 use esto_columns::Rows;
+use esto_order::led_back;
 use esto_steps::{Get, Link, Links, Whole, asked_rows};
 use esto_term::{List, OutOfMemory, Places, Values};
 use std::alloc::Global;
-
-/// Puts the numbers of the gets whose cells the links name at the end.
-fn push_named(arities: &[usize], links: &Links, named: &mut Places) -> Result<(), OutOfMemory> {
-    'links: for link in links.items() {
-        if let Side::Held(slot) = side_of(arities, &link.source) {
-            named.push(slot.get)?;
-        }
-    }
-    Ok(())
-}
-
-/// Puts the numbers of the gets that the inputs of the get of the number name at the end, if it is one of those named.
-fn push_led(steps: &Prepared, number: usize, named: &mut Places) -> Result<(), OutOfMemory> {
-    if number >= steps.gets.len() || !is_in(named, number) {
-        return Ok(());
-    }
-    push_named(
-        first_of(steps.arities, number),
-        &steps.gets.item(number).inputs,
-        named,
-    )
-}
-
-/// The numbers of the gets that the inputs of the get of the number lead back to, and its own.
-fn led_back(alloc: Global, steps: &Prepared, number: usize) -> Result<Places, OutOfMemory> {
-    let mut named = Values::new(alloc);
-    named.push(number)?;
-    'gets: for turn in 0..number {
-        push_led(steps, number - turn, &mut named)?;
-    }
-    Ok(named)
-}
 
 /// Joins the get that comes next on the way to the inputs of the get of the number, if these are not known.
 fn take_towards<F: Whole>(
@@ -138,7 +107,8 @@ pub(crate) fn rows_before<F: Whole>(
     requires there { number < length steps.now.gets.now }
     ensures { IfOk result (IsSoFar (IsRowOf (held_by (map F.rows fragments.now))) steps.now) }
 {
-    let named = led_back(alloc, steps, number)?;
+    let graph = graph_of(alloc, steps)?;
+    let named = led_back(alloc, &graph, number)?;
     rows_towards(alloc, steps, fragments, &named, number)
 }
 

@@ -78,17 +78,6 @@ pub(crate) fn freed(alloc: Global, get: &Get, number: usize) -> Result<Get, OutO
     })
 }
 
-/// The gets, whose inputs are filters.
-pub(crate) fn all_freed(alloc: Global, gets: &Gets) -> Result<Gets, OutOfMemory>
-    ensures { IfOk result (λ it. length it ≡ length gets.now) }
-{
-    let mut free = List::new(alloc);
-    'gets: for get in gets.items() {
-        free.push(freed(alloc, get, get.fragment)?)?;
-    }
-    Ok(free)
-}
-
 /// The rows, which may be asked without inputs alone.
 pub(crate) fn without_inputs(alloc: Global, rows: Rows) -> Result<StoredRows, OutOfMemory>
     ensures { IfOk result (λ it. (it.rows ≡ rows) × (it.ways ≡ [] ∷ [])) }

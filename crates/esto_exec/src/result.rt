@@ -3,11 +3,14 @@ ghost use Rattle.std.specs.Prelude.{◌≡◌, ◌↔◌, List, ℕ, length, map
 ghost use Rattle.esto_steps.specs.Meaning.{IsResult};
 ghost use Rattle.esto_steps.specs.Rows.{IsRowOf, held_by};
 ghost use Rattle.esto_steps.specs.Named.{NamesCodes};
+ghost use Rattle.esto_exec.specs.Hubs.{SayTheSame};
 ghost use Rattle.esto_exec.specs.Runnable.{AreRunnable};
 ghost use Rattle.esto_exec.specs.Slots.{side_of, equations_from};
 ghost use Rattle.esto_exec.specs.SoFar.{IsSoFar};
 ghost use Rattle.esto_exec.specs.Turns.{source_in, AreArities};
 
+use crate::hubs::along;
+use crate::order::planned_order;
 use crate::slots::{Equations, equations_of};
 use crate::turns::{Prepared, SoFar, head_in, nothing_done, take_all};
 use esto_columns::Rows;
@@ -41,8 +44,8 @@ fn rows_of_all<F: Whole>(
     requires runnable { AreRunnable (map F.shape fragments.now) steps.now.gets.now }
     requires arities { AreArities (IsRowOf (held_by (map F.rows fragments.now))) steps.now.gets.now
         steps.now.arities.now }
-    requires equations { steps.now.equations.now
-        ≡ equations_from steps.now.arities.now 0 steps.now.gets.now }
+    requires equations { SayTheSame
+        (equations_from steps.now.arities.now 0 steps.now.gets.now) steps.now.equations.now }
     requires under_way { IsSoFar (IsRowOf (held_by (map F.rows fragments.now)))
         steps.now so_far.old }
     ensures arity { IfOk result (λ it. it.arity ≡ length steps.now.head.now) }
@@ -52,6 +55,26 @@ fn rows_of_all<F: Whole>(
 {
     take_all(alloc, steps, fragments, so_far)?;
     head_rows(alloc, steps.arities, steps.head, so_far)
+}
+
+/// The head's codes in the rows that the gets give together, by equations that say the same as their filters.
+fn result_along<F: Whole>(
+    alloc: Global,
+    steps: &Prepared,
+    fragments: &[F],
+) -> Result<Rows, OutOfMemory>
+    requires runnable { AreRunnable (map F.shape fragments.now) steps.now.gets.now }
+    requires arities { AreArities (IsRowOf (held_by (map F.rows fragments.now))) steps.now.gets.now
+        steps.now.arities.now }
+    requires equations { SayTheSame
+        (equations_from steps.now.arities.now 0 steps.now.gets.now) steps.now.equations.now }
+    ensures arity { IfOk result (λ it. it.arity ≡ length steps.now.head.now) }
+    ensures rows { IfOk result (λ it. (row : List ℕ) → Contains it.rows row
+        ↔ IsResult (IsRowOf (held_by (map F.rows fragments.now)))
+        (record { gets = steps.now.gets.now; head = steps.now.head.now }) row) }
+{
+    let mut so_far = nothing_done(alloc)?;
+    rows_of_all(alloc, steps, fragments, &mut so_far)
 }
 
 /// The result of the steps, with what joins in any order rest on.
@@ -75,9 +98,18 @@ pub(crate) fn prepared_result<F: Whole>(
         head: &steps.head,
         arities,
         equations,
+        first: None,
     };
-    let mut so_far = nothing_done(alloc)?;
-    rows_of_all(alloc, &prepared, fragments, &mut so_far)
+    let order = planned_order(alloc, &prepared, fragments)?;
+    let own = along(alloc, equations, &order)?;
+    let turned = Prepared {
+        gets: &steps.gets,
+        head: &steps.head,
+        arities,
+        equations: &own,
+        first: order.items().first().copied(),
+    };
+    result_along(alloc, &turned, fragments)
 }
 
 /// The result of the steps, where gets give rows of these arities.

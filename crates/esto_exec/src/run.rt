@@ -7,13 +7,13 @@ ghost use Rattle.esto_exec.specs.Runnable.{AreRunnable};
 ghost use Rattle.esto_exec.specs.Slots.{equations_from};
 ghost use Rattle.esto_exec.specs.Turns.{AreArities};
 
-use crate::given::all_freed;
-use crate::order::{constants_lead, count_parts};
+use crate::order::graph_of;
 use crate::reading::{Readings, readings_of};
 use crate::result::{prepared_result, result_over};
 use crate::slots::{Equations, equations_of};
 use crate::turns::{Prepared, arities_of};
 use esto_columns::Rows;
+use esto_order::asks_beforehand;
 use esto_steps::{Gets, Sources, Steps, Whole};
 use esto_term::{OutOfMemory, Places, Replicate};
 use std::alloc::Global;
@@ -71,47 +71,8 @@ fn result_beforehand<F: Whole>(
     result_of_readings(alloc, steps.head, &readings)
 }
 
-/// Into how many parts the gets fall where inputs are read as filters.
-fn count_free_parts(alloc: Global, steps: &Prepared, gets: &Gets) -> Result<usize, OutOfMemory>
-    requires { length gets.now ≡ length steps.now.arities.now }
-{
-    let equations = equations_of(alloc, steps.arities, gets)?;
-    let free = Prepared {
-        gets,
-        head: steps.head,
-        arities: steps.arities,
-        equations: &equations,
-    };
-    count_parts(alloc, &free)
-}
-
-/// Whether one of the gets has inputs.
-fn some_ask(gets: &Gets) -> bool {
-    'gets: for get in gets.items() {
-        if !get.inputs.is_empty() {
-            return true;
-        }
-    }
-    false
-}
-
-/// Whether gets are to be asked beforehand: where they fall into fewer parts if inputs are read as filters; or where all
-/// hang together, but no get leads to all others that has to hold a constant, and may well have few rows.
-fn asks_beforehand(alloc: Global, steps: &Prepared) -> Result<bool, OutOfMemory>
-    requires { length steps.now.gets.now ≡ length steps.now.arities.now }
-{
-    if !some_ask(steps.gets) {
-        return Ok(false);
-    }
-    let parts = count_parts(alloc, steps)?;
-    if parts < 2 {
-        return Ok(!constants_lead(alloc, steps)?);
-    }
-    let gets = all_freed(alloc, steps.gets)?;
-    Ok(count_free_parts(alloc, steps, &gets)? < parts)
-}
-
-/// The result of the steps: with gets that are asked beforehand where links don't lead on without that, else get by get.
+/// The result of the steps: with gets that are asked beforehand where links don't lead on without that, else get by
+/// get.
 fn result_by<F: Whole>(
     alloc: Global,
     steps: &Steps,
@@ -132,8 +93,10 @@ fn result_by<F: Whole>(
         head: &steps.head,
         arities,
         equations,
+        first: None,
     };
-    if asks_beforehand(alloc, &prepared)? {
+    let graph = graph_of(alloc, &prepared)?;
+    if asks_beforehand(alloc, &graph)? {
         return result_beforehand(alloc, &prepared, fragments);
     }
     prepared_result(alloc, steps, arities, equations, fragments)
@@ -161,10 +124,10 @@ fn result_with<F: Whole>(
 /// set, are exactly what the steps mean over the rows of the fragments, so they rest on those fragments alone that the
 /// steps name. The gets are joined in an order of the executor's own, in which each link is read either way. A get
 /// without inputs reads the rows of its fragment where they stand. Where links do not lead from one get to all others,
-/// but would if inputs were filters, or not from one that has to hold a constant, gets with inputs are asked beforehand,
-/// by the rows of the gets that their inputs lead back to, and what they give is joined in any order. Rows are joined by
-/// an index, one that they have or one that is made for the join, and of a joined row only those cells are kept that are
-/// still needed.
+/// but would if inputs were filters, or not from one that has to hold a constant, gets with inputs are asked
+/// beforehand, by the rows of the gets that their inputs lead back to, and what they give is joined in any order. Rows
+/// are joined by an index, one that they have or one that is made for the join, and of a joined row only those cells
+/// are kept that are still needed.
 pub fn run_plan<F: Whole>(
     alloc: Global,
     steps: &Steps,

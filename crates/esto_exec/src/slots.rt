@@ -230,7 +230,8 @@ fn put_needed(
     push_head_slots(slots, arities, head)
 }
 
-/// The slots that are needed where the gets of the numbers are done: those that inputs, equations or the head still name.
+/// The slots that are needed where the gets of the numbers are done: those that inputs, equations or the head still
+/// name.
 pub(crate) fn needed_slots(
     alloc: Global,
     arities: &Places,

@@ -163,7 +163,8 @@ pub(crate) fn head_in(
     Ok(sources)
 }
 
-/// What is kept of the rows so far joined with those of the fragment, which are read where they stand if nothing is asked by.
+/// What is kept of the rows so far joined with those of the fragment, which are read where they stand if nothing is
+/// asked by.
 fn joined_fragment<F: Whole>(
     alloc: Global,
     join: &Join,
@@ -245,14 +246,15 @@ fn follow<F: Whole>(
     Ok(())
 }
 
-/// Steps, with what joins in any order rest on: the arities of the rows that the gets give, and the equations of their
-/// filters.
+/// Steps, with what joins in any order rest on: the arities of the rows that the gets give, and equations that say what
+/// their filters do. The get of the first number, if there is one, is the first to be joined.
 #[derive(Clone, Copy)]
 pub(crate) struct Prepared<'a> {
     pub gets: &'a Gets,
     pub head: &'a Sources,
     pub arities: &'a Places,
     pub equations: &'a Equations,
+    pub first: Option<usize>,
 }
 
 /// Rows so far: the numbers of the gets that are done, the slots of the cells, and the rows.
@@ -293,8 +295,8 @@ fn push_done(
     push_slots(places, number, steps.arities.item(number))
 }
 
-/// The get of the number as rows so far have it, which is done then: its inputs are told by the slots so far, its filters
-/// are the equations that it decides, and the slots of its row are put after those so far.
+/// The get of the number as rows so far have it, which is done then: its inputs are told by the slots so far, its
+/// filters are the equations that it decides, and the slots of its row are put after those so far.
 fn own_get(
     alloc: Global,
     steps: &Prepared,

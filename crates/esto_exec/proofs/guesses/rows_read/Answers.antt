@@ -1,6 +1,6 @@
 use Rattle.std.proofs.Common.{◌<◌, length, arith}
 use Rattle.esto_exec.proofs.RunLemmas.{fragment_there, fragment_allows, none_allowed}
-use Rattle.esto_exec.proofs.order.rows_after.Goals as goal
+use Rattle.esto_exec.proofs.guesses.rows_read.Goals as goal
 
 pub bounds-fragments-get : goal.bounds-fragments-get
 bounds-fragments-get g c = fragment_there g.F.Fragment.shape g.F.Fragment.rows c.args.fragments.now c.args.steps.now.gets.now c.args.number
@@ -13,8 +13,8 @@ offset_bounds-fragments-get g c =
     fragment_there g.F.Fragment.shape g.F.Fragment.rows c.args.fragments.now c.args.steps.now.gets.now c.args.number c.item-get.result.now
     c.item-get.ensures c.requires in omega (arith, below)
 
-pub whole-table-requires : goal.whole-table-requires
-whole-table-requires g c =
+pub whole-requires : goal.whole-requires
+whole-requires g c =
     none_allowed (g.F.Fragment.shape c.index-fragments-get.result) c.item-get.result.now.inputs (c.is_empty.ensures.0 c.if-not-is_empty.false)
     (fragment_allows g.F.Fragment.shape g.F.Fragment.rows c.args.fragments.now c.args.steps.now.gets.now c.args.number c.item-get.result.now
     c.index-fragments-get.result
