@@ -1,4 +1,4 @@
--- Equations of a hub that say the same of another hub.
+-- Equations in which another slot is the hub, and that they say the same.
 use Rattle.std.specs.Prelude.{◌↔◌, ℕ, cond, List, Contains}
 use Rattle.esto_exec.specs.Slots.{AreEqual, IsKnown}
 use Rattle.esto_exec.specs.Turns.{same_slot}
@@ -7,7 +7,8 @@ use Rattle.esto_exec.specs.declared.slots.Side.{Side}
 use Rattle.esto_exec.specs.declared.slots.Side.TheVariants.{Constant, Held, Nothing}
 use Rattle.esto_exec.specs.declared.slots.Equation.{Equation}
 
--- The equation of the two, where its side is the hub: the slot's own then has the hub as its slot, and each other one names the slot.
+-- The equation of the slot of its own and the side: where this is the hub, that of the slot itself says that the hub
+-- holds what the slot does, and each other one names the slot in the hub's place.
 abbrev pub turned_by : Slot → Slot → Slot → Side → Equation
 turned_by hub slot own (Constant code) = record { slot = own; side = Constant code }
 turned_by hub slot own (Held other) = cond (same_slot other hub)

@@ -135,8 +135,8 @@ fn followers_of(
 }
 
 /// How many followers rows with the one cell have among those with the other, by the code that both hold, where each
-/// get gives so many rows by itself. A get with inputs is taken to give one row for each of the others' rows, and to
-/// give the codes that these hold.
+/// get gives so many rows by itself. A get with inputs is taken to give one row for each row of the get that leads to
+/// it, and, where it leads on itself, the codes that the rows of the other one hold.
 fn fan_out<F: Whole>(
     alloc: Global,
     steps: &Prepared,

@@ -1,5 +1,5 @@
-//! Hubs of equations: of several slots that hold one code, all name the one whose get comes first in an order of joins.
-//! The equations say the same whichever it is.
+//! Hubs of equations: where several slots hold one code, all the others' equations name the one whose get comes first
+//! in an order of joins. The equations say the same whichever it is.
 ghost use Rattle.std.specs.Prelude.{◌≡◌, map, IfOk, OnOk};
 ghost use Rattle.esto_exec.specs.Hubs.{turned, SayTheSame};
 
@@ -50,7 +50,7 @@ fn turned(
     Ok(own)
 }
 
-/// Whether the first number comes in the order, and not after the other.
+/// Whether the one number comes in the order, before the other if that one does too.
 fn comes_before(order: &Places, one: usize, other: usize) -> bool {
     'order: for number in order.items() {
         if *number == other {

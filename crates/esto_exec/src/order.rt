@@ -1,4 +1,5 @@
-//! Which get is joined next. Nothing rests on it but speed, so nothing here says what it gives.
+//! Which get is joined next, and in which order of all it is planned to be. Nothing rests on it but speed, so nothing
+//! here says what it gives.
 ghost use Rattle.std.specs.Prelude.{map};
 ghost use Rattle.esto_exec.specs.Runnable.{AreRunnable};
 
@@ -12,13 +13,13 @@ use esto_steps::{Get, Links, Whole};
 use esto_term::{List, OutOfMemory, Places, Values};
 use std::alloc::Global;
 
-/// Where there are at most so many gets, each that can come first is tried as the first one.
+/// With more gets than so many it takes too long to try each as the first one.
 const TRIED: usize = 32;
 
-/// With more edges than so many it takes too long to plan.
-const EDGES: usize = 160;
+/// With more edges than so many it takes too long to guess.
+const EDGES: usize = 64;
 
-/// With fewer rows in each get it is not worth while to plan.
+/// Where each get has fewer rows it is not worth while to plan.
 const LARGE: usize = 1_024;
 
 /// The cell of the slot, as an order of joins sees it.
@@ -193,7 +194,7 @@ pub(crate) fn planned_order<F: Whole>(
     if !some_are_large(&sizes) {
         return Ok(Values::new(alloc));
     }
-    let graph = graph_of(alloc, steps)?.with_shared(alloc)?;
+    let graph = graph_of(alloc, steps)?.with_shared(alloc, EDGES)?;
     order_by(alloc, steps, fragments, &graph, sizes)
 }
 

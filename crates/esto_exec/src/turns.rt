@@ -247,7 +247,7 @@ fn follow<F: Whole>(
 }
 
 /// Steps, with what joins in any order rest on: the arities of the rows that the gets give, and equations that say what
-/// their filters do. The get of the first number, if there is one, is the first to be joined.
+/// their filters do. The get of the number `first`, if there is one, is the first to be joined.
 #[derive(Clone, Copy)]
 pub(crate) struct Prepared<'a> {
     pub gets: &'a Gets,

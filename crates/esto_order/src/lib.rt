@@ -1,5 +1,5 @@
-//! In which order gets are joined: what links lead to, and in which order the fewest rows are made. Nothing rests on it
-//! but speed. Start from `JoinGraph`.
+//! In which order gets are joined: what links lead to, in which order the fewest rows are made, and whether gets are
+//! asked beforehand. Nothing rests on it but speed. Start from `JoinGraph`.
 #![tactic(auto)]
 
 mod graph;

@@ -132,7 +132,7 @@ fn cheapest_way(
 }
 
 /// The order of all gets in which the fewest rows are made, as far as the guesses tell: of the greedy ones from each
-/// get that can come first.
+/// get that is thought of as the first one.
 pub fn cheapest_order(
     alloc: Global,
     graph: &JoinGraph,

@@ -102,7 +102,8 @@ fn count_free_parts(alloc: Global, graph: &JoinGraph) -> Result<usize, OutOfMemo
 }
 
 /// Whether gets are to be asked beforehand: where they fall into fewer parts if inputs are read as filters; or where
-/// all hang together, but no get leads to all others that has to hold a constant, and may well have few rows.
+/// all hang together, and some have to hold a constant, so that they may well have few rows, but none of these leads to
+/// all others.
 pub fn asks_beforehand(alloc: Global, graph: &JoinGraph) -> Result<bool, OutOfMemory> {
     if !some_ask(graph) {
         return Ok(false);

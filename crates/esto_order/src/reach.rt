@@ -94,7 +94,7 @@ pub(crate) fn leading_gets(
 }
 
 /// The gets that can come next, where none is linked to the done ones: those that lead to the most others, or all where
-/// no others are left.
+/// all that are left can come.
 fn unlinked_gets(alloc: Global, graph: &JoinGraph, done: &Places) -> Result<Places, OutOfMemory> {
     let ready = ready_gets(alloc, graph, done)?;
     if done.len().saturating_add(ready.len()) >= graph.nodes.len() {
@@ -104,7 +104,7 @@ fn unlinked_gets(alloc: Global, graph: &JoinGraph, done: &Places) -> Result<Plac
 }
 
 /// The gets that are thought of as the next one: those that can come and are linked to the done ones, if there are
-/// some, else those that lead on to the most others, or all where no others are left.
+/// some, else those that lead on to the most others, or all where all that are left can come.
 pub fn candidates(alloc: Global, graph: &JoinGraph, done: &Places) -> Result<Places, OutOfMemory> {
     let mut linked = Values::new(alloc);
     push_linked(graph, done, &mut linked)?;

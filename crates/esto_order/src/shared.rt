@@ -19,7 +19,8 @@ fn push_edge(edges: &mut List<Edge>, one: &Cell, other: &Cell) -> Result<(), Out
     })
 }
 
-/// Puts the edges from the first cell of the edge to those of the others that have the same second one at the end.
+/// Puts the edges from the first cell of the edge to those of the others that have the same second one, and are of
+/// another get, at the end.
 fn push_shared(edges: &mut List<Edge>, others: &[Edge], edge: &Edge) -> Result<(), OutOfMemory> {
     'others: for other in others {
         if are_one(&edge.other, &other.other) {
@@ -30,8 +31,8 @@ fn push_shared(edges: &mut List<Edge>, others: &[Edge], edge: &Edge) -> Result<(
 }
 
 impl JoinGraph {
-    /// The edges, and those between cells that have to hold the same code as a third, which is the second of an edge of
-    /// each.
+    /// The edges between cells of two gets, and those between two such cells that have to hold the same code as a third,
+    /// which is the second of an edge of each.
     fn shared_edges(&self, alloc: Global) -> Result<List<Edge>, OutOfMemory> {
         let mut edges = List::new(alloc);
         let own = self.edges.items();
@@ -42,9 +43,13 @@ impl JoinGraph {
         Ok(edges)
     }
 
-    /// The same gets, linked as well where two of their cells have to hold the same code as a third.
-    pub fn with_shared(self, alloc: Global) -> Result<JoinGraph, OutOfMemory> {
+    /// The same gets, linked as well where cells of two of them have to hold the same code as a third; without edges
+    /// that lead back to their own get. The same graph, where there were more than so many edges.
+    pub fn with_shared(self, alloc: Global, most: usize) -> Result<JoinGraph, OutOfMemory> {
         let edges = self.shared_edges(alloc)?;
+        if edges.len() > most {
+            return Ok(self);
+        }
         Ok(JoinGraph {
             nodes: self.nodes,
             edges,
