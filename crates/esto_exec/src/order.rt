@@ -13,14 +13,15 @@ use esto_steps::{Get, Links, Whole};
 use esto_term::{List, OutOfMemory, Places, Values};
 use std::alloc::Global;
 
-/// With more gets than so many it takes too long to try each as the first one.
-const TRIED: usize = 32;
+/// How many gets there are at most where an order is planned: each that can come first may be tried as the first one.
+const MOST_GETS: usize = 32;
 
-/// With more edges than so many it takes too long to guess.
-const EDGES: usize = 64;
+/// How many edges there are at most where an order is planned: for each of them rows are looked at, both ways.
+const MOST_EDGES: usize = 64;
 
-/// Where each get has fewer rows it is not worth while to plan.
-const LARGE: usize = 1_024;
+/// How many rows some get gives by itself at least, about, where an order is planned. One with inputs is taken to give
+/// one.
+const LEAST_ROWS: usize = 1_024;
 
 /// The cell of the slot, as an order of joins sees it.
 fn cell_of(slot: &Slot) -> Cell {
@@ -84,18 +85,21 @@ fn nodes_of(alloc: Global, steps: &Prepared) -> Result<List<Node>, OutOfMemory> 
     Ok(nodes)
 }
 
-/// Puts the edge of the equation at the end, if it is between cells of rows.
+/// Puts the edge of the equation at the end, if it is between cells of two gets.
 fn push_edge(edges: &mut List<Edge>, equation: &Equation) -> Result<(), OutOfMemory> {
     let Side::Held(other) = &equation.side else {
         return Ok(());
     };
+    if other.get == equation.slot.get {
+        return Ok(());
+    }
     edges.push(Edge {
         one: cell_of(&equation.slot),
         other: cell_of(other),
     })
 }
 
-/// The edges of the equations.
+/// The edges of the equations between cells of two gets.
 fn edges_of(alloc: Global, equations: &Equations) -> Result<List<Edge>, OutOfMemory> {
     let mut edges = List::new(alloc);
     'equations: for equation in equations.items() {
@@ -149,18 +153,13 @@ fn best_of<F: Whole>(
     fewest(alloc, steps, fragments, so_far, candidates)
 }
 
-/// Whether one of the sizes is large.
+/// Whether one of the gets gives many rows by itself, where they give so many.
 fn some_are_large(sizes: &Values<usize>) -> bool {
-    'sizes: for size in sizes.items() {
-        if *size >= LARGE {
-            return true;
-        }
-    }
-    false
+    sizes.items().iter().any(|size| *size >= LEAST_ROWS)
 }
 
-/// The order of joins in which the fewest rows are made, where each get gives so many rows by itself; none where there
-/// are too many edges.
+/// Of the orders of joins that are tried, the one in which the fewest rows are made, where the gets give as many rows by
+/// themselves as the sizes say; an empty one where there are too many edges.
 fn order_by<F: Whole>(
     alloc: Global,
     steps: &Prepared,
@@ -170,7 +169,7 @@ fn order_by<F: Whole>(
 ) -> Result<Places, OutOfMemory>
     requires { AreRunnable (map F.shape fragments.now) steps.now.gets.now }
 {
-    if graph.edges.len() > EDGES {
+    if graph.edges.len() > MOST_EDGES {
         return Ok(Values::new(alloc));
     }
     let fan_outs = fan_outs_of(alloc, steps, fragments, &sizes, &graph.edges)?;
@@ -178,8 +177,9 @@ fn order_by<F: Whole>(
     cheapest_order(alloc, graph, &guesses)
 }
 
-/// The order of joins in which the fewest rows are made, as far as that is known; none where there are few gets, or so
-/// many gets or edges that each can't be tried with little work, or where each get has few rows.
+/// Of the orders of joins that are tried, the one in which the fewest rows are made, as far as guesses tell. It is empty
+/// where there are fewer than three gets or more than `MOST_GETS`, more than `MOST_EDGES` edges, or no get that gives
+/// `LEAST_ROWS` rows by itself.
 pub(crate) fn planned_order<F: Whole>(
     alloc: Global,
     steps: &Prepared,
@@ -187,14 +187,14 @@ pub(crate) fn planned_order<F: Whole>(
 ) -> Result<Places, OutOfMemory>
     requires { AreRunnable (map F.shape fragments.now) steps.now.gets.now }
 {
-    if steps.gets.len() < 3 || steps.gets.len() > TRIED {
+    if steps.gets.len() < 3 || steps.gets.len() > MOST_GETS {
         return Ok(Values::new(alloc));
     }
     let sizes = sizes_of(alloc, steps, fragments)?;
     if !some_are_large(&sizes) {
         return Ok(Values::new(alloc));
     }
-    let graph = graph_of(alloc, steps)?.with_shared(alloc, EDGES)?;
+    let graph = graph_of(alloc, steps)?.with_shared(alloc, MOST_EDGES)?;
     order_by(alloc, steps, fragments, &graph, sizes)
 }
 

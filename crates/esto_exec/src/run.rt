@@ -123,11 +123,11 @@ fn result_with<F: Whole>(
 /// Runs the steps over the fragments, which a get names by number and asks in one of their ways. The rows, read as a
 /// set, are exactly what the steps mean over the rows of the fragments, so they rest on those fragments alone that the
 /// steps name. The gets are joined in an order of the executor's own, in which each link is read either way. A get
-/// without inputs reads the rows of its fragment where they stand. Where links do not lead from one get to all others,
-/// but would if inputs were filters, or not from one that has to hold a constant, gets with inputs are asked
-/// beforehand, by the rows of the gets that their inputs lead back to, and what they give is joined in any order. Rows
-/// are joined by an index, one that they have or one that is made for the join, and of a joined row only those cells
-/// are kept that are still needed.
+/// without inputs reads the rows of its fragment where they stand. Where the gets fall into fewer parts once inputs are
+/// read as filters, or all hang together and some that can come first have to hold a constant, but none of these leads
+/// to all others, gets with inputs are asked beforehand, by the rows of the gets that their inputs lead back to, and
+/// what they give is joined in any order. Rows are joined by an index, one that they have or one that is made for the
+/// join, and of a joined row only those cells are kept that are still needed.
 pub fn run_plan<F: Whole>(
     alloc: Global,
     steps: &Steps,

@@ -40,7 +40,8 @@ pub(crate) fn links_in(
     Ok(own)
 }
 
-/// Puts the equation at the end as a link of the get, where both of its sides are known and one is the get's own.
+/// Puts the equation at the end as a link of the get, where one of its sides is the get's own and the other one is
+/// known.
 fn push_link(
     links: &mut Links,
     number: usize,
@@ -163,8 +164,8 @@ pub(crate) fn head_in(
     Ok(sources)
 }
 
-/// What is kept of the rows so far joined with those of the fragment, which are read where they stand if nothing is
-/// asked by.
+/// What is kept of the rows so far joined with those of the fragment; these are read where they stand if the get has no
+/// inputs.
 fn joined_fragment<F: Whole>(
     alloc: Global,
     join: &Join,

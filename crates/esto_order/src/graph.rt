@@ -1,5 +1,5 @@
 //! Gets and what links them.
-use esto_term::{List, Places, Replicate};
+use esto_term::{List, Places};
 
 /// A cell of the rows that a get gives: the number of the get, and the column.
 #[derive(Clone, Copy)]
@@ -39,22 +39,12 @@ pub(crate) fn is_in(numbers: &Places, number: usize) -> bool {
 
 /// Whether the gets that the edges lead to are all done.
 fn are_done(done: &Places, needs: &List<Edge>) -> bool {
-    'needs: for edge in needs.items() {
-        if !is_in(done, edge.other.get) {
-            return false;
-        }
-    }
-    true
+    needs.items().iter().all(|edge| is_in(done, edge.other.get))
 }
 
 /// Whether the numbers have all of the others.
 pub(crate) fn has_all(numbers: &Places, others: &Places) -> bool {
-    'others: for other in others.items() {
-        if !is_in(numbers, *other) {
-            return false;
-        }
-    }
-    true
+    others.items().iter().all(|other| is_in(numbers, *other))
 }
 
 impl JoinGraph {
@@ -79,11 +69,9 @@ impl JoinGraph {
                 return true;
             }
         }
-        'edges: for edge in self.edges.items() {
-            if JoinGraph::joins(done, number, edge) {
-                return true;
-            }
-        }
-        false
+        let edges = self.edges.items();
+        edges
+            .iter()
+            .any(|edge| JoinGraph::joins(done, number, edge))
     }
 }

@@ -4,7 +4,7 @@ use crate::reach::candidates;
 use esto_term::{List, OutOfMemory, Places, Values};
 use std::alloc::Global;
 
-/// So many rows of the get of the one number have so many followers among the rows of the other one, by an edge.
+/// By an edge, so many rows of the get `from` have so many followers in all among the rows of the get `to`, about.
 #[derive(Clone, Copy)]
 pub struct FanOut {
     pub from: usize,
@@ -36,8 +36,8 @@ fn size_of(guesses: &Guesses, number: usize) -> usize {
     }
 }
 
-/// How many rows there are once the get of the number comes after the way: as many as the edge says by which there are
-/// the fewest, and at most each of the one beside each of the other.
+/// How many rows there are about once the get of the number comes after the way: by the edge by which there are the
+/// fewest, or, without an edge, each row of the one beside each of the other.
 fn rows_after(guesses: &Guesses, way: &Way, number: usize) -> usize {
     let mut least = way.rows.saturating_mul(size_of(guesses, number));
     'fan_outs: for fan_out in guesses.fan_outs.items() {
@@ -131,8 +131,8 @@ fn cheapest_way(
     Ok(best)
 }
 
-/// The order of all gets in which the fewest rows are made, as far as the guesses tell: of the greedy ones from each
-/// get that is thought of as the first one.
+/// Of the orders that begin with each of the candidates and go on each time to the get after which there are the fewest
+/// rows, the one in which the fewest rows are made in all, as far as the guesses tell.
 pub fn cheapest_order(
     alloc: Global,
     graph: &JoinGraph,

@@ -1,14 +1,14 @@
 //! Whether gets fall into parts.
 use crate::graph::{Edge, JoinGraph, Node, is_in};
-use crate::reach::{leading_gets, reach, reach_from, ready_gets};
+use crate::reach::{reach, reach_from, ready_gets, unlinked_gets};
 use esto_term::{List, OutOfMemory, Places, Values};
 use std::alloc::Global;
 
-/// Takes the get that leads to the most others as done, and all that links lead to from it.
+/// Takes a get as done that leads to the most others, or any where all that are left can come, and all that links lead
+/// to from it.
 fn start_part(alloc: Global, graph: &JoinGraph, done: &mut Places) -> Result<(), OutOfMemory> {
-    let ready = ready_gets(alloc, graph, done)?;
-    let leading = leading_gets(alloc, graph, done, &ready)?;
-    if let Some(number) = leading.items().first() {
+    let starts = unlinked_gets(alloc, graph, done)?;
+    if let Some(number) = starts.items().first() {
         reach_from(alloc, graph, *number, done)?;
     }
     Ok(())
@@ -37,7 +37,8 @@ fn has_constant(graph: &JoinGraph, number: usize) -> bool {
     }
 }
 
-/// Whether of the gets that can come first and have to hold a constant, if there are some, one leads to all others.
+/// Whether one of the gets that can come first and have to hold a constant leads to all others, or there are no such
+/// gets.
 fn constants_lead(alloc: Global, graph: &JoinGraph) -> Result<bool, OutOfMemory> {
     let done = Values::new(alloc);
     let ready = ready_gets(alloc, graph, &done)?;
@@ -55,12 +56,7 @@ fn constants_lead(alloc: Global, graph: &JoinGraph) -> Result<bool, OutOfMemory>
 
 /// Whether one of the gets has inputs.
 fn some_ask(graph: &JoinGraph) -> bool {
-    'gets: for node in graph.nodes.items() {
-        if node.has_inputs {
-            return true;
-        }
-    }
-    false
+    graph.nodes.items().iter().any(|node| node.has_inputs)
 }
 
 /// Puts the edges at the end of the others.
@@ -81,7 +77,7 @@ fn edges_freed(alloc: Global, graph: &JoinGraph) -> Result<List<Edge>, OutOfMemo
     Ok(edges)
 }
 
-/// The gets with no inputs.
+/// All gets, without their inputs.
 fn nodes_freed(alloc: Global, graph: &JoinGraph) -> Result<List<Node>, OutOfMemory> {
     let mut nodes = List::new(alloc);
     'gets: for node in graph.nodes.items() {
@@ -102,8 +98,8 @@ fn count_free_parts(alloc: Global, graph: &JoinGraph) -> Result<usize, OutOfMemo
 }
 
 /// Whether gets are to be asked beforehand: where they fall into fewer parts if inputs are read as filters; or where
-/// all hang together, and some have to hold a constant, so that they may well have few rows, but none of these leads to
-/// all others.
+/// all hang together, and some that can come first have to hold a constant, so that they may well have few rows, but
+/// none of these leads to all others.
 pub fn asks_beforehand(alloc: Global, graph: &JoinGraph) -> Result<bool, OutOfMemory> {
     if !some_ask(graph) {
         return Ok(false);

@@ -47,8 +47,7 @@ fn reach_all(alloc: Global, graph: &JoinGraph, done: &mut Places) -> Result<(), 
     Ok(())
 }
 
-/// How many gets are done once the get of the number is put after those that are done, and after it all that links lead
-/// to.
+/// Takes the get of the number as done, and all that links lead to after it. Tells how many are done then.
 pub(crate) fn reach_from(
     alloc: Global,
     graph: &JoinGraph,
@@ -72,7 +71,7 @@ pub(crate) fn reach(
 }
 
 /// Those of the gets that lead to the most others.
-pub(crate) fn leading_gets(
+fn leading_gets(
     alloc: Global,
     graph: &JoinGraph,
     done: &Places,
@@ -95,7 +94,11 @@ pub(crate) fn leading_gets(
 
 /// The gets that can come next, where none is linked to the done ones: those that lead to the most others, or all where
 /// all that are left can come.
-fn unlinked_gets(alloc: Global, graph: &JoinGraph, done: &Places) -> Result<Places, OutOfMemory> {
+pub(crate) fn unlinked_gets(
+    alloc: Global,
+    graph: &JoinGraph,
+    done: &Places,
+) -> Result<Places, OutOfMemory> {
     let ready = ready_gets(alloc, graph, done)?;
     if done.len().saturating_add(ready.len()) >= graph.nodes.len() {
         return Ok(ready);

@@ -32,21 +32,24 @@ fn push_shared(edges: &mut List<Edge>, others: &[Edge], edge: &Edge) -> Result<(
 
 impl JoinGraph {
     /// The edges between cells of two gets, and those between two such cells that have to hold the same code as a third,
-    /// which is the second of an edge of each.
-    fn shared_edges(&self, alloc: Global) -> Result<List<Edge>, OutOfMemory> {
+    /// which is the second of an edge of each. It is gone on with as long as there are not too many.
+    fn shared_edges(&self, alloc: Global, most: usize) -> Result<List<Edge>, OutOfMemory> {
         let mut edges = List::new(alloc);
         let own = self.edges.items();
         'edges: for (at, edge) in own.iter().enumerate() {
+            if edges.len() > most {
+                return Ok(edges);
+            }
             push_edge(&mut edges, &edge.one, &edge.other)?;
             push_shared(&mut edges, &own[..at], edge)?;
         }
         Ok(edges)
     }
 
-    /// The same gets, linked as well where cells of two of them have to hold the same code as a third; without edges
-    /// that lead back to their own get. The same graph, where there were more than so many edges.
+    /// The same gets, linked as well where cells of two of them have to hold the same code as a third. The same graph,
+    /// where there would be more than so many edges with these.
     pub fn with_shared(self, alloc: Global, most: usize) -> Result<JoinGraph, OutOfMemory> {
-        let edges = self.shared_edges(alloc)?;
+        let edges = self.shared_edges(alloc, most)?;
         if edges.len() > most {
             return Ok(self);
         }

@@ -2,8 +2,8 @@
 ghost use Rattle.std.specs.Prelude.{Contains, IfOk};
 ghost use Rattle.esto_steps.specs.declared.steps.Link.{Link};
 
+use crate::codes::code_at;
 use crate::links::sources_of;
-use crate::probe::{how_many, places_met};
 use crate::sample::{place_in, read_key, scaled};
 use crate::steps::{Link, Links, Sources};
 use esto_columns::{Index, Rows};
@@ -27,21 +27,47 @@ pub(crate) fn most_looks(so_far: &Rows, rows: &Rows) -> usize {
     }
 }
 
-/// How many places the link gives for the row so far at the place; more than there are where the rows have no index by
-/// the link's column.
+/// How many places are on the key's chain; one more than so many where there are more.
+fn chain_length(index: &Index, key: &[u64], most: usize) -> usize {
+    let mut next = index.last_of(key);
+    let mut count: usize = 0;
+    'places: while next > 0 {
+        if count > most {
+            return count;
+        }
+        next = index.before(next - 1);
+        count = count.saturating_add(1);
+    }
+    count
+}
+
+/// How many places the index by the column gives for the code; one more than so many where there are more, and as many
+/// as can be where there is no index.
+pub(crate) fn places_given(rows: &Rows, column: usize, code: u64, most: usize) -> usize {
+    match rows.index_by(&[column]) {
+        Some(index) => chain_length(index, &[code], most),
+        None => usize::MAX,
+    }
+}
+
+/// How many places the link gives for the row so far at the place; one more than so many where there are more, and as
+/// many as can be where the rows have no index by the link's column.
 fn count_met(
     alloc: Global,
     so_far: &Rows,
     at: usize,
     rows: &Rows,
     link: &Link,
+    most: usize,
 ) -> Result<usize, OutOfMemory> {
     if at >= so_far.len() {
         return Ok(0);
     }
     let cells = so_far.row(alloc, at)?;
-    let places = places_met(alloc, rows, cells.items(), link)?;
-    Ok(how_many(places))
+    match code_at(cells.items(), &link.source) {
+        Some(code) => Ok(places_given(rows, link.column, code, most)),
+        None => Ok(0),
+    }
 }
 
 /// How many places the link gives for all rows so far, about, by a look at one of each stretch of them; no more than so
@@ -58,7 +84,7 @@ fn met_cost(
     let mut found: usize = 0;
     'rows: for turn in 0..tried {
         let at = place_in(turn, step);
-        found = found.saturating_add(count_met(alloc, so_far, at, rows, link)?);
+        found = found.saturating_add(count_met(alloc, so_far, at, rows, link, most)?);
         if scaled(found, tried, so_far.len()) >= most {
             return Ok(most);
         }
@@ -109,20 +135,6 @@ pub(crate) fn cheap_links(
 {
     let best = cheapest(alloc, so_far, rows, links)?;
     link_alone(alloc, links, best)
-}
-
-/// How many places are on the key's chain; one more than so many where there are more.
-fn chain_length(index: &Index, key: &[u64], most: usize) -> usize {
-    let mut next = index.last_of(key);
-    let mut count: usize = 0;
-    'places: while next > 0 {
-        if count > most {
-            return count;
-        }
-        next = index.before(next - 1);
-        count = count.saturating_add(1);
-    }
-    count
 }
 
 /// How many places are on the chain of the key that the sources name in the row so far at the place; one more than so

@@ -1,8 +1,8 @@
 //! How many of a table's rows have one of some keys. Nothing rests on it but speed, so nothing here says what it gives.
 ghost use Rattle.std.specs.Prelude.{◌<◌, length};
 
+use crate::cost::places_given;
 use crate::links::columns_of;
-use crate::probe::how_many;
 use crate::sample::{place_in, read_key, scaled};
 use crate::seen::Seen;
 use crate::steps::{Links, Sources};
@@ -91,7 +91,7 @@ fn count_key(
 }
 
 /// The places that the index by the column gives for the code of the number in the key at the place, if there are such
-/// ones. The key is read into the list.
+/// ones and not too many. The key is read into the list.
 fn places_of(
     alloc: Global,
     rows: &Rows,
@@ -107,6 +107,9 @@ fn places_of(
     let Some(code) = key.items().get(number) else {
         return Ok(None);
     };
+    if places_given(rows, column, *code, MOST) > MOST {
+        return Ok(None);
+    }
     rows.places(alloc, &[column], &[*code])
 }
 
@@ -179,10 +182,9 @@ fn count_by(
     count_each_by(alloc, rows, column, number, columns, keys, &mut counts)
 }
 
-/// How many places the index by the column gives for the first key; more than there are where there is no index. The
-/// key is read into the list.
+/// How many places the index by the column gives for the first key, as far as they are counted; more than there are
+/// where there is no index. The key is read into the list.
 fn first_count(
-    alloc: Global,
     rows: &Rows,
     column: usize,
     number: usize,
@@ -192,14 +194,16 @@ fn first_count(
     if keys.len() == 0 {
         return Ok(0);
     }
-    let places = places_of(alloc, rows, column, number, keys, 0, key)?;
-    Ok(how_many(places))
+    keys.read_row(0, key)?;
+    match key.items().get(number) {
+        Some(code) => Ok(places_given(rows, column, *code, MOST)),
+        None => Ok(usize::MAX),
+    }
 }
 
 /// The number of the link whose index gives the fewest places for the first key, or how many links there are where no
 /// index serves. The key is read into the list.
 fn best_link(
-    alloc: Global,
     links: &Links,
     rows: &Rows,
     keys: &Rows,
@@ -208,7 +212,7 @@ fn best_link(
     let mut least = MOST;
     let mut best = links.len();
     'links: for number in 0..links.len() {
-        let count = first_count(alloc, rows, links.item(number).column, number, keys, key)?;
+        let count = first_count(rows, links.item(number).column, number, keys, key)?;
         if count < least {
             least = count;
             best = number;
@@ -227,7 +231,7 @@ fn count_in(
     keys: &Seen,
     key: &mut Values<u64>,
 ) -> Result<usize, OutOfMemory> {
-    let best = best_link(alloc, links, table, keys.rows(), key)?;
+    let best = best_link(links, table, keys.rows(), key)?;
     if best < links.len() {
         let column = links.item(best).column;
         if let Some(count) = count_by(alloc, table, column, best, columns, keys.rows())? {

@@ -1,14 +1,14 @@
 //! How many rows there are about once a get is joined. Nothing rests on it but speed, so nothing here has a contract.
 use crate::found::count_found;
 use crate::links::sources_of;
-use crate::sample::read_key;
+use crate::sample::{place_in, read_key, scaled};
 use crate::seen::Seen;
 use crate::steps::{Links, Sources};
 use esto_columns::Rows;
 use esto_term::{OutOfMemory, Values};
 use std::alloc::Global;
 
-/// How many of the rows so far a guess looks at.
+/// How many of the rows so far a guess looks at, at most.
 const SAMPLE: usize = 1_024;
 
 /// Puts the codes that the sources name in the row at the place, if there is one, after the keys, if they are new. They
@@ -27,8 +27,8 @@ fn put_key(
     keys.put_new(alloc, key.items())
 }
 
-/// Puts the codes that the sources name in some of the rows, which are spread evenly over all, after the keys. They are
-/// read into the list.
+/// Puts the codes that the sources name in some of the rows, one of each stretch of them, after the keys. They are read
+/// into the list.
 fn put_each_key(
     alloc: Global,
     rows: &Rows,
@@ -37,13 +37,13 @@ fn put_each_key(
     keys: &mut Seen,
 ) -> Result<(), OutOfMemory> {
     let step = rows.len() / SAMPLE + 1;
-    'sample: for turn in 0..SAMPLE.min(rows.len()) {
-        put_key(alloc, rows, step.saturating_mul(turn), sources, key, keys)?;
+    'sample: for turn in 0..rows.len() / step {
+        put_key(alloc, rows, place_in(turn, step), sources, key, keys)?;
     }
     Ok(())
 }
 
-/// Puts the codes that the links name in some of the rows, which are spread evenly over all, after the keys.
+/// Puts the codes that the links name in some of the rows, one of each stretch of them, after the keys.
 fn put_some_keys(
     alloc: Global,
     rows: &Rows,
@@ -66,12 +66,12 @@ fn count_joined(
 ) -> Result<usize, OutOfMemory> {
     put_some_keys(alloc, so_far, links, keys)?;
     let found = count_found(alloc, links, table, keys)?;
-    Ok(found.saturating_mul(so_far.len()) / keys.len().max(1))
+    Ok(scaled(found, keys.len(), so_far.len()))
 }
 
 /// How many rows there are about once the table's rows are joined by the links: each of the rows so far is taken to
-/// have as many followers as some of them have on average. It serves to choose an order of joins, and is no more than a
-/// guess.
+/// have as many followers as each of the different keys of some of them has on average, however many rows hold it. It
+/// serves to choose an order of joins, and is no more than a guess.
 pub fn guessed_count(
     alloc: Global,
     links: &Links,

@@ -16,7 +16,7 @@ use std::alloc::Global;
 
 /// Places among which are those of all rows that meet the link with the cells. `None` may come where the rows have no
 /// index by the link's column.
-pub(crate) fn places_met(
+fn places_met(
     alloc: Global,
     rows: &Rows,
     cells: &[u64],
@@ -29,14 +29,6 @@ pub(crate) fn places_met(
         return Ok(Some(Vec::new(alloc)));
     };
     rows.places(alloc, &[link.column], &[code])
-}
-
-/// How many of these places there are; more than there can be where none are given.
-pub(crate) fn how_many(places: Option<Vec<usize>>) -> usize {
-    match places {
-        Some(places) => places.len(),
-        None => usize::MAX,
-    }
 }
 
 /// Places among which are those of all rows that meet the links with the cells, by the first link whose column has an

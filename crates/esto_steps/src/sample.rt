@@ -8,7 +8,8 @@ use esto_term::{OutOfMemory, Values};
 /// By what the number of a stretch is multiplied to scatter the places that are looked at.
 const FACTOR: u64 = 0x9E37_79B9_7F4A_7C15;
 
-/// How many there are among all, where so many were counted among some of them.
+/// How many there are among all, where so many were counted among some of them; too few where the product with the
+/// number of all is more than a word holds.
 pub(crate) fn scaled(count: usize, looked: usize, all: usize) -> usize {
     count.saturating_mul(all) / looked.max(1)
 }
