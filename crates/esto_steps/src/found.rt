@@ -1,10 +1,11 @@
-//! How many of a table's rows have one of some keys. Nothing rests on it but speed, so nothing here says what it gives.
+//! How many followers rows of a sample have in a table. Nothing rests on it but speed, so nothing here says what it
+//! gives.
 ghost use Rattle.std.specs.Prelude.{◌<◌, length};
 
 use crate::cost::places_given;
+use crate::keys::Keys;
 use crate::links::columns_of;
 use crate::sample::{place_in, read_key, scaled};
-use crate::seen::Seen;
 use crate::steps::{Links, Sources};
 use esto_columns::Rows;
 use esto_term::{OutOfMemory, Values};
@@ -19,12 +20,13 @@ const MOST: usize = 65_536;
 /// How many of the places that an index gives for a key are looked at.
 const PER_KEY: usize = 512;
 
-/// How many rows were counted, how many places were found for their keys, and two keys that are read anew: the one that
-/// is looked for, and that of a row.
+/// How many followers were counted, how many places were found for the keys, how many rows of the sample have the key
+/// that is looked for, and two keys that are read anew: this one, and that of a row.
 #[derive(Drop)]
 struct Counts {
-    rows: usize,
+    followers: usize,
     places: usize,
+    having: usize,
     key: Values<u64>,
     own: Values<u64>,
 }
@@ -33,8 +35,9 @@ impl Counts {
     /// Nothing is counted at first.
     fn new(alloc: Global) -> Counts {
         Counts {
-            rows: 0,
+            followers: 0,
             places: 0,
+            having: 0,
             key: Values::new(alloc),
             own: Values::new(alloc),
         }
@@ -49,24 +52,23 @@ fn place_at(places: &[usize], at: usize) -> usize {
     }
 }
 
-/// How many of the rows have one of the keys in the columns, by a look at one of each stretch of them. Their keys are
-/// read into the list.
+/// How many followers the sample with the keys has among the rows, by their columns and a look at one of each stretch
+/// of them. Their keys are read into the list.
 fn count_some(
     rows: &Rows,
     columns: &Sources,
-    keys: &Seen,
+    keys: &Keys,
     key: &mut Values<u64>,
 ) -> Result<usize, OutOfMemory> {
     let step = rows.len() / LOOKED + 1;
     let looked = rows.len() / step;
-    let mut count: usize = 0;
+    let mut followers: usize = 0;
     'rows: for turn in 0..looked {
-        let named = read_key(rows, place_in(turn, step), columns, key)?;
-        if named && keys.has(key.items()) {
-            count = count.saturating_add(1);
+        if read_key(rows, place_in(turn, step), columns, key)? {
+            followers = followers.saturating_add(keys.count_of(key.items()));
         }
     }
-    Ok(scaled(count, looked, rows.len()))
+    Ok(scaled(followers, looked, rows.len()))
 }
 
 /// How many of the rows at the places have the key in the columns, by a look at one of each stretch of them.
@@ -113,8 +115,8 @@ fn places_of(
     rows.places(alloc, &[column], &[*code])
 }
 
-/// Counts those of the rows at the places that have the key in the columns, and the places. Tells whether so many
-/// serve so far: too many are not looked at.
+/// Counts those of the rows at the places that have the key in the columns, for each row of the sample that has it, and
+/// the places. Tells whether so many serve so far: too many are not looked at.
 fn count_places(
     rows: &Rows,
     places: &[usize],
@@ -126,12 +128,13 @@ fn count_places(
         return Ok(false);
     }
     let count = count_key(rows, places, columns, counts.key.items(), &mut counts.own)?;
-    counts.rows = counts.rows.saturating_add(count);
+    let followers = count.saturating_mul(counts.having);
+    counts.followers = counts.followers.saturating_add(followers);
     Ok(true)
 }
 
-/// Counts the rows that have the key at the place in the columns, by the index by the one of the number, and the places
-/// that it gives for the key. Tells whether it serves so far.
+/// Counts the rows that have the key at the place in the columns, for each row of the sample that has it, by the index
+/// by the column of the number, and the places that it gives for the key. Tells whether it serves so far.
 fn count_key_by(
     alloc: Global,
     rows: &Rows,
@@ -150,23 +153,25 @@ fn count_key_by(
     }
 }
 
-/// How many of the rows have one of the keys in the columns, by the index by the one of the number, where these counts
-/// are gone on with; none where it gives too many places.
+/// How many followers the sample with the keys has among the rows, by their columns and the index by the one of the
+/// number, where these counts are gone on with; none where it gives too many places.
 fn count_each_by(
     alloc: Global,
     rows: &Rows,
     column: usize,
     number: usize,
     columns: &Sources,
-    keys: &Rows,
+    keys: &Keys,
     counts: &mut Counts,
 ) -> Result<Option<usize>, OutOfMemory> {
-    'keys: for at in 0..keys.len() {
-        if !count_key_by(alloc, rows, column, number, columns, keys, at, counts)? {
+    let different = keys.rows();
+    'keys: for at in 0..different.len() {
+        counts.having = keys.count_at(at);
+        if !count_key_by(alloc, rows, column, number, columns, different, at, counts)? {
             return Ok(None);
         }
     }
-    Ok(Some(counts.rows))
+    Ok(Some(counts.followers))
 }
 
 /// The same, where nothing is counted at first.
@@ -176,7 +181,7 @@ fn count_by(
     column: usize,
     number: usize,
     columns: &Sources,
-    keys: &Rows,
+    keys: &Keys,
 ) -> Result<Option<usize>, OutOfMemory> {
     let mut counts = Counts::new(alloc);
     count_each_by(alloc, rows, column, number, columns, keys, &mut counts)
@@ -221,33 +226,33 @@ fn best_link(
     Ok(best)
 }
 
-/// How many of the table's rows have one of the keys in the columns, which are those of the links, about. Keys are read
-/// into the list.
+/// How many followers the sample with the keys has among the table's rows, about, by the columns, which are those of the
+/// links. Keys are read into the list.
 fn count_in(
     alloc: Global,
     links: &Links,
     table: &Rows,
     columns: &Sources,
-    keys: &Seen,
+    keys: &Keys,
     key: &mut Values<u64>,
 ) -> Result<usize, OutOfMemory> {
     let best = best_link(links, table, keys.rows(), key)?;
     if best < links.len() {
         let column = links.item(best).column;
-        if let Some(count) = count_by(alloc, table, column, best, columns, keys.rows())? {
+        if let Some(count) = count_by(alloc, table, column, best, columns, keys)? {
             return Ok(count);
         }
     }
     count_some(table, columns, keys, key)
 }
 
-/// How many of the table's rows have one of the keys in the columns of the links, about: by an index by one of these
-/// where it serves, and else by a look at some of the rows.
+/// How many followers the sample with the keys has among the table's rows by the links, about: by an index by one of
+/// their columns where it serves, and else by a look at some of the rows.
 pub(crate) fn count_found(
     alloc: Global,
     links: &Links,
     table: &Rows,
-    keys: &Seen,
+    keys: &Keys,
 ) -> Result<usize, OutOfMemory> {
     let columns = columns_of(alloc, links)?;
     let mut key = Values::new(alloc);

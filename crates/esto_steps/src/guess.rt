@@ -1,8 +1,8 @@
 //! How many rows there are about once a get is joined. Nothing rests on it but speed, so nothing here has a contract.
 use crate::found::count_found;
+use crate::keys::Keys;
 use crate::links::sources_of;
 use crate::sample::{place_in, read_key, scaled};
-use crate::seen::Seen;
 use crate::steps::{Links, Sources};
 use esto_columns::Rows;
 use esto_term::{OutOfMemory, Values};
@@ -11,30 +11,30 @@ use std::alloc::Global;
 /// How many of the rows so far a guess looks at, at most.
 const SAMPLE: usize = 1_024;
 
-/// Puts the codes that the sources name in the row at the place, if there is one, after the keys, if they are new. They
-/// are read into the list.
+/// Takes the codes that the sources name in the row at the place, if there is one, as a key. They are read into the
+/// list.
 fn put_key(
     alloc: Global,
     rows: &Rows,
     at: usize,
     sources: &Sources,
     key: &mut Values<u64>,
-    keys: &mut Seen,
+    keys: &mut Keys,
 ) -> Result<(), OutOfMemory> {
     if !read_key(rows, at, sources, key)? {
         return Ok(());
     }
-    keys.put_new(alloc, key.items())
+    keys.take(alloc, key.items())
 }
 
-/// Puts the codes that the sources name in some of the rows, one of each stretch of them, after the keys. They are read
-/// into the list.
+/// Takes the codes that the sources name in some of the rows, one of each stretch of them, as keys. They are read into
+/// the list.
 fn put_each_key(
     alloc: Global,
     rows: &Rows,
     sources: &Sources,
     key: &mut Values<u64>,
-    keys: &mut Seen,
+    keys: &mut Keys,
 ) -> Result<(), OutOfMemory> {
     let step = rows.len() / SAMPLE + 1;
     'sample: for turn in 0..rows.len() / step {
@@ -43,12 +43,12 @@ fn put_each_key(
     Ok(())
 }
 
-/// Puts the codes that the links name in some of the rows, one of each stretch of them, after the keys.
+/// Takes the codes that the links name in some of the rows, one of each stretch of them, as keys.
 fn put_some_keys(
     alloc: Global,
     rows: &Rows,
     links: &Links,
-    keys: &mut Seen,
+    keys: &mut Keys,
 ) -> Result<(), OutOfMemory> {
     let sources = sources_of(alloc, links)?;
     let mut key = Values::new(alloc);
@@ -56,22 +56,22 @@ fn put_some_keys(
 }
 
 /// How many rows there are about once the table's rows are joined by the links with the rows so far. The keys of some
-/// of these are put after the keys, of which there are none.
+/// of these are taken, after none.
 fn count_joined(
     alloc: Global,
     links: &Links,
     table: &Rows,
     so_far: &Rows,
-    keys: &mut Seen,
+    keys: &mut Keys,
 ) -> Result<usize, OutOfMemory> {
     put_some_keys(alloc, so_far, links, keys)?;
     let found = count_found(alloc, links, table, keys)?;
-    Ok(scaled(found, keys.len(), so_far.len()))
+    Ok(scaled(found, keys.sampled(), so_far.len()))
 }
 
 /// How many rows there are about once the table's rows are joined by the links: each of the rows so far is taken to
-/// have as many followers as each of the different keys of some of them has on average, however many rows hold it. It
-/// serves to choose an order of joins, and is no more than a guess.
+/// have as many followers as some of them have on average. It serves to choose an order of joins, and is no more than a
+/// guess.
 pub fn guessed_count(
     alloc: Global,
     links: &Links,
@@ -81,6 +81,6 @@ pub fn guessed_count(
     if links.is_empty() {
         return Ok(so_far.len().saturating_mul(table.len()));
     }
-    let mut keys = Seen::new(alloc, links.len(), SAMPLE.min(so_far.len()))?;
+    let mut keys = Keys::new(alloc, links.len(), SAMPLE.min(so_far.len()))?;
     count_joined(alloc, links, table, so_far, &mut keys)
 }

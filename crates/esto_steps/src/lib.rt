@@ -9,6 +9,7 @@ mod found;
 mod guess;
 mod index;
 mod join;
+mod keys;
 mod links;
 mod probe;
 mod project;

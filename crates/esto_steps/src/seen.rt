@@ -65,12 +65,17 @@ impl Seen {
         self.rows.add(row)
     }
 
-    /// Puts the row at the end, unless it was seen or has another arity.
+    /// Puts the row at the end, unless it has another arity.
     pub(crate) fn put_new(&mut self, alloc: Global, row: &[u64]) -> Result<(), OutOfMemory> {
-        if row.len() != self.rows.arity() || self.has(row) {
+        if row.len() != self.rows.arity() {
             return Ok(());
         }
         self.put(alloc, row)
+    }
+
+    /// The place where the row stands, if it was seen, as far as a look at those of its bucket tells.
+    pub(crate) fn place_of(&self, row: &[u64]) -> Option<usize> {
+        self.rows.find(&self.index, row)
     }
 
     /// How many rows were seen.
