@@ -95,7 +95,7 @@ fn answers_by(
 }
 
 /// The answers of the query over the relations. Constants of the query get codes.
-pub(crate) fn answers_over(
+fn answers_over(
     alloc: Global,
     head: &[Term],
     body: &[Atom],

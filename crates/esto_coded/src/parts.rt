@@ -15,7 +15,7 @@ use esto_term::{OutOfMemory, Term};
 use std::alloc::Global;
 
 /// The codes of those rows of matches of one half that agree with another on the codes among the first so many but for
-/// the first.
+/// the first, and differ from it in the first.
 fn apart_codes(alloc: Global, rows: &Rows, width: usize) -> Result<CodeSet, OutOfMemory>
     requires some { 0 < width }
     requires wide { width ≤ rows.now.arity }

@@ -149,7 +149,8 @@ fn audit_trial<S: Shelf>(
     audit_facts(alloc, shelf, catalogue, trial, &files, coded)
 }
 
-/// Loads all datasets, as far as the audit rests on them, and audits their facts.
+/// Loads all datasets, as far as the audit rests on them, and tells whether their facts meet the rules and the
+/// fragments' files hold the rows of their views; Differs comes with the first difference.
 pub fn audit_catalogue<S: Shelf>(
     alloc: Global,
     shelf: &mut S,

@@ -49,7 +49,7 @@ pub fn rows_of(alloc: Global, query: &Query, coded: &mut CodedData) -> Result<Ro
         .answers(alloc, query.head.items(), query.body.items())
 }
 
-/// As `answer`, over whatever facts the rows of codes stand for.
+/// As `esto_fill::answer`, over whatever facts the rows of codes stand for.
 pub fn answer_coded(
     alloc: Global,
     query: &Query,

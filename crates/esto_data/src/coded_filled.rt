@@ -16,7 +16,7 @@ use esto_mapping::{Catalogue, catalogues_are_sound};
 use esto_term::Bytes;
 use std::alloc::Global;
 
-/// As `fill`, over whatever facts the rows of codes stand for.
+/// As `esto_fill::fill`, over whatever facts the rows of codes stand for.
 pub fn fill_coded(
     alloc: Global,
     catalogue: &Catalogue,

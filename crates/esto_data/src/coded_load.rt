@@ -110,8 +110,8 @@ fn put_file(
     }
 }
 
-/// Puts, of the facts of the file of the dataset of that number, whose nodes are numbered from `next` on, those that
-/// are wanted; or the file has a fault, and this is the first, whatever is wanted. Where not all facts are wanted,
+/// Puts, of the facts of the file of the dataset of that number, whose nodes are numbered from `coded.next` on, those
+/// that are wanted; or the file has a fault, and this is the first, whatever is wanted. Where not all facts are wanted,
 /// others of wanted relations may be put too. OutOfMemory comes too where a node has no number of 64 bits, or no code.
 pub fn load_coded(
     alloc: Global,

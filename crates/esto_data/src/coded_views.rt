@@ -19,8 +19,8 @@ use esto_query::{Query, queries_are_sound};
 use esto_semantics::databases_stand_for_facts;
 use std::alloc::Global;
 
-// Whether no row of the view holds a node. No rows are looked at where each term of its head stands in a column that
-// holds no node.
+// Whether no row of the view holds a node. No rows are looked at where each term of its head is a constant or stands in
+// a column that holds no node.
 fn judge_view(alloc: Global, view: &Query, coded: &mut CodedData) -> Result<(), AnswerError>
     ensures rows { (loaded : Loaded) → IsCodedOf loaded coded.old
         → JudgesRows (IsAnswer (query_of view.now) (database_of loaded.facts)) result }
@@ -40,7 +40,7 @@ fn judge_view(alloc: Global, view: &Query, coded: &mut CodedData) -> Result<(), 
     }
 }
 
-/// As `audit_views`, over whatever facts the rows of codes stand for.
+/// As `esto_fill::audit_views`, over whatever facts the rows of codes stand for.
 pub fn audit_views_coded(
     alloc: Global,
     catalogue: &Catalogue,

@@ -93,7 +93,8 @@ fn fill_fragment<S: Shelf>(
     Ok(Reply::Done(text))
 }
 
-/// Finds the fragment of the name, and fills its file.
+/// The text of the file of the fragment of the name, made from the facts of the datasets that its view names.
+/// NoSuchFragment comes where no fragment has the name.
 pub fn fill_named<S: Shelf>(
     alloc: Global,
     shelf: &mut S,

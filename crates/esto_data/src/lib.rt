@@ -1,4 +1,4 @@
-//! What the commands on data do over a catalogue that is read: `fill_named` writes the file of a fragment,
+//! What the commands on data do over a catalogue that is read: `fill_named` gives the text of a fragment's file,
 //! `answer_queries` answers a union of queries, and `audit_catalogue` compares, each over the facts of the datasets'
 //! files, which are loaded as rows of codes.
 #![tactic(auto)]

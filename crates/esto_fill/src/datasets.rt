@@ -161,8 +161,8 @@ fn add_file(
 
 /// What was loaded, and after it, of the facts of the file of the dataset of that number, whose nodes are numbered from
 /// `next` on, those that are wanted, all of them in order; or the file has a fault, and this is the first, whatever is
-/// wanted. Where not all facts are wanted, others of wanted relations may be left too. OutOfMemory comes too where a node
-/// has no number of 64 bits.
+/// wanted. Where not all facts are wanted, others of wanted relations may be among them. OutOfMemory comes too where a
+/// node has no number of 64 bits.
 pub fn load_dataset(
     alloc: Global,
     catalogue: &Catalogue,

@@ -32,9 +32,9 @@ pub fn difference_of(
     Ok(Some(Difference::Rule(own, cells)))
 }
 
-/// The difference of the rule of the number, which is counted from 0, from its least active match in a part of the facts that
-/// are loaded: the first of an audit of all, where the rule is tried and those facts meet each rule before it that is tried.
-/// None comes only where the part meets the rule.
+/// The difference of the rule of the number, counted from 0, with the record of its least active match in a part of the
+/// loaded facts. It is the first difference of an audit where the rule is tried, the loaded facts meet each rule before
+/// it that is tried, and the part is theirs for the rule. None comes only where the part meets the rule.
 pub fn difference_in(
     alloc: Global,
     catalogue: &Catalogue,

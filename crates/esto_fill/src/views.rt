@@ -85,7 +85,7 @@ fn judge_views(alloc: Global, catalogue: &Catalogue, loaded: &Loaded) -> Result<
 
 /// Whether no row of a fragment's view over the database of the facts holds a node. NodeInRow comes exactly where one
 /// does, with the least column that has one in the rows of the first such fragment, counted from 1.
-// No rows are looked at where each term of each view's head stands in a column that holds no node.
+// No rows are looked at where each term of each view's head is a constant or stands in a column that holds no node.
 pub fn audit_views(alloc: Global, catalogue: &Catalogue, loaded: &Loaded) -> Result<(), AnswerError>
     ensures { JudgesViews (views_of catalogue.now.fragments)
         (database_of loaded.now.facts) result }

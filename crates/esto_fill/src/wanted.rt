@@ -68,7 +68,7 @@ pub fn add_body(alloc: Global, body: &Atoms, bodies: &mut Bodies) -> Result<(), 
     bodies.push(own)
 }
 
-/// Those to which an atom of the body can go.
+/// The facts to which an atom of the body can go.
 pub fn wanted_by_body(alloc: Global, body: &Atoms) -> Result<Wanted, OutOfMemory>
     ensures { IfOk result (λ it. it ≡ wanted.Asked (body.now ∷ [])) }
 {
@@ -77,7 +77,7 @@ pub fn wanted_by_body(alloc: Global, body: &Atoms) -> Result<Wanted, OutOfMemory
     Ok(Wanted::Asked(bodies))
 }
 
-/// Those to which an atom of one of the queries can go.
+/// The facts to which an atom of one of the queries can go.
 pub fn wanted_by_queries(alloc: Global, queries: &[Query]) -> Result<Wanted, OutOfMemory>
     ensures { IfOk result (λ it. it
         ≡ wanted.Asked (map (λ query. (query_of query).body) queries.now)) }
@@ -172,8 +172,9 @@ fn wanted_texts(alloc: Global, wanted: &Wanted, relation: usize) -> Result<KeptT
     }
 }
 
-/// Of the facts of documents, whose five relations stand from the base on, those that are wanted: of `field` and `value` by
-/// the name and the text too. OutOfMemory comes too where one of the relations has no number of 64 bits.
+/// What is kept of the facts of documents, whose five relations have the numbers from `base` on: those of each wanted
+/// relation; but of `field` and of `value`, where each wanted atom over it has a constant at the second place, those
+/// with one of these texts alone. OutOfMemory comes too where a relation has no number of 64 bits.
 pub fn kept_for(alloc: Global, wanted: &Wanted, base: usize) -> Result<Kept, OutOfMemory>
     ensures { IfOk result (IsKeptFor wanted.now base) }
 {

@@ -17,7 +17,8 @@ use esto_term::{List, OutOfMemory, Replicate, Term, Terms};
 use esto_views::{Access, AccessList, FragmentDefs, Order, Plan, PlanAtom};
 use std::alloc::Global;
 
-/// A source of the term among the bound ones and the atom's own before it, or None where the term is new.
+/// A source of the term: its code, which a constant gets, or else its place among the bound ones and the atom's own
+/// before it. None comes where the term is new.
 fn source_of(
     term: &Term,
     bound: &[Term],
@@ -47,7 +48,8 @@ fn source_of(
     }
 }
 
-/// Puts the link of the column at the end, if its term is known among the bound ones and the atom's own, so many.
+/// Puts the link of the column at the end, if its term is a constant, a bound one, or one of so many first ones of the
+/// atom.
 fn push_link(
     links: &mut Links,
     terms: &[Term],
@@ -68,7 +70,8 @@ fn push_link(
     links.push(Link { column, source })
 }
 
-/// Puts the link of the column to the inputs where it is one, else to the filters.
+/// Puts the link of the column at the end of the inputs where it is one of them, else of the filters if its term is
+/// known.
 fn add_column(
     get: &mut Get,
     access: &Access,

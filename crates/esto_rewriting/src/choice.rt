@@ -5,7 +5,9 @@ ghost use Rattle.esto_rewriting.specs.Planning.{chooses};
 use esto_list::Listing;
 use esto_status::Status;
 
-/// The place of the item of the list that is chosen: the pick, or that of the number, counted from 1.
+/// The place, counted from 0, of the item of the list that is chosen: the pick, or that of the number, counted from 1;
+/// 0 is taken as 1. NoRewriting comes exactly where the list is empty; else NoSuchNumber, with the number and how many
+/// items there are, where the number is greater.
 pub fn choose(listing: &Listing, number: Option<u64>) -> Result<usize, Status>
     ensures { Answers (chooses listing.now number) ⊥ result }
 {

@@ -62,7 +62,8 @@ fn explain_plan(
     Ok(text)
 }
 
-/// Makes the query's printed plan, and writes a certificate for the set of the number.
+/// Makes the query's printed plan, and writes a certificate for the set of the number in its list, counted from 1.
+/// Unsatisfiable comes where the query has no plan, and else what `choose` refuses.
 pub fn explain_query(
     alloc: Global,
     query: &Query,

@@ -96,7 +96,10 @@ fn verify_set<S: Shelf>(
     judged(alloc, &bytes, set, plan, query, catalogue)
 }
 
-/// Makes the query's printed plan and the set of its atoms of these numbers, and verifies the certificate for the set.
+/// Makes the query's printed plan and the set of its atoms of these numbers, counted from 1, and verifies the
+/// certificate for the set. Unsatisfiable comes where the query has no plan, else NoSuchNumber for the first number that
+/// no atom has since it is too great, else what `fetch` refuses, and Rejected with the line where the certificate is
+/// rejected.
 pub fn verify_query<S: Shelf>(
     alloc: Global,
     shelf: &mut S,

@@ -62,7 +62,9 @@ fn open_next<S: Shelf>(
 }
 
 /// Opens the files of the fragments of the numbers, in order: each is fetched, and its content read, before the next is
-/// fetched. Gives the rows of all fragments, of which the others have none.
+/// fetched. Gives the rows of all fragments, of which the others have none. What stops it is the first file that can't
+/// be fetched, with the status of `fetch`, or whose content has a fault, with BadFragment, the fragment's name and the
+/// first fault.
 pub fn open_fragments<S: Shelf>(
     alloc: Global,
     shelf: &mut S,

@@ -1,6 +1,6 @@
-//! The run of a rewriting: from the files of fragments, opened one after the other, to the text of a query's answers. Start from
-//! `fragments_of_set`, `open_fragment` and `run_text`; for several sets
-//! together, from `fragments_of_picks` and `text_of_picks`.
+//! The run of a rewriting: from the files of fragments, opened one after the other, to the text of a query's answers.
+//! Start from `fragments_of_set`, `open_fragments` and `run_text`; for several sets together, from
+//! `fragments_of_picks`, `open_fragments` and `text_of_picks`.
 #![tactic(auto)]
 
 mod answers;

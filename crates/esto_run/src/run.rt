@@ -105,8 +105,9 @@ pub fn rows_of_set(
     sorted_texts(alloc, &answers.rows, &answers.codes)
 }
 
-/// The text of the answers of the candidate of a set of the plan's atoms over the rows of the fragments, under the names
-/// of the query's head, which is as long as the plan's. The set is given by an order of it, and is safe.
+/// The text of the answers of the candidate of a set of the plan's atoms over the rows of the fragments, each once and
+/// cell by cell by bytes, under the names of the query's head, which is as long as the plan's. The set is given by an
+/// order of it, and is safe.
 pub fn run_text(
     alloc: Global,
     query: &Query,

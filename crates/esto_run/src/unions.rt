@@ -20,21 +20,6 @@ use esto_term::{Bytes, OutOfMemory};
 use esto_views::FragmentDefs;
 use std::alloc::Global;
 
-/// Puts the rows at the end of the others.
-fn append_rows(alloc: Global, rows: &Rows, into: &mut Rows) -> Result<(), OutOfMemory>
-    requires { rows.now.arity ≡ into.old.arity }
-    ensures { OnOk result (into.new
-        ≡ record { arity = into.old.arity; rows = into.old.rows ++ rows.now.rows }) }
-{
-    // the arity is read so that each row is known to have as many codes
-    let _arity = rows.arity();
-    'rows: for at in 0..rows.len() {
-        let row = rows.row(alloc, at)?;
-        into.add(row.items())?;
-    }
-    Ok(())
-}
-
 /// Puts the answers of the pick's candidate over the stored rows at the end of the rows, as codes.
 fn add_answers(
     alloc: Global,
@@ -58,7 +43,7 @@ fn add_answers(
         (queries ++ candidate_of pick.now ∷ []))) }
 {
     let own = coded_answers(alloc, pick.order, pick.plan, fragments, stored, codes)?;
-    append_rows(alloc, &own, rows)
+    rows.add_all(alloc, &own)
 }
 
 /// The answers of the picks' candidates over the stored rows, as rows of so many codes.

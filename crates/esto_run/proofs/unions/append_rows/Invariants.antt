@@ -1,5 +1,0 @@
-use Rattle.std.proofs.Common.{◌≡◌, ◌++◌, take}
-use Rattle.esto_run.proofs.unions.append_rows.Given as goal
-
-abbrev pub invariant-rows : goal.invariant-rows
-invariant-rows l = l.into ≡ record { arity = l.initial.into.arity; rows = l.initial.into.rows ++ take l.at l.rows.rows }
