@@ -14,7 +14,7 @@ use crate::codes::{each_met, each_passed, name_codes};
 use crate::index::index_of;
 use crate::links::{columns_of, sources_of};
 use crate::seen::{Seen, put_unseen};
-use crate::steps::{Get, Links, Sources};
+use crate::steps::{Get, Links, Source, Sources};
 use esto_columns::{Index, Rows};
 use esto_term::{OutOfMemory, Values};
 use std::alloc::Global;
@@ -27,12 +27,13 @@ pub struct Join<'a> {
 }
 
 /// Lists that are filled anew for each row: the cells of a row so far and its key, and what is kept of the cells with
-/// those of a row of the fragment after them.
+/// those of a row of the fragment after them; and from which place on those are put that follow the row so far.
 #[derive(Drop)]
 pub(crate) struct Buffers {
     pub(crate) cells: Values<u64>,
     key: Values<u64>,
     kept: Values<u64>,
+    first: usize,
 }
 
 impl Buffers {
@@ -42,6 +43,7 @@ impl Buffers {
             cells: Values::new(alloc),
             key: Values::new(alloc),
             kept: Values::new(alloc),
+            first: 0,
         }
     }
 }
@@ -81,7 +83,7 @@ pub(crate) fn push_follower(
     if !name_codes(cells, rows, place, join.kept, &mut buffers.kept)? {
         return Ok(());
     }
-    put_unseen(alloc, into, buffers.kept.items())
+    put_unseen(alloc, into, buffers.first, buffers.kept.items())
 }
 
 /// Puts what is kept of the cells with each of the rows that follows them at the end, of the rows whose keys are in one
@@ -138,6 +140,7 @@ fn push_joined(
         return Ok(());
     }
     so_far.read_row(at, &mut buffers.cells)?;
+    buffers.first = into.len();
     push_followers(alloc, join, rows, index, buffers, into)
 }
 
@@ -211,6 +214,39 @@ fn push_by_index(
     )
 }
 
+/// Whether the cell at the place is kept.
+fn is_kept(kept: &Sources, place: usize) -> bool {
+    'sources: for source in kept.items() {
+        if let Source::Cell(other) = source {
+            if *other == place {
+                return true;
+            }
+        }
+    }
+    false
+}
+
+/// Whether the first cells are kept, so many.
+fn are_kept(kept: &Sources, count: usize) -> bool {
+    'cells: for place in 0..count {
+        if !is_kept(kept, place) {
+            return false;
+        }
+    }
+    true
+}
+
+/// No rows of what is kept, with memory for as many as there are so far. Where all cells of these are kept, those that
+/// follow different ones differ.
+fn none_kept(alloc: Global, kept: &Sources, so_far: &Rows) -> Result<Seen, OutOfMemory>
+    ensures { IfOk result (λ it. it ≡ record { arity = length kept.now; rows = [] }) }
+{
+    if are_kept(kept, so_far.arity()) {
+        return Seen::in_stretches(alloc, kept.len(), so_far.len());
+    }
+    Seen::new(alloc, kept.len(), so_far.len())
+}
+
 /// What is kept of the rows so far, each with every one of the rows that follows it after it, by an index of the rows
 /// by the columns of the links, which each row meets that follows one so far.
 pub(crate) fn joined_over(
@@ -228,7 +264,7 @@ pub(crate) fn joined_over(
     ensures { IfOk result (λ it. (row : List ℕ) → Contains it.rows row
         ↔ IsKept join.now.kept.now (IsJoin join.now.get.now so_far.now.rows rows.now.rows) row) }
 {
-    let mut joined = Seen::new(alloc, join.kept.len(), so_far.len())?;
+    let mut joined = none_kept(alloc, join.kept, so_far)?;
     push_by_index(alloc, join, so_far, rows, links, index, &mut joined)?;
     Ok(joined.into_rows())
 }
