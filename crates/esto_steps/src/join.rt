@@ -33,7 +33,7 @@ pub(crate) struct Buffers {
     pub(crate) cells: Values<u64>,
     key: Values<u64>,
     kept: Values<u64>,
-    pub(crate) first: usize,
+    first: usize,
 }
 
 impl Buffers {
@@ -140,7 +140,7 @@ fn push_joined(
         return Ok(());
     }
     so_far.read_row(at, &mut buffers.cells)?;
-    buffers.first = into.next_stretch();
+    buffers.first = into.len();
     push_followers(alloc, join, rows, index, buffers, into)
 }
 
@@ -236,15 +236,15 @@ fn are_kept(kept: &Sources, count: usize) -> bool {
     true
 }
 
-/// No rows of what is kept, with memory for as many as there are so far. Where all cells of these are kept, and there is
-/// one, those that follow different ones differ.
-pub(crate) fn none_kept(alloc: Global, kept: &Sources, so_far: &Rows) -> Result<Seen, OutOfMemory>
+/// No rows of what is kept, with memory for as many as there are so far. Where all cells of these are kept, those that
+/// follow different ones differ.
+fn none_kept(alloc: Global, kept: &Sources, so_far: &Rows) -> Result<Seen, OutOfMemory>
     ensures { IfOk result (λ it. it ≡ record { arity = length kept.now; rows = [] }) }
 {
-    if so_far.arity() > 0 && are_kept(kept, so_far.arity()) {
+    if are_kept(kept, so_far.arity()) {
         return Seen::in_stretches(alloc, kept.len(), so_far.len());
     }
-    Seen::for_many(alloc, kept.len(), so_far.len())
+    Seen::new(alloc, kept.len(), so_far.len())
 }
 
 /// What is kept of the rows so far, each with every one of the rows that follows it after it, by an index of the rows

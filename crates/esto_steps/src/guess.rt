@@ -1,8 +1,10 @@
-//! Guesses of how many rows there are once a get is joined.
+//! How many rows there are about once a get is joined. Nothing rests on it but speed, so nothing here has a contract.
 use crate::found::count_found;
 use crate::keys::Keys;
+use crate::links::sources_of;
+use crate::sample::{place_in, read_key, scaled};
+use crate::steps::{Links, Sources};
 use esto_columns::Rows;
-use esto_steps::{Links, Sources, place_in, read_key, scaled, sources_of};
 use esto_term::{OutOfMemory, Values};
 use std::alloc::Global;
 
@@ -12,6 +14,7 @@ const SAMPLE: usize = 1_024;
 /// Takes the codes that the sources name in the row at the place, if there is one, as a key. They are read into the
 /// list.
 fn put_key(
+    alloc: Global,
     rows: &Rows,
     at: usize,
     sources: &Sources,
@@ -21,12 +24,13 @@ fn put_key(
     if !read_key(rows, at, sources, key)? {
         return Ok(());
     }
-    keys.take(key.items())
+    keys.take(alloc, key.items())
 }
 
 /// Takes the codes that the sources name in some of the rows, one of each stretch of them, as keys. They are read into
 /// the list.
 fn put_each_key(
+    alloc: Global,
     rows: &Rows,
     sources: &Sources,
     key: &mut Values<u64>,
@@ -34,7 +38,7 @@ fn put_each_key(
 ) -> Result<(), OutOfMemory> {
     let step = rows.len() / SAMPLE + 1;
     'sample: for turn in 0..rows.len() / step {
-        put_key(rows, place_in(turn, step), sources, key, keys)?;
+        put_key(alloc, rows, place_in(turn, step), sources, key, keys)?;
     }
     Ok(())
 }
@@ -48,7 +52,7 @@ fn put_some_keys(
 ) -> Result<(), OutOfMemory> {
     let sources = sources_of(alloc, links)?;
     let mut key = Values::new(alloc);
-    put_each_key(rows, &sources, &mut key, keys)
+    put_each_key(alloc, rows, &sources, &mut key, keys)
 }
 
 /// How many rows there are about once the table's rows are joined by the links with the rows so far. The keys of some

@@ -1,9 +1,13 @@
-//! How many followers rows of a sample have in a table.
+//! How many followers rows of a sample have in a table. Nothing rests on it but speed, so nothing here says what it
+//! gives.
 ghost use Rattle.std.specs.Prelude.{◌<◌, length};
 
+use crate::cost::places_given;
 use crate::keys::Keys;
+use crate::links::columns_of;
+use crate::sample::{place_in, read_key, scaled};
+use crate::steps::{Links, Sources};
 use esto_columns::Rows;
-use esto_steps::{Links, Sources, columns_of, place_in, places_given, read_key, scaled};
 use esto_term::{OutOfMemory, Values};
 use std::alloc::Global;
 

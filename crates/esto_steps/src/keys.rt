@@ -1,13 +1,13 @@
-//! Keys of a sample of rows.
-use esto_columns::{Index, Rows};
+//! Keys of a sample of rows. Nothing rests on it but speed, so nothing here has a contract.
+use crate::seen::Seen;
+use esto_columns::Rows;
 use esto_term::{OutOfMemory, Values};
 use std::alloc::Global;
 
-/// The different keys of a sample of rows, with an index of them, and how many rows of the sample have each.
+/// The different keys of a sample of rows, and how many rows of it have each.
 #[derive(Drop)]
 pub(crate) struct Keys {
-    rows: Rows,
-    index: Index,
+    seen: Seen,
     counts: Values<usize>,
     sampled: usize,
 }
@@ -15,19 +15,12 @@ pub(crate) struct Keys {
 impl Keys {
     /// No keys, of so many codes each, with memory for so many.
     pub(crate) fn new(alloc: Global, arity: usize, room: usize) -> Result<Keys, OutOfMemory> {
-        let rows = Rows::with_room(alloc, arity, room)?;
-        let index = Index::new(alloc, room)?;
+        let seen = Seen::new(alloc, arity, room)?;
         Ok(Keys {
-            rows,
-            index,
+            seen,
             counts: Values::new(alloc),
             sampled: 0,
         })
-    }
-
-    /// The number of the key, if a row of the sample has it.
-    fn number_of(&self, key: &[u64]) -> Option<usize> {
-        self.rows.find(&self.index, key)
     }
 
     /// Counts one more row with the key of the number.
@@ -38,25 +31,24 @@ impl Keys {
         }
     }
 
-    /// Counts the first row with the key, unless the key has another number of codes.
-    fn count_first(&mut self, key: &[u64]) -> Result<(), OutOfMemory> {
-        if key.len() != self.rows.arity() {
-            return Ok(());
+    /// Counts the first row with the key.
+    fn count_first(&mut self, alloc: Global, key: &[u64]) -> Result<(), OutOfMemory> {
+        self.seen.put_new(alloc, key)?;
+        if self.counts.len() < self.seen.len() {
+            return self.counts.push(1);
         }
-        self.rows.add(key)?;
-        self.index.add(key)?;
-        self.counts.push(1)
+        Ok(())
     }
 
     /// Takes a row with the key into the sample.
-    pub(crate) fn take(&mut self, key: &[u64]) -> Result<(), OutOfMemory> {
+    pub(crate) fn take(&mut self, alloc: Global, key: &[u64]) -> Result<(), OutOfMemory> {
         self.sampled = self.sampled.saturating_add(1);
-        match self.number_of(key) {
+        match self.seen.place_of(key) {
             Some(number) => {
                 self.count_again(number);
                 Ok(())
             }
-            None => self.count_first(key),
+            None => self.count_first(alloc, key),
         }
     }
 
@@ -70,7 +62,7 @@ impl Keys {
 
     /// How many rows of the sample have the key.
     pub(crate) fn count_of(&self, key: &[u64]) -> usize {
-        match self.number_of(key) {
+        match self.seen.place_of(key) {
             Some(number) => self.count_at(number),
             None => 0,
         }
@@ -83,6 +75,6 @@ impl Keys {
 
     /// The different keys, lent.
     pub(crate) fn rows(&self) -> &Rows {
-        &self.rows
+        self.seen.rows()
     }
 }
