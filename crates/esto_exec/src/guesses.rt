@@ -4,8 +4,9 @@ ghost use Rattle.esto_exec.specs.Runnable.{AreRunnable};
 
 use crate::turns::{Prepared, SoFar, links_at, nothing_done};
 use esto_columns::Rows;
+use esto_guess::guessed_count;
 use esto_order::{Cell, Edge, FanOut};
-use esto_steps::{Link, Source, Whole, guessed_count};
+use esto_steps::{Link, Source, Whole};
 use esto_term::{List, OutOfMemory, Values};
 use std::alloc::Global;
 

@@ -86,10 +86,10 @@ fn ask<F: Fragment>(
     if !name_codes(&[], so_far, at, sources, key)? {
         return Ok(());
     }
-    if seen.has(key.items()) {
+    if seen.has(0, key.items()) {
         return Ok(());
     }
-    seen.put(alloc, key.items())?;
+    seen.put(alloc, 0, key.items())?;
     push_asked(alloc, get, fragment, key.items(), asked)
 }
 

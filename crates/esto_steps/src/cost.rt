@@ -43,7 +43,7 @@ fn chain_length(index: &Index, key: &[u64], most: usize) -> usize {
 
 /// How many places the index by the column gives for the code; one more than so many where there are more, and as many
 /// as can be where there is no index.
-pub(crate) fn places_given(rows: &Rows, column: usize, code: u64, most: usize) -> usize {
+pub fn places_given(rows: &Rows, column: usize, code: u64, most: usize) -> usize {
     match rows.index_by(&[column]) {
         Some(index) => chain_length(index, &[code], most),
         None => usize::MAX,

@@ -33,7 +33,7 @@ pub(crate) struct Buffers {
     pub(crate) cells: Values<u64>,
     key: Values<u64>,
     kept: Values<u64>,
-    first: usize,
+    pub(crate) first: usize,
 }
 
 impl Buffers {
@@ -140,7 +140,7 @@ fn push_joined(
         return Ok(());
     }
     so_far.read_row(at, &mut buffers.cells)?;
-    buffers.first = into.len();
+    buffers.first = into.next_stretch();
     push_followers(alloc, join, rows, index, buffers, into)
 }
 
@@ -238,7 +238,7 @@ fn are_kept(kept: &Sources, count: usize) -> bool {
 
 /// No rows of what is kept, with memory for as many as there are so far. Where all cells of these are kept, those that
 /// follow different ones differ.
-fn none_kept(alloc: Global, kept: &Sources, so_far: &Rows) -> Result<Seen, OutOfMemory>
+pub(crate) fn none_kept(alloc: Global, kept: &Sources, so_far: &Rows) -> Result<Seen, OutOfMemory>
     ensures { IfOk result (λ it. it ≡ record { arity = length kept.now; rows = [] }) }
 {
     if are_kept(kept, so_far.arity()) {

@@ -5,11 +5,8 @@
 mod asked;
 mod codes;
 mod cost;
-mod found;
-mod guess;
 mod index;
 mod join;
-mod keys;
 mod links;
 mod probe;
 mod project;
@@ -21,10 +18,12 @@ mod terms;
 mod whole;
 
 pub use asked::asked_rows;
-pub use guess::guessed_count;
+pub use cost::places_given;
 pub use join::Join;
+pub use links::{columns_of, sources_of};
 pub use project::projected;
 pub use reads::joined_firsts;
+pub use sample::{place_in, read_key, scaled};
 pub use steps::{Get, Gets, Link, Links, Source, Sources, Steps};
 pub use terms::place_of;
 pub use whole::Whole;

@@ -48,7 +48,7 @@ pub(crate) fn early_links(alloc: Global, get: &Get, width: usize) -> Result<Link
 }
 
 /// The sources of the links.
-pub(crate) fn sources_of(alloc: Global, links: &Links) -> Result<Sources, OutOfMemory>
+pub fn sources_of(alloc: Global, links: &Links) -> Result<Sources, OutOfMemory>
     ensures { IfOk result (λ it. it ≡ map (λ link. link.source) links.now) }
 {
     let mut sources = List::new(alloc);
@@ -59,7 +59,7 @@ pub(crate) fn sources_of(alloc: Global, links: &Links) -> Result<Sources, OutOfM
 }
 
 /// The columns of the links, as cells of the fragment's row.
-pub(crate) fn columns_of(alloc: Global, links: &Links) -> Result<Sources, OutOfMemory>
+pub fn columns_of(alloc: Global, links: &Links) -> Result<Sources, OutOfMemory>
     ensures { IfOk result (λ it. it ≡ map (λ link. Cell link.column) links.now) }
 {
     let mut columns = List::new(alloc);

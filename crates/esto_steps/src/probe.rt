@@ -7,7 +7,7 @@ ghost use Rattle.esto_steps.specs.Joined.{IsJoin, IsFollower, IsFollowerAt, IsKe
 ghost use Rattle.esto_steps.specs.Probed.{HaveMet, HaveAllMet};
 
 use crate::codes::code_at;
-use crate::join::{Buffers, Join, push_follower};
+use crate::join::{Buffers, Join, none_kept, push_follower};
 use crate::seen::Seen;
 use crate::steps::{Link, Links};
 use esto_columns::Rows;
@@ -138,6 +138,7 @@ fn push_reached(
         (IsKept join.now.kept.now (IsFollower join.now.get.now cells rows.now.rows))) }
 {
     so_far.read_row(at, &mut buffers.cells)?;
+    buffers.first = into.next_stretch();
     push_met(alloc, join, rows, links, buffers, into)
 }
 
@@ -213,7 +214,7 @@ pub(crate) fn joined_reached(
         → Contains it.rows row
         ↔ IsKept join.now.kept.now (IsJoin join.now.get.now so_far.now.rows rows.now.rows) row)) }
 {
-    let mut joined = Seen::new(alloc, join.kept.len(), so_far.len())?;
+    let mut joined = none_kept(alloc, join.kept, so_far)?;
     let through = push_all_reached(alloc, join, so_far, rows, links, most, &mut joined)?;
     Ok(through.then_some(joined.into_rows()))
 }

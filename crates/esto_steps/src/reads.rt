@@ -143,10 +143,10 @@ fn push_first(
     if !name_codes(&[], rows, at, cells, &mut buffers.key)? {
         return few.add_from(rows, at, &mut buffers.row);
     }
-    if seen.has(buffers.key.items()) {
+    if seen.has(0, buffers.key.items()) {
         return Ok(());
     }
-    seen.put(alloc, buffers.key.items())?;
+    seen.put(alloc, 0, buffers.key.items())?;
     few.add_from(rows, at, &mut buffers.row)
 }
 

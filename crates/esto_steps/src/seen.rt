@@ -1,29 +1,31 @@
 //! Rows that were seen.
-ghost use Rattle.std.specs.Prelude.{◌≡◌, ◌++◌, ◌∷◌, [], Some, length, slice_get};
+ghost use Rattle.std.specs.Prelude.{◌≡◌, ◌++◌, ◌∷◌, ◌<◌, [], Some, length, slice_get};
 ghost use Rattle.std.specs.Prelude.{Contains, IfOk, OnOk, IsTrue, MatchOption};
 ghost use Rattle.esto_columns.specs.CodedRows.{CodedRows};
 ghost use Rattle.esto_steps.specs.Joined.{GainsOnly};
 
 use esto_columns::{Index, Rows};
-use esto_term::OutOfMemory;
+use esto_term::{OutOfMemory, Values};
 use std::alloc::Global;
 use std::marker::Model;
 
 /// How many buckets an index has for each row that there is room for.
 const BUCKETS: usize = 2;
 
-/// How many rows are looked at one by one, at most, for one that is the same.
+/// How many rows of a stretch are looked at one by one, at most.
 const MOST_NEAR: usize = 32;
 
-/// Rows of codes that were seen, which contracts see as their arity and their list. They are kept by columns, and found
-/// by an index, which is made anew when there are as many rows as there was room for. There is none as long as rows come
-/// in stretches that have no row in common, and these are short: then only the last stretch is looked at.
+/// Rows of codes that were seen, which contracts see as their arity and their list. They are kept by columns. Where they
+/// come in stretches that have no row in common, a row is looked for in its own stretch alone; else all are one stretch.
+/// A short stretch is looked at row by row. A long one has an index, which is made anew when it has as many rows as
+/// there was room for, and when the next long stretch comes.
 #[derive(Drop)]
 pub(crate) struct Seen {
     rows: Rows,
-    index: Index,
-    room: usize,
     in_stretches: bool,
+    index: Index,
+    first: usize,
+    room: usize,
 }
 
 impl Model for Seen {
@@ -43,9 +45,10 @@ impl Seen {
         let index = Index::new(alloc, room.saturating_mul(BUCKETS))?;
         Ok(Seen {
             rows,
-            index,
-            room,
             in_stretches: false,
+            index,
+            first: 0,
+            room,
         })
     }
 
@@ -61,111 +64,117 @@ impl Seen {
         let index = Index::new(alloc, 0)?;
         Ok(Seen {
             rows,
-            index,
-            room: 0,
             in_stretches: true,
+            index,
+            first: 0,
+            room: 0,
         })
     }
 
-    /// Whether the row was seen, as far as a look at those of its bucket tells.
-    pub(crate) fn has(&self, row: &[u64]) -> bool
-        ensures { IsTrue result → Contains self.now.rows row.now }
-    {
-        self.rows.find(&self.index, row).is_some()
+    /// The place at which the stretch begins whose first row comes next: the first of all where they are one stretch.
+    pub(crate) fn next_stretch(&self) -> usize {
+        if self.in_stretches {
+            self.rows.len()
+        } else {
+            0
+        }
     }
 
-    /// The first place from this one on where the row stands, by a look at each.
+    /// Whether the stretch that begins at the place has an index.
+    fn has_index(&self, first: usize) -> bool {
+        self.first == first && self.room > 0
+    }
+
+    /// Whether the row at the place ends with the code with which this row ends. Rows of a stretch begin alike, so this
+    /// tells most of them apart.
+    fn ends_alike(&self, place: usize, row: &[u64]) -> bool
+        requires { place < length self.now.rows }
+    {
+        let Some(last) = row.len().checked_sub(1) else {
+            return true;
+        };
+        match self.rows.code(place, last) {
+            Some(code) => code == row[last],
+            None => false,
+        }
+    }
+
+    /// A place of the row from this one on, by a look at each.
     fn place_from(&self, first: usize, row: &[u64]) -> Option<usize>
         ensures { MatchOption result Unit
             (λ place. slice_get self.now.rows place ≡ Some row.now) }
     {
         'rows: for place in first..self.rows.len() {
-            if self.rows.is_at(place, row) {
+            if self.ends_alike(place, row) && self.rows.is_at(place, row) {
                 return Some(place);
             }
         }
         None
     }
 
-    /// Whether the row was seen, where its stretch begins at the place.
-    fn has_from(&self, first: usize, row: &[u64]) -> bool
+    /// A place of the row, by a look at those of its bucket in the index.
+    fn place_by_index(&self, row: &[u64]) -> Option<usize>
+        ensures { MatchOption result Unit
+            (λ place. slice_get self.now.rows place ≡ Some row.now) }
+    {
+        let mut next = self.index.last_of(row);
+        'places: while next > 0 {
+            let place = self.first.saturating_add(next - 1);
+            if self.rows.is_at(place, row) {
+                return Some(place);
+            }
+            next = self.index.before(next - 1);
+        }
+        None
+    }
+
+    /// Whether the row was seen in the stretch that begins at the place.
+    pub(crate) fn has(&self, first: usize, row: &[u64]) -> bool
         ensures { IsTrue result → Contains self.now.rows row.now }
     {
-        if self.in_stretches {
-            return self.place_from(first, row).is_some();
+        if self.has_index(first) {
+            return self.place_by_index(row).is_some();
         }
-        self.has(row)
+        self.place_from(first, row).is_some()
     }
 
-    /// Goes over to an index where the stretch that begins at the place is long.
-    fn mind(&mut self, first: usize)
+    /// Makes an index of the rows from the place on, with room for as many more.
+    fn index_from(&mut self, alloc: Global, first: usize) -> Result<(), OutOfMemory>
         ensures { self.new ≡ self.old }
     {
-        if self.rows.len().saturating_sub(first) >= MOST_NEAR {
-            self.in_stretches = false;
-        }
-    }
-
-    /// Sees to it that there is room for one more row in the index, where there is one.
-    fn widen(&mut self, alloc: Global) -> Result<(), OutOfMemory>
-        ensures { self.new ≡ self.old }
-    {
-        if self.in_stretches || self.rows.len() < self.room {
-            return Ok(());
-        }
-        self.room = self.rows.len().saturating_mul(2).saturating_add(1);
-        let buckets = self.room.saturating_mul(BUCKETS);
-        self.index = self.rows.own_index(alloc, buckets)?;
+        self.first = first;
+        self.room = self.rows.len().saturating_sub(first).saturating_mul(2);
+        self.index = index_after(alloc, &self.rows, first, self.room)?;
         Ok(())
     }
 
-    /// Puts the row at the end of the index, where there is one.
-    fn index(&mut self, row: &[u64]) -> Result<(), OutOfMemory>
+    /// Sees to it that the last row, which is this one, is found in the stretch that begins at the place.
+    fn note(&mut self, alloc: Global, first: usize, row: &[u64]) -> Result<(), OutOfMemory>
         ensures { self.new ≡ self.old }
     {
-        if self.in_stretches {
-            return Ok(());
+        let count = self.rows.len().saturating_sub(first);
+        if self.has_index(first) && count <= self.room {
+            return self.index.add(row);
         }
-        self.index.add(row)
+        if count > MOST_NEAR {
+            return self.index_from(alloc, first);
+        }
+        Ok(())
     }
 
-    /// Puts the row at the end.
-    pub(crate) fn put(&mut self, alloc: Global, row: &[u64]) -> Result<(), OutOfMemory>
+    /// Puts the row at the end of the stretch that begins at the place.
+    pub(crate) fn put(
+        &mut self,
+        alloc: Global,
+        first: usize,
+        row: &[u64],
+    ) -> Result<(), OutOfMemory>
         requires { length row.now ≡ self.old.arity }
         ensures { OnOk result (self.new
             ≡ record { arity = self.old.arity; rows = self.old.rows ++ row.now ∷ [] }) }
     {
-        self.widen(alloc)?;
-        self.index(row)?;
-        self.rows.add(row)
-    }
-
-    /// Puts the row at the end, where its stretch begins at the place.
-    fn put_from(&mut self, alloc: Global, first: usize, row: &[u64]) -> Result<(), OutOfMemory>
-        requires { length row.now ≡ self.old.arity }
-        ensures { OnOk result (self.new
-            ≡ record { arity = self.old.arity; rows = self.old.rows ++ row.now ∷ [] }) }
-    {
-        self.mind(first);
-        self.put(alloc, row)
-    }
-
-    /// Puts the row at the end, unless it has another arity.
-    pub(crate) fn put_new(&mut self, alloc: Global, row: &[u64]) -> Result<(), OutOfMemory> {
-        if row.len() != self.rows.arity() {
-            return Ok(());
-        }
-        self.put(alloc, row)
-    }
-
-    /// The place where the row stands, if it was seen, as far as a look at those of its bucket tells.
-    pub(crate) fn place_of(&self, row: &[u64]) -> Option<usize> {
-        self.rows.find(&self.index, row)
-    }
-
-    /// How many rows were seen.
-    pub(crate) fn len(&self) -> usize {
-        self.rows.len()
+        self.rows.add(row)?;
+        self.note(alloc, first, row)
     }
 
     /// The rows, lent.
@@ -183,7 +192,24 @@ impl Seen {
     }
 }
 
-/// Puts the row at the end, unless it was seen. Its stretch begins at the place.
+/// An index of the rows from the place on, each of which is its own key, with room for so many. It counts them from the
+/// place.
+fn index_after(
+    alloc: Global,
+    rows: &Rows,
+    first: usize,
+    room: usize,
+) -> Result<Index, OutOfMemory> {
+    let mut index = Index::new(alloc, room.saturating_mul(BUCKETS))?;
+    let mut row = Values::new(alloc);
+    'rows: for at in first..rows.len() {
+        rows.read_row(at, &mut row)?;
+        index.add(row.items())?;
+    }
+    Ok(index)
+}
+
+/// Puts the row at the end of the stretch that begins at the place, unless it was seen there.
 pub(crate) fn put_unseen(
     alloc: Global,
     seen: &mut Seen,
@@ -194,8 +220,8 @@ pub(crate) fn put_unseen(
     ensures arity { OnOk result (seen.new.arity ≡ seen.old.arity) }
     ensures rows { OnOk result (GainsOnly seen.old.rows seen.new.rows (λ it. row.now ≡ it)) }
 {
-    if seen.has_from(first, row) {
+    if seen.has(first, row) {
         return Ok(());
     }
-    seen.put_from(alloc, first, row)
+    seen.put(alloc, first, row)
 }

@@ -1,4 +1,4 @@
-use Rattle.std.proofs.Common.{◌↔◌, ℕ, List, Contains, sym, subst, ap, ◌∙◌}
+use Rattle.std.proofs.Common.{◌↔◌, ℕ, List, Contains, sym, subst, ap}
 use Rattle.esto_columns.specs.CodedRows.{CodedRows}
 use Rattle.esto_steps.specs.Joined.{IsJoin, IsKept}
 use Rattle.esto_steps.proofs.ProbeLemmas.{come_through}
@@ -8,7 +8,7 @@ pub push_all_reached-requires-clause-none : goal.push_all_reached-requires-claus
 push_all_reached-requires-clause-none c = ap (λ (it : CodedRows). it.rows) c.in_ok-joined.ensures
 
 pub push_all_reached-requires-clause-arity : goal.push_all_reached-requires-clause-arity
-push_all_reached-requires-clause-arity c = ap (λ (it : CodedRows). it.arity) c.in_ok-joined.ensures ∙ c.len.ensures
+push_all_reached-requires-clause-arity c = ap (λ (it : CodedRows). it.arity) c.in_ok-joined.ensures
 
 pub returns : goal.returns
 returns c = come_through c.in_ok-through.through c.into_rows.result c.then_some.result

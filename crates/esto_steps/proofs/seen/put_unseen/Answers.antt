@@ -5,6 +5,6 @@ use Rattle.esto_steps.proofs.RowLemmas.{put_gains}
 use Rattle.esto_steps.proofs.seen.put_unseen.Goals as goal
 
 pub returns-clause-rows : goal.returns-clause-rows
-returns-clause-rows c = on_ok_weaker c.put_from.result
-    (λ grown. put_gains c.args.seen.now.rows c.put_from.new.self.rows c.args.row.now (ap (λ (it : CodedRows). it.rows) grown))
-    c.put_from.ensures
+returns-clause-rows c = on_ok_weaker c.put.result
+    (λ grown. put_gains c.args.seen.now.rows c.put.new.self.rows c.args.row.now (ap (λ (it : CodedRows). it.rows) grown))
+    c.put.ensures
