@@ -17,7 +17,9 @@ use crate::slots::{
     side_of, source_in,
 };
 use esto_columns::Rows;
-use esto_steps::{Get, Gets, Join, Link, Links, Sources, Whole, asked_rows, joined_firsts};
+use esto_steps::{
+    Get, Gets, Join, Link, Links, Sources, Whole, asked_rows, joined_firsts, key_after,
+};
 use esto_term::{List, OutOfMemory, Places, Values};
 use std::alloc::Global;
 
@@ -185,36 +187,34 @@ fn joined_fragment<F: Whole>(
     joined_firsts(alloc, join, so_far, &asked)
 }
 
-/// The codes of the kept slots in the rows so far joined with those of the fragment, where the cells are those of the
-/// slots at the places.
-fn joined_slots<F: Whole>(
+/// Joins the rows so far with those of the fragment, and gives a key of what is kept.
+fn join_rows<F: Whole>(
     alloc: Global,
-    get: &Get,
+    join: &Join,
     fragment: &F,
-    places: &Slots,
-    kept: &Slots,
-    so_far: &Rows,
-) -> Result<Rows, OutOfMemory>
-    requires { IsAllowed (F.shape fragment.now) (map (λ link. link.column) get.now.inputs) }
-    ensures { IfOk result (λ it. (row : List ℕ) → Contains it.rows row
-        ↔ IsKept (map (λ slot. source_in places.now (Held slot)) kept.now)
-        (IsJoin get.now so_far.now.rows (F.rows fragment.now)) row) }
+    so_far: &mut Rows,
+) -> Result<Places, OutOfMemory>
+    requires { IsAllowed (F.shape fragment.now)
+        (map (λ link. link.column) join.now.get.now.inputs) }
+    ensures { OnOk result ((row : List ℕ) → Contains so_far.new.rows row
+        ↔ IsKept join.now.kept.now
+        (IsJoin join.now.get.now so_far.old.rows (F.rows fragment.now)) row) }
 {
-    let sources = slot_sources(alloc, places, kept)?;
-    let join = Join {
-        get,
-        kept: &sources,
-    };
-    joined_fragment(alloc, &join, fragment, so_far)
+    let joined = joined_fragment(alloc, join, fragment, so_far)?;
+    let key = key_after(alloc, join, so_far.arity(), &joined)?;
+    *so_far = joined;
+    Ok(key)
 }
 
-/// Joins the rows so far with those of the fragment, and keeps the codes of the kept slots.
+/// Joins the rows so far with those of the fragment, and keeps the codes of the kept slots, where the cells are those of
+/// the slots at the places.
 fn join_slots<F: Whole>(
     alloc: Global,
     get: &Get,
     fragment: &F,
     places: &Slots,
     kept: &Slots,
+    key: &mut Places,
     so_far: &mut Rows,
 ) -> Result<(), OutOfMemory>
     requires { IsAllowed (F.shape fragment.now) (map (λ link. link.column) get.now.inputs) }
@@ -222,7 +222,13 @@ fn join_slots<F: Whole>(
         ↔ IsKept (map (λ slot. source_in places.now (Held slot)) kept.now)
         (IsJoin get.now so_far.old.rows (F.rows fragment.now)) row) }
 {
-    *so_far = joined_slots(alloc, get, fragment, places, kept, so_far)?;
+    let sources = slot_sources(alloc, places, kept)?;
+    let join = Join {
+        get,
+        kept: &sources,
+        key: &*key,
+    };
+    *key = join_rows(alloc, &join, fragment, so_far)?;
     Ok(())
 }
 
@@ -233,6 +239,7 @@ fn follow<F: Whole>(
     fragment: &F,
     needed: &Slots,
     places: &mut Slots,
+    key: &mut Places,
     so_far: &mut Rows,
 ) -> Result<(), OutOfMemory>
     requires { IsAllowed (F.shape fragment.now) (map (λ link. link.column) get.now.inputs) }
@@ -242,7 +249,7 @@ fn follow<F: Whole>(
         (IsJoin get.now so_far.old.rows (F.rows fragment.now)) row)) }
 {
     let kept = kept_slots(alloc, needed, places)?;
-    join_slots(alloc, get, fragment, places, &kept, so_far)?;
+    join_slots(alloc, get, fragment, places, &kept, key, so_far)?;
     *places = kept;
     Ok(())
 }
@@ -258,11 +265,13 @@ pub(crate) struct Prepared<'a> {
     pub first: Option<usize>,
 }
 
-/// Rows so far: the numbers of the gets that are done, the slots of the cells, and the rows.
+/// Rows so far: the numbers of the gets that are done, the slots of the cells, a key, which is cells in which no two of
+/// the rows are the same, and the rows.
 #[derive(Drop)]
 pub(crate) struct SoFar {
     pub done: Places,
     pub places: Slots,
+    pub key: Places,
     pub rows: Rows,
 }
 
@@ -275,6 +284,7 @@ pub(crate) fn nothing_done(alloc: Global) -> Result<SoFar, OutOfMemory>
     Ok(SoFar {
         done: Values::new(alloc),
         places: List::new(alloc),
+        key: Values::new(alloc),
         rows,
     })
 }
@@ -357,6 +367,7 @@ fn follow_on<F: Whole>(
         fragment,
         &needed,
         &mut so_far.places,
+        &mut so_far.key,
         &mut so_far.rows,
     )
 }

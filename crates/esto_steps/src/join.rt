@@ -12,18 +12,21 @@ ghost use Rattle.esto_steps.specs.Named.{NamesCodes};
 
 use crate::codes::{each_met, each_passed, name_codes};
 use crate::index::index_of;
+use crate::key::is_key_kept;
 use crate::links::{columns_of, sources_of};
 use crate::seen::{Seen, put_unseen};
-use crate::steps::{Get, Links, Source, Sources};
+use crate::steps::{Get, Links, Sources};
 use esto_columns::{Index, Rows};
-use esto_term::{OutOfMemory, Values};
+use esto_term::{OutOfMemory, Places, Values};
 use std::alloc::Global;
 
-/// A get that is joined, and what names the codes that are kept of its joined rows.
+/// A get that is joined, what names the codes that are kept of its joined rows, and a key of the rows so far: cells in
+/// which no two of them are the same. Nothing rests on the key but speed.
 #[derive(Clone, Copy)]
 pub struct Join<'a> {
     pub get: &'a Get,
     pub kept: &'a Sources,
+    pub key: &'a Places,
 }
 
 /// Lists that are filled anew for each row: the cells of a row so far and its key, and what is kept of the cells with
@@ -214,37 +217,15 @@ fn push_by_index(
     )
 }
 
-/// Whether the cell at the place is kept.
-fn is_kept(kept: &Sources, place: usize) -> bool {
-    'sources: for source in kept.items() {
-        if let Source::Cell(other) = source {
-            if *other == place {
-                return true;
-            }
-        }
-    }
-    false
-}
-
-/// Whether the first cells are kept, so many.
-fn are_kept(kept: &Sources, count: usize) -> bool {
-    'cells: for place in 0..count {
-        if !is_kept(kept, place) {
-            return false;
-        }
-    }
-    true
-}
-
-/// No rows of what is kept, with memory for as many as there are so far. Where all cells of these are kept, those that
+/// No rows of what is kept, with memory for as many as there are so far. Where the key of these is kept, those that
 /// follow different ones differ.
-pub(crate) fn none_kept(alloc: Global, kept: &Sources, so_far: &Rows) -> Result<Seen, OutOfMemory>
-    ensures { IfOk result (λ it. it ≡ record { arity = length kept.now; rows = [] }) }
+pub(crate) fn none_kept(alloc: Global, join: &Join, so_far: &Rows) -> Result<Seen, OutOfMemory>
+    ensures { IfOk result (λ it. it ≡ record { arity = length join.now.kept.now; rows = [] }) }
 {
-    if are_kept(kept, so_far.arity()) {
-        return Seen::in_stretches(alloc, kept.len(), so_far.len());
+    if is_key_kept(join) {
+        return Seen::in_stretches(alloc, join.kept.len(), so_far.len());
     }
-    Seen::new(alloc, kept.len(), so_far.len())
+    Seen::new(alloc, join.kept.len(), so_far.len())
 }
 
 /// What is kept of the rows so far, each with every one of the rows that follows it after it, by an index of the rows
@@ -264,7 +245,7 @@ pub(crate) fn joined_over(
     ensures { IfOk result (λ it. (row : List ℕ) → Contains it.rows row
         ↔ IsKept join.now.kept.now (IsJoin join.now.get.now so_far.now.rows rows.now.rows) row) }
 {
-    let mut joined = none_kept(alloc, join.kept, so_far)?;
+    let mut joined = none_kept(alloc, join, so_far)?;
     push_by_index(alloc, join, so_far, rows, links, index, &mut joined)?;
     Ok(joined.into_rows())
 }

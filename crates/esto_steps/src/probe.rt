@@ -214,7 +214,7 @@ pub(crate) fn joined_reached(
         → Contains it.rows row
         ↔ IsKept join.now.kept.now (IsJoin join.now.get.now so_far.now.rows rows.now.rows) row)) }
 {
-    let mut joined = none_kept(alloc, join.kept, so_far)?;
+    let mut joined = none_kept(alloc, join, so_far)?;
     let through = push_all_reached(alloc, join, so_far, rows, links, most, &mut joined)?;
     Ok(through.then_some(joined.into_rows()))
 }

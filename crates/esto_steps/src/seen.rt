@@ -177,13 +177,6 @@ impl Seen {
         self.note(alloc, first, row)
     }
 
-    /// The rows, lent.
-    pub(crate) fn rows(&self) -> &Rows
-        ensures { result.now ≡ self.now }
-    {
-        &self.rows
-    }
-
     /// The rows.
     pub(crate) fn into_rows(self) -> Rows
         ensures { result ≡ self }
