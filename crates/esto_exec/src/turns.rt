@@ -17,9 +17,8 @@ use crate::slots::{
     side_of, source_in,
 };
 use esto_columns::Rows;
-use esto_steps::{
-    Get, Gets, Join, Link, Links, Sources, Whole, asked_rows, joined_firsts, key_after,
-};
+use esto_guess::{key_after, key_before};
+use esto_steps::{Get, Gets, Join, Link, Links, Sources, Whole, asked_rows, joined_firsts};
 use esto_term::{List, OutOfMemory, Places, Values};
 use std::alloc::Global;
 
@@ -223,16 +222,22 @@ fn join_slots<F: Whole>(
         (IsJoin get.now so_far.old.rows (F.rows fragment.now)) row) }
 {
     let sources = slot_sources(alloc, places, kept)?;
-    let join = Join {
+    let known = Join {
         get,
         kept: &sources,
         key: &*key,
+    };
+    let own = key_before(alloc, &known, so_far)?;
+    let join = Join {
+        get,
+        kept: &sources,
+        key: &own,
     };
     *key = join_rows(alloc, &join, fragment, so_far)?;
     Ok(())
 }
 
-/// Joins the rows so far with those of the fragment, and keeps of their slots those that are needed.
+/// Joins the rows so far with those of the fragment, and keeps of their slots those that are needed, with a key.
 fn follow<F: Whole>(
     alloc: Global,
     get: &Get,
@@ -265,8 +270,8 @@ pub(crate) struct Prepared<'a> {
     pub first: Option<usize>,
 }
 
-/// Rows so far: the numbers of the gets that are done, the slots of the cells, a key, which is cells in which no two of
-/// the rows are the same, and the rows.
+/// Rows so far: the numbers of the gets that are done, the slots of the cells, a key, which is cells such that no two of
+/// the rows have the same codes in all of them, and the rows.
 #[derive(Drop)]
 pub(crate) struct SoFar {
     pub done: Places,

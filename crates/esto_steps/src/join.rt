@@ -20,8 +20,8 @@ use esto_columns::{Index, Rows};
 use esto_term::{OutOfMemory, Places, Values};
 use std::alloc::Global;
 
-/// A get that is joined, what names the codes that are kept of its joined rows, and a key of the rows so far: cells in
-/// which no two of them are the same. Nothing rests on the key but speed.
+/// A get that is joined, what names the codes that are kept of its joined rows, and a key of the rows so far: cells such
+/// that no two of these have the same codes in all of them. Nothing rests on the key but speed.
 #[derive(Clone, Copy)]
 pub struct Join<'a> {
     pub get: &'a Get,
@@ -217,12 +217,12 @@ fn push_by_index(
     )
 }
 
-/// No rows of what is kept, with memory for as many as there are so far. Where the key of these is kept, those that
+/// No rows of what is kept, with memory for as many as there are so far. Where the join keeps the key of these, rows that
 /// follow different ones differ.
 pub(crate) fn none_kept(alloc: Global, join: &Join, so_far: &Rows) -> Result<Seen, OutOfMemory>
     ensures { IfOk result (λ it. it ≡ record { arity = length join.now.kept.now; rows = [] }) }
 {
-    if is_key_kept(join) {
+    if is_key_kept(join, so_far.arity()) {
         return Seen::in_stretches(alloc, join.kept.len(), so_far.len());
     }
     Seen::new(alloc, join.kept.len(), so_far.len())

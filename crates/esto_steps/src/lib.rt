@@ -21,7 +21,7 @@ mod whole;
 pub use asked::asked_rows;
 pub use cost::places_given;
 pub use join::Join;
-pub use key::key_after;
+pub use key::{code_kept_at, is_key_kept};
 pub use links::{columns_of, sources_of};
 pub use project::projected;
 pub use reads::joined_firsts;

@@ -17,8 +17,9 @@ const MOST_NEAR: usize = 32;
 
 /// Rows of codes that were seen, which contracts see as their arity and their list. They are kept by columns. Where they
 /// come in stretches that have no row in common, a row is looked for in its own stretch alone; else all are one stretch.
-/// A short stretch is looked at row by row. A long one has an index, which is made anew when it has as many rows as
-/// there was room for, and when the next long stretch comes.
+/// That one has an index where room was foreseen, and else once it is long, as each of several has: a short one is looked
+/// at row by row. The index is made anew when it has as many rows as there is room for, and when the next long stretch
+/// comes.
 #[derive(Drop)]
 pub(crate) struct Seen {
     rows: Rows,
@@ -85,18 +86,17 @@ impl Seen {
         self.first == first && self.room > 0
     }
 
-    /// Whether the row at the place ends with the code with which this row ends. Rows of a stretch begin alike, so this
-    /// tells most of them apart.
+    /// Whether the row at the place is this one, by a look from the last code back: rows of a stretch begin alike.
     fn ends_alike(&self, place: usize, row: &[u64]) -> bool
         requires { place < length self.now.rows }
     {
-        let Some(last) = row.len().checked_sub(1) else {
-            return true;
-        };
-        match self.rows.code(place, last) {
-            Some(code) => code == row[last],
-            None => false,
+        'codes: for back in 0..row.len() {
+            let at = row.len() - 1 - back;
+            if self.rows.code(place, at) != Some(row[at]) {
+                return false;
+            }
         }
+        true
     }
 
     /// A place of the row from this one on, by a look at each.
@@ -153,13 +153,13 @@ impl Seen {
         ensures { self.new ≡ self.old }
     {
         let count = self.rows.len().saturating_sub(first);
+        if !self.has_index(first) && count <= MOST_NEAR {
+            return Ok(());
+        }
         if self.has_index(first) && count <= self.room {
             return self.index.add(row);
         }
-        if count > MOST_NEAR {
-            return self.index_from(alloc, first);
-        }
-        Ok(())
+        self.index_from(alloc, first)
     }
 
     /// Puts the row at the end of the stretch that begins at the place.
