@@ -1,12 +1,11 @@
 //! Keys of rows so far: cells such that no two of the rows have the same codes in all of them.
-use crate::marks::all_differ;
+use crate::marks::Marks;
 use esto_columns::Rows;
 use esto_steps::{Join, Source, Sources, code_kept_at, is_key_kept};
 use esto_term::{OutOfMemory, Places, Replicate, Values};
 use std::alloc::Global;
 
-/// Puts at the end of the list where among the kept the codes of the join's key stand, as far as they are kept. Rows so far
-/// have so many cells.
+/// Puts the places of the key's codes among the kept at the end, where rows so far have so many cells.
 fn push_key(into: &mut Places, join: &Join, width: usize) -> Result<(), OutOfMemory> {
     'cells: for cell in join.key.items() {
         if let Some(at) = code_kept_at(join, width, *cell) {
@@ -16,8 +15,7 @@ fn push_key(into: &mut Places, join: &Join, width: usize) -> Result<(), OutOfMem
     Ok(())
 }
 
-/// Puts at the end of the list the places of those kept that are cells of the fragment's row. Rows so far have so many
-/// cells.
+/// Puts the places of those kept that are cells of the fragment's row at the end, where rows so far have so many cells.
 fn push_new(into: &mut Places, kept: &Sources, width: usize) -> Result<(), OutOfMemory> {
     'sources: for (at, source) in kept.items().iter().enumerate() {
         if let Source::Cell(cell) = source {
@@ -69,10 +67,10 @@ fn any_as_before(rows: &Rows, cells: &Places) -> bool {
     false
 }
 
-/// A key of the joined rows, where the join's key is one of the rows so far, which have so many cells. Where the join keeps
-/// its codes, joined rows that are the same in them follow one row so far, and stand side by side. If there are none, these
-/// codes are a key of the joined rows too; else the new cells come before them, since neighbours likely differ there. Where
-/// the join drops one of the codes, the key is all that is kept, from the last one back for the same reason.
+/// A key of the joined rows, where the join's is one of the rows so far, which have so many cells. Where the join keeps it,
+/// rows that are the same in it follow one row so far and stand side by side. If no two are, it is a key of the joined rows
+/// too; else the new cells come before it, in which neighbours likely differ. Where the join doesn't keep it, all that it
+/// keeps is the key.
 pub fn key_after(
     alloc: Global,
     join: &Join,
@@ -92,15 +90,16 @@ pub fn key_after(
     Ok(key)
 }
 
-/// Whether no two of the rows have the same code in the cell; false too where codes are far more than the rows.
+/// Whether no two of the rows have the same code in the cell. Where codes are far larger than there are rows, it isn't tried.
 fn differ_in(alloc: Global, rows: &Rows, cell: usize) -> Result<bool, OutOfMemory> {
     if cell >= rows.arity() {
         return Ok(false);
     }
-    all_differ(alloc, rows.column(cell))
+    let mut marks = Marks::new(alloc, rows.len());
+    marks.mark_all(rows.column(cell))
 }
 
-/// The first cell of which the join keeps the code and in which all rows so far differ; none where there is none.
+/// A cell of which the join keeps the codes, and in which no two of the rows so far are the same.
 fn kept_apart(alloc: Global, join: &Join, so_far: &Rows) -> Result<Option<usize>, OutOfMemory> {
     let width = so_far.arity();
     'cells: for cell in 0..width {
@@ -111,56 +110,11 @@ fn kept_apart(alloc: Global, join: &Join, so_far: &Rows) -> Result<Option<usize>
     Ok(None)
 }
 
-/// Whether the row at the place is there and has the same code in the two cells.
-fn is_twice(rows: &Rows, at: usize, cell: usize, other: usize) -> bool {
-    if at >= rows.len() {
-        return false;
-    }
-    rows.code(at, cell) == rows.code(at, other)
-}
-
-/// Whether each of the rows has the same code in the two cells.
-fn are_twice(rows: &Rows, cell: usize, other: usize) -> bool {
-    'rows: for at in 0..rows.len() {
-        if !is_twice(rows, at, cell, other) {
-            return false;
-        }
-    }
-    true
-}
-
-/// A cell of which the join keeps the code and that stands for the cell in all rows so far: the cell itself or one with the
-/// same codes; none where there is none.
-fn kept_for(join: &Join, so_far: &Rows, cell: usize) -> Option<usize> {
-    let width = so_far.arity();
-    if code_kept_at(join, width, cell).is_some() {
-        return Some(cell);
-    }
-    'cells: for other in 0..width {
-        if code_kept_at(join, width, other).is_some() && are_twice(so_far, cell, other) {
-            return Some(other);
-        }
-    }
-    None
-}
-
-/// The join's key, with a cell that the join keeps in place of each one that it drops; none where one has no such cell.
-fn key_kept(alloc: Global, join: &Join, so_far: &Rows) -> Result<Option<Places>, OutOfMemory> {
-    let mut key = Values::new(alloc);
-    'cells: for cell in join.key.items() {
-        let Some(kept) = kept_for(join, so_far, *cell) else {
-            return Ok(None);
-        };
-        key.push(kept)?;
-    }
-    Ok(Some(key))
-}
-
-/// A key of the rows so far, of which the join's key is one, and where there is one, a key of which the join keeps the
-/// codes: the join's, with other cells in place of those that it drops, or a cell that is a key alone.
+/// A key of the rows so far, of which the join's is one: that, where the join keeps it; else a cell that it keeps and that
+/// is a key alone, where there is one.
 pub fn key_before(alloc: Global, join: &Join, so_far: &Rows) -> Result<Places, OutOfMemory> {
-    if let Some(key) = key_kept(alloc, join, so_far)? {
-        return Ok(key);
+    if is_key_kept(join, so_far.arity()) {
+        return join.key.copy(alloc);
     }
     match kept_apart(alloc, join, so_far)? {
         Some(cell) => Places::from_slice(alloc, &[cell]),
