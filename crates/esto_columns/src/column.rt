@@ -1,5 +1,5 @@
 //! Columns of codes.
-ghost use Rattle.std.specs.Prelude.{◌≡◌, ℕ, List, [], ◌∷◌, ◌++◌, ◌<◌, length, take, slice_get, Some, IfOk, OnOk, OnErr};
+ghost use Rattle.std.specs.Prelude.{◌≡◌, ℕ, List, [], ◌∷◌, ◌++◌, ◌<◌, length, map, take, slice_get, slice_index_or, Some, IfOk, OnOk, OnErr};
 
 use esto_term::{OutOfMemory, Replicate, Values};
 use std::alloc::Global;
@@ -21,6 +21,48 @@ impl Model for Column {
     ghost view = { λ it. it.narrow ++ it.wide };
 
     ghost invariant = { λ it. length it.narrow + length it.wide ≤ 18446744073709551615 };
+}
+
+/// The code of four bytes at the place, or 0 past the last.
+fn narrow_code(codes: &[u32], place: usize) -> u32
+    ensures { result ≡ slice_index_or codes.now place 0 }
+{
+    match codes.get(place) {
+        Some(code) => *code,
+        None => 0,
+    }
+}
+
+/// The codes of four bytes each at the places, in their order, with 0 for a place past the last.
+fn narrow_at(alloc: Global, codes: &[u32], places: &[usize]) -> Result<Values<u32>, OutOfMemory>
+    ensures { IfOk result (λ it. it ≡ map (λ place. slice_index_or codes.now place 0) places.now) }
+{
+    let mut narrow = Values::with_room(alloc, places.len())?;
+    'places: for place in places {
+        narrow.push(narrow_code(codes, *place))?;
+    }
+    Ok(narrow)
+}
+
+/// The code at the place, or 0 past the last.
+fn code_at(column: &Column, place: usize) -> u64
+    ensures { result ≡ slice_index_or column.now place 0 }
+{
+    if place >= column.len() {
+        return 0;
+    }
+    column.item(place)
+}
+
+/// Puts the codes of the column at the places at the end of the other, in their order, with 0 for a place past the last.
+fn push_at(column: &Column, places: &[usize], into: &mut Column) -> Result<(), OutOfMemory>
+    ensures { OnOk result (into.new
+        ≡ into.old ++ map (λ place. slice_index_or column.now place 0) places.now) }
+{
+    'places: for place in places {
+        into.push(code_at(column, *place))?;
+    }
+    Ok(())
 }
 
 impl Column {
@@ -69,6 +111,23 @@ impl Column {
         ensures { (rest : List ℕ) × (self.now ≡ result.now ++ rest) }
     {
         self.narrow.items()
+    }
+
+    /// The codes at the places, in their order, with 0 for a place past the last.
+    pub fn at_places(&self, alloc: Global, places: &[usize]) -> Result<Column, OutOfMemory>
+        ensures { IfOk result (λ it. it
+            ≡ map (λ place. slice_index_or self.now place 0) places.now) }
+    {
+        if self.wide.is_empty() {
+            let narrow = narrow_at(alloc, self.narrow.items(), places)?;
+            return Ok(Column {
+                narrow,
+                wide: Values::new(alloc),
+            });
+        }
+        let mut column = Column::with_room(alloc, places.len())?;
+        push_at(self, places, &mut column)?;
+        Ok(column)
     }
 
     /// Puts a code at the end.

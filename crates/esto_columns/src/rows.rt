@@ -1,6 +1,6 @@
 //! Rows of codes, with indexes.
 ghost use Rattle.std.specs.Prelude.{◌≡◌, ◌+◌, ℕ, List, [], ◌∷◌, ◌++◌, ◌<◌, length, map, take, slice_get, slice_index_or, Some, IfOk, OnOk, OnErr, MatchOption};
-ghost use Rattle.esto_columns.specs.CodedRows.{CodedRows};
+ghost use Rattle.esto_columns.specs.CodedRows.{CodedRows, rows_of};
 ghost use Rattle.esto_columns.specs.Columns.{HaveLength};
 ghost use Rattle.esto_columns.specs.Indexed.{IsIndexOf, AreAmongPlaces, key_at};
 
@@ -128,6 +128,17 @@ impl Rows {
             table,
             indexes: List::new(alloc),
         })
+    }
+
+    /// The rows that so many codes of each column give: the row at a place holds the columns' codes there.
+    pub fn of_columns(alloc: Global, columns: Vec<Column>, count: usize) -> Rows
+        requires { HaveLength count columns.items }
+        ensures { result ≡ record { arity = length columns.items; rows = rows_of columns.items count } }
+    {
+        Rows {
+            table: Table::of_columns(columns, count),
+            indexes: List::new(alloc),
+        }
     }
 
     /// Puts a row at the end. The indexes are dropped.

@@ -1,6 +1,6 @@
 //! Tables of codes.
 ghost use Rattle.std.specs.Prelude.{◌≡◌, ℕ, List, [], ◌∷◌, ◌++◌, ◌<◌, length, map, slice_get, slice_index_or, Some, IfOk, OnOk, OnErr, take};
-ghost use Rattle.esto_columns.specs.CodedRows.{CodedRows};
+ghost use Rattle.esto_columns.specs.CodedRows.{CodedRows, rows_of};
 ghost use Rattle.esto_columns.specs.Columns.{pushed, HaveLength};
 
 use crate::column::Column;
@@ -82,6 +82,14 @@ impl Table {
             };
         }
         Ok(Table { columns, count: 0 })
+    }
+
+    /// The rows that so many codes of each column give: the row at a place holds the columns' codes there.
+    pub(crate) fn of_columns(columns: Vec<Column>, count: usize) -> Table
+        requires { HaveLength count columns.items }
+        ensures { result ≡ record { arity = length columns.items; rows = rows_of columns.items count } }
+    {
+        Table { columns, count }
     }
 
     /// Puts a row at the end.
