@@ -27,11 +27,6 @@ taken_more things count thing it below is =
       ]),
     )
 
--- nothing is gained over no things
-pub gains_none : {X : Type 0} (things : List X) (Has : X → List ℕ → Type 0)
-    → GainsOnly [] [] (λ it. (x : X) × Contains (take 0 things) x × Has x it)
-gains_none things Has it = (λ has. inl has, λ has. elim has [ inl none ↦ none | inr (x, among, _) ↦ absurd (Contains-nil x among) ])
-
 -- what a list gains over some things, one by one
 module _ {X : Type 0} (Has : X → List ℕ → Type 0) (things : List X) where
   abbrev pub Some_has : List X → List ℕ → Type 0
@@ -103,16 +98,6 @@ pub gains_unless : (get : Get) (kept : List Source) (cells : List ℕ) (rows old
     → slice_get rows place ≡ Some row → (Follows get cells row → ⊥) → GainsOnly old old (IsKept kept (IsFollowerAt get cells rows place))
 gains_unless get kept cells rows old place row there differs = follower_none get kept cells rows old place
     (λ other at follows _. differs (subst (Follows get cells) (same_Some other row (sym at ∙ there)) follows))
-
--- nothing is gained where what is kept of the cells with the row at the place is not named
-pub gains_unnamed : (get : Get) (kept : List Source) (cells : List ℕ) (rows old : List (List ℕ)) (place : ℕ) (row both : List ℕ)
-    → slice_get rows place ≡ Some row → both ≡ cells ++ row → ((given : List ℕ) × NamesCodes both kept given → ⊥)
-    → GainsOnly old old (IsKept kept (IsFollowerAt get cells rows place))
-gains_unnamed get kept cells rows old place row both there is none = follower_none get kept cells rows old place
-    (λ other at _ named. none (
-      named.0,
-      subst (λ them. NamesCodes them kept named.0) (ap (λ it. cells ++ it) (same_Some other row (sym at ∙ there)) ∙ sym is) named.1,
-    ))
 
 -- ---- joins
 

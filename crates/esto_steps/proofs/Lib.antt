@@ -1,5 +1,8 @@
 pub mod NamedLemmas
+pub mod PairLemmas
+pub mod GatherLemmas
 pub mod RowLemmas
+pub mod GainLemmas
 pub mod IndexLemmas
 pub mod JoinLemmas
 pub mod AskedLemmas

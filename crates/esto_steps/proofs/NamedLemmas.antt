@@ -1,10 +1,10 @@
 -- Codes that sources name, and links that are met.
-use Rattle.std.proofs.Common.{◌≡◌, ◌⊎◌, inl, inr, ℕ, zero, suc, ◌-◌, ◌<◌, ◌≤◌, nat_lt, Bool, true, false, List, [], ◌∷◌, ◌++◌, map, length, get_or, Option}
+use Rattle.std.proofs.Common.{◌≡◌, ◌⊎◌, inl, inr, ℕ, zero, suc, ◌-◌, ◌<◌, ◌≤◌, nat_lt, Bool, true, false, List, [], ◌∷◌, ◌++◌, map, length, get_or}
 use Rattle.std.proofs.Common.{Some, None, slice_get, Contains, refl, sym}
 use Rattle.std.proofs.Common.{ap, ◌∙◌, subst, arith}
 use Rattle.std.proofs.lemmas.Bool.Decides.{nat_tests}
 use Rattle.std.proofs.lemmas.List.{length-map}
-use Rattle.std.proofs.lemmas.Option.{none-some, same_Some, slice_get-get_or}
+use Rattle.std.proofs.lemmas.Option.{none-some, same_Some}
 use Rattle.esto_term.proofs.ListLemmas.{map_at, map_at-from, map_one}
 use Rattle.esto_term.proofs.ListLemmas.{Contains-head, Contains-rest}
 use Rattle.esto_term.proofs.PlaceLemmas.{item_at}
@@ -95,12 +95,3 @@ pub links_name : (links : List Link) (sources columns : List Source) (cells row 
 links_name links sources columns cells row sources_are columns_are met =
     let names = met_names cells row links met in
     (names.0, subst (λ it. NamesCodes cells it names.0) (sym sources_are) names.1, subst (λ it. NamesCodes row it names.0) (sym columns_are) names.2)
-
--- ---- a code of the cells with a row after them
-
-pub code_front : (cells row : List ℕ) (place : ℕ) → place < length cells → Some (get_or cells place 0) ≡ slice_get (cells ++ row) place
-code_front cells row place within = sym (slice_get-get_or cells place 0 within) ∙ sym (front cells row place within)
-
-pub code_back : (cells row : List ℕ) (place : ℕ) (found : Option ℕ) → length cells ≤ place → found ≡ slice_get row (place - length cells)
-    → found ≡ slice_get (cells ++ row) place
-code_back cells row place found past is = is ∙ sym (back cells row place past)

@@ -5,6 +5,7 @@ pub mod Indexed
 pub mod Joined
 pub mod Inputs
 pub mod Reads
+pub mod Paired
 pub mod Probed
 pub mod Planned
 pub mod Texts

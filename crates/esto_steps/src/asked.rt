@@ -83,13 +83,13 @@ fn ask<F: Fragment>(
         → Follows get.now (slice_index_or so_far.now.rows at []) row
         → Contains asked.new.rows row) }
 {
-    if !name_codes(&[], so_far, at, sources, key)? {
+    if !name_codes(so_far, at, sources, key)? {
         return Ok(());
     }
-    if seen.has(0, key.items()) {
+    if seen.has(key.items()) {
         return Ok(());
     }
-    seen.put(alloc, 0, key.items())?;
+    seen.put(alloc, key.items())?;
     push_asked(alloc, get, fragment, key.items(), asked)
 }
 

@@ -1,62 +1,73 @@
-//! Codes that sources name in a row so far and in a row of a fragment, and links that rows meet.
+//! Codes that sources name in rows, and links that rows meet.
 ghost use Rattle.std.specs.Prelude.{◌≡◌, ◌↔◌, ◌++◌, ◌<◌, [], ℕ, Some, length, slice_get, slice_index_or, Contains, IfOk, IsTrue};
 ghost use Rattle.esto_steps.specs.declared.steps.Link.{Link};
 ghost use Rattle.esto_steps.specs.Meaning.{code_at, IsMet};
 ghost use Rattle.esto_steps.specs.Named.{Names};
+ghost use Rattle.esto_steps.specs.Paired.{code_in};
 
+use crate::pairs::Pair;
 use crate::steps::{Links, Source, Sources};
 use esto_columns::Rows;
 use esto_term::{OutOfMemory, Values};
 
-/// The code that the source names in the cells of a row.
-pub(crate) fn code_at(cells: &[u64], source: &Source) -> Option<u64>
-    ensures { result ≡ code_at cells.now source.now }
-{
-    match source {
-        Source::Code(code) => Some(*code),
-        Source::Cell(place) => cells.get(*place).copied(),
-    }
-}
-
-/// The code that the source names in the cells with those of the row at the place after them.
-fn code_in(cells: &[u64], rows: &Rows, place: usize, source: &Source) -> Option<u64>
+/// The code that the source names in the row at the place.
+pub(crate) fn code_at(rows: &Rows, place: usize, source: &Source) -> Option<u64>
     requires { place < length rows.now.rows }
-    ensures { result
-        ≡ code_at (cells.now ++ slice_index_or rows.now.rows place []) source.now }
+    ensures { result ≡ code_at (slice_index_or rows.now.rows place []) source.now }
 {
     match source {
         Source::Code(code) => Some(*code),
-        Source::Cell(at) => {
-            if *at < cells.len() {
-                Some(cells[*at])
-            } else {
-                rows.code(place, *at - cells.len())
-            }
-        }
+        Source::Cell(column) => rows.code(place, *column),
     }
 }
 
-/// Makes the codes those that the sources name in the cells with those of the row at the place after them, and tells
-/// whether each names one. Where one doesn't, the codes are any.
+/// Makes the codes those that the sources name in the row at the place, and tells whether each names one. Where one
+/// doesn't, the codes are any.
 pub(crate) fn name_codes(
-    cells: &[u64],
     rows: &Rows,
     place: usize,
     sources: &Sources,
     codes: &mut Values<u64>,
 ) -> Result<bool, OutOfMemory>
     requires { place < length rows.now.rows }
-    ensures { IfOk result (Names (cells.now ++ slice_index_or rows.now.rows place [])
-        sources.now codes.new) }
+    ensures { IfOk result
+        (Names (slice_index_or rows.now.rows place []) sources.now codes.new) }
 {
     codes.truncate(0);
     'sources: for source in sources.items() {
-        let Some(code) = code_in(cells, rows, place, source) else {
+        let Some(code) = code_at(rows, place, source) else {
             return Ok(false);
         };
         codes.push(code)?;
     }
     Ok(true)
+}
+
+/// The code in the column of the row at the place, if there are such a row and column.
+fn held(rows: &Rows, place: usize, column: usize) -> Option<u64>
+    ensures { result ≡ slice_get (slice_index_or rows.now.rows place []) column }
+{
+    if place >= rows.len() {
+        return None;
+    }
+    rows.code(place, column)
+}
+
+/// The code that the source names in the pair.
+pub(crate) fn code_in(so_far: &Rows, rows: &Rows, pair: Pair, source: &Source) -> Option<u64>
+    ensures { result ≡ code_in so_far.now rows.now pair source.now }
+{
+    match source {
+        Source::Code(code) => Some(*code),
+        Source::Cell(at) => {
+            let width = so_far.arity();
+            if *at < width {
+                held(so_far, pair.left, *at)
+            } else {
+                held(rows, pair.right, *at - width)
+            }
+        }
+    }
 }
 
 /// Whether the row at the place has the code in the column, where it is one.
@@ -74,31 +85,36 @@ fn has_code(rows: &Rows, place: usize, column: usize, code: Option<u64>) -> bool
     held == code
 }
 
-/// Whether the row at the place meets each of the links, whose sources are in the cells.
-pub(crate) fn each_met(cells: &[u64], rows: &Rows, place: usize, links: &Links) -> bool
-    requires { place < length rows.now.rows }
+/// Whether the pair's row of the fragment meets each of the links, whose sources are in its row so far.
+pub(crate) fn each_met(so_far: &Rows, rows: &Rows, pair: Pair, links: &Links) -> bool
+    requires left { pair.left < length so_far.now.rows }
+    requires right { pair.right < length rows.now.rows }
     ensures { IsTrue result ↔ ((link : Link) → Contains links.now link
-        → IsMet cells.now (slice_index_or rows.now.rows place []) link) }
+        → IsMet (slice_index_or so_far.now.rows pair.left [])
+        (slice_index_or rows.now.rows pair.right []) link) }
 {
     'links: for link in links.items() {
-        let code = code_at(cells, &link.source);
-        if !has_code(rows, place, link.column, code) {
+        let code = code_at(so_far, pair.left, &link.source);
+        if !has_code(rows, pair.right, link.column, code) {
             return false;
         }
     }
     true
 }
 
-/// The same, where the sources may be in the row itself too.
-pub(crate) fn each_passed(cells: &[u64], rows: &Rows, place: usize, links: &Links) -> bool
-    requires { place < length rows.now.rows }
+/// The same, where the sources may be in the row of the fragment too.
+pub(crate) fn each_passed(so_far: &Rows, rows: &Rows, pair: Pair, links: &Links) -> bool
+    requires left { pair.left < length so_far.now.rows }
+    requires right { pair.right < length rows.now.rows }
     ensures { IsTrue result ↔ ((link : Link) → Contains links.now link
-        → IsMet (cells.now ++ slice_index_or rows.now.rows place [])
-        (slice_index_or rows.now.rows place []) link) }
+        → IsMet (slice_index_or so_far.now.rows pair.left []
+        ++ slice_index_or rows.now.rows pair.right [])
+        (slice_index_or rows.now.rows pair.right []) link) }
 {
+    let _width = so_far.arity();
     'links: for link in links.items() {
-        let code = code_in(cells, rows, place, &link.source);
-        if !has_code(rows, place, link.column, code) {
+        let code = code_in(so_far, rows, pair, &link.source);
+        if !has_code(rows, pair.right, link.column, code) {
             return false;
         }
     }

@@ -52,63 +52,44 @@ pub fn places_given(rows: &Rows, column: usize, code: u64, most: usize) -> usize
 
 /// How many places the link gives for the row so far at the place; one more than so many where there are more, and as
 /// many as can be where the rows have no index by the link's column.
-fn count_met(
-    alloc: Global,
-    so_far: &Rows,
-    at: usize,
-    rows: &Rows,
-    link: &Link,
-    most: usize,
-) -> Result<usize, OutOfMemory> {
+fn count_met(so_far: &Rows, at: usize, rows: &Rows, link: &Link, most: usize) -> usize {
     if at >= so_far.len() {
-        return Ok(0);
+        return 0;
     }
-    let cells = so_far.row(alloc, at)?;
-    match code_at(cells.items(), &link.source) {
-        Some(code) => Ok(places_given(rows, link.column, code, most)),
-        None => Ok(0),
+    match code_at(so_far, at, &link.source) {
+        Some(code) => places_given(rows, link.column, code, most),
+        None => 0,
     }
 }
 
 /// How many places the link gives for all rows so far, about, by a look at one of each stretch of them; no more than so
 /// many are counted.
-fn met_cost(
-    alloc: Global,
-    so_far: &Rows,
-    rows: &Rows,
-    link: &Link,
-    most: usize,
-) -> Result<usize, OutOfMemory> {
+fn met_cost(so_far: &Rows, rows: &Rows, link: &Link, most: usize) -> usize {
     let step = so_far.len() / TRIED + 1;
     let tried = so_far.len() / step;
     let mut found: usize = 0;
     'rows: for turn in 0..tried {
         let at = place_in(turn, step);
-        found = found.saturating_add(count_met(alloc, so_far, at, rows, link, most)?);
+        found = found.saturating_add(count_met(so_far, at, rows, link, most));
         if scaled(found, tried, so_far.len()) >= most {
-            return Ok(most);
+            return most;
         }
     }
-    Ok(scaled(found, tried, so_far.len()))
+    scaled(found, tried, so_far.len())
 }
 
 /// The number of the link that gives about the fewest places, or how many links there are where none seems cheap.
-fn cheapest(
-    alloc: Global,
-    so_far: &Rows,
-    rows: &Rows,
-    links: &Links,
-) -> Result<usize, OutOfMemory> {
+fn cheapest(so_far: &Rows, rows: &Rows, links: &Links) -> usize {
     let mut least = most_cheap(so_far, rows);
     let mut best = links.len();
     'links: for number in 0..links.len() {
-        let cost = met_cost(alloc, so_far, rows, links.item(number), least)?;
+        let cost = met_cost(so_far, rows, links.item(number), least);
         if cost < least {
             least = cost;
             best = number;
         }
     }
-    Ok(best)
+    best
 }
 
 /// The link of the number alone, or none past the end.
@@ -133,7 +114,7 @@ pub(crate) fn cheap_links(
 ) -> Result<Links, OutOfMemory>
     ensures { IfOk result (λ it. (link : Link) → Contains it link → Contains links.now link) }
 {
-    let best = cheapest(alloc, so_far, rows, links)?;
+    let best = cheapest(so_far, rows, links);
     link_alone(alloc, links, best)
 }
 

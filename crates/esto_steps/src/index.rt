@@ -21,7 +21,7 @@ fn index_row(
     requires own { FindsRows (take at rows.now.rows) columns.now index.old }
     ensures { OnOk result (FindsRows (take (at + 1) rows.now.rows) columns.now index.new) }
 {
-    name_codes(&[], rows, at, columns, key)?;
+    name_codes(rows, at, columns, key)?;
     index.add(key.items())
 }
 

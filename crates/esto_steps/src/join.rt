@@ -9,19 +9,22 @@ ghost use Rattle.esto_columns.specs.Indexed.{AreChains, bucket_of};
 ghost use Rattle.esto_steps.specs.Indexed.{FindsRows};
 ghost use Rattle.esto_steps.specs.Joined.{IsJoin, IsFollower, IsFollowerAt, IsKept, GainsOnly};
 ghost use Rattle.esto_steps.specs.Named.{NamesCodes};
+ghost use Rattle.esto_steps.specs.Paired.{gained_rows, NameAll};
 
 use crate::codes::{each_met, each_passed, name_codes};
+use crate::gained::{Gained, into_rows, put_unseen};
+use crate::gather::name_all;
 use crate::index::index_of;
 use crate::key::is_key_kept;
 use crate::links::{columns_of, sources_of};
-use crate::seen::{Seen, put_unseen};
+use crate::pairs::Pair;
 use crate::steps::{Get, Links, Sources};
 use esto_columns::{Index, Rows};
 use esto_term::{OutOfMemory, Places, Values};
 use std::alloc::Global;
 
 /// A get that is joined, what names the codes that are kept of its joined rows, and a key of the rows so far: cells such
-/// that no two of these have the same codes in all of them. Nothing rests on the key but speed.
+/// that no two of these rows have the same codes in all of them. Nothing rests on the key but speed.
 #[derive(Clone, Copy)]
 pub struct Join<'a> {
     pub get: &'a Get,
@@ -29,94 +32,83 @@ pub struct Join<'a> {
     pub key: &'a Places,
 }
 
-/// Lists that are filled anew for each row: the cells of a row so far and its key, and what is kept of the cells with
-/// those of a row of the fragment after them; and from which place on those are put that follow the row so far.
-#[derive(Drop)]
-pub(crate) struct Buffers {
-    pub(crate) cells: Values<u64>,
-    key: Values<u64>,
-    kept: Values<u64>,
-    pub(crate) first: usize,
-}
-
-impl Buffers {
-    /// Empty lists, which take no memory.
-    pub(crate) fn new(alloc: Global) -> Buffers {
-        Buffers {
-            cells: Values::new(alloc),
-            key: Values::new(alloc),
-            kept: Values::new(alloc),
-            first: 0,
-        }
-    }
-}
-
-/// Whether the row at the place follows the cells.
-fn follows(get: &Get, cells: &[u64], rows: &Rows, place: usize) -> bool
-    requires { place < length rows.now.rows }
-    ensures { IsTrue result
-        ↔ Follows get.now cells.now (slice_index_or rows.now.rows place []) }
+/// Whether the pair's row of the fragment follows its row so far.
+fn follows(get: &Get, so_far: &Rows, rows: &Rows, pair: Pair) -> bool
+    requires left { pair.left < length so_far.now.rows }
+    requires right { pair.right < length rows.now.rows }
+    ensures { IsTrue result ↔ Follows get.now (slice_index_or so_far.now.rows pair.left [])
+        (slice_index_or rows.now.rows pair.right []) }
 {
-    each_met(cells, rows, place, &get.inputs) && each_passed(cells, rows, place, &get.filters)
+    each_met(so_far, rows, pair, &get.inputs) && each_passed(so_far, rows, pair, &get.filters)
 }
 
-/// Puts what is kept of the cells with the row at the place after them at the end, where the row is there and follows
-/// them.
+/// Puts what is kept of the pair at the end, where its row of the fragment is there and follows its row so far, unless the
+/// stretch has it.
 pub(crate) fn push_follower(
     alloc: Global,
     join: &Join,
+    so_far: &Rows,
     rows: &Rows,
-    place: usize,
-    buffers: &mut Buffers,
-    into: &mut Seen,
+    pair: Pair,
+    into: &mut Gained,
 ) -> Result<(), OutOfMemory>
-    requires { into.old.arity ≡ length join.now.kept.now }
-    ensures cells { buffers.new.cells ≡ buffers.old.cells }
-    ensures arity { OnOk result (into.new.arity ≡ into.old.arity) }
-    ensures rows { OnOk result (GainsOnly into.old.rows into.new.rows (IsKept join.now.kept.now
-        (IsFollowerAt join.now.get.now buffers.old.cells rows.now.rows place))) }
+    requires there { pair.left < length so_far.now.rows }
+    requires named { NameAll join.now.kept.now so_far.now.rows rows.now.rows }
+    requires arity { into.old.own.arity ≡ length join.now.kept.now }
+    ensures arity { OnOk result (into.new.own.arity ≡ into.old.own.arity) }
+    ensures rows { OnOk result (GainsOnly (gained_rows join.now.kept.now so_far.now rows.now into.old)
+        (gained_rows join.now.kept.now so_far.now rows.now into.new) (IsKept join.now.kept.now
+        (IsFollowerAt join.now.get.now (slice_index_or so_far.now.rows pair.left []) rows.now.rows
+        pair.right))) }
 {
-    if place >= rows.len() {
+    let _width = so_far.arity();
+    if pair.right >= rows.len() {
         return Ok(());
     }
-    let cells = buffers.cells.items();
-    if !follows(join.get, cells, rows, place) {
+    if !follows(join.get, so_far, rows, pair) {
         return Ok(());
     }
-    if !name_codes(cells, rows, place, join.kept, &mut buffers.kept)? {
-        return Ok(());
-    }
-    put_unseen(alloc, into, buffers.first, buffers.kept.items())
+    put_unseen(alloc, join.kept, so_far, rows, pair, into)
 }
 
-/// Puts what is kept of the cells with each of the rows that follows them at the end, of the rows whose keys are in one
-/// bucket with that of the cells.
+/// Puts what is kept of the row so far at the place with each of the rows that follows it at the end, of the rows whose
+/// keys are in one bucket with the key.
 fn push_followers(
     alloc: Global,
     join: &Join,
+    so_far: &Rows,
+    at: usize,
     rows: &Rows,
     index: &Index,
-    buffers: &mut Buffers,
-    into: &mut Seen,
+    key: &[u64],
+    into: &mut Gained,
 ) -> Result<(), OutOfMemory>
-    requires { into.old.arity ≡ length join.now.kept.now }
-    ensures arity { OnOk result (into.new.arity ≡ into.old.arity) }
+    requires there { at < length so_far.now.rows }
+    requires named { NameAll join.now.kept.now so_far.now.rows rows.now.rows }
+    requires arity { into.old.own.arity ≡ length join.now.kept.now }
+    ensures arity { OnOk result (into.new.own.arity ≡ into.old.own.arity) }
     ensures rows { OnOk result ((buckets : List ℕ) → AreChains index.now buckets
-        → GainsOnly into.old.rows into.new.rows (λ it. (place : ℕ)
-        × (slice_get buckets place ≡ Some (bucket_of (length index.now.last) buffers.old.key))
-        × IsKept join.now.kept.now
-        (IsFollowerAt join.now.get.now buffers.old.cells rows.now.rows place) it)) }
+        → GainsOnly (gained_rows join.now.kept.now so_far.now rows.now into.old)
+        (gained_rows join.now.kept.now so_far.now rows.now into.new) (λ it. (place : ℕ)
+        × (slice_get buckets place ≡ Some (bucket_of (length index.now.last) key.now))
+        × IsKept join.now.kept.now (IsFollowerAt join.now.get.now
+        (slice_index_or so_far.now.rows at []) rows.now.rows place) it)) }
 {
-    let mut next = index.last_of(buffers.key.items());
+    let mut next = index.last_of(key);
     'places: while next > 0 {
         let place = next - 1;
-        push_follower(alloc, join, rows, place, buffers, into)?;
+        let pair = Pair {
+            left: at,
+            right: place,
+        };
+        push_follower(alloc, join, so_far, rows, pair, into)?;
         next = index.before(place);
     }
     Ok(())
 }
 
-/// Puts what is kept of the row so far at the place with each of the rows that follows it at the end.
+/// Puts what is kept of the row so far at the place with each of the rows that follows it at the end. Its key is read into
+/// the list.
 fn push_joined(
     alloc: Global,
     join: &Join,
@@ -125,26 +117,26 @@ fn push_joined(
     rows: &Rows,
     sources: &Sources,
     index: &Index,
-    buffers: &mut Buffers,
-    into: &mut Seen,
+    key: &mut Values<u64>,
+    into: &mut Gained,
 ) -> Result<(), OutOfMemory>
     requires there { at < length so_far.now.rows }
-    requires arity { into.old.arity ≡ length join.now.kept.now }
+    requires named { NameAll join.now.kept.now so_far.now.rows rows.now.rows }
     requires found { (columns : List Source) × FindsRows rows.now.rows columns index.now
         × ((cells row : List ℕ) → Contains so_far.now.rows cells
         → Follows join.now.get.now cells row
         → (codes : List ℕ) × NamesCodes cells sources.now codes × NamesCodes row columns codes) }
-    ensures arity { OnOk result (into.new.arity ≡ into.old.arity) }
-    ensures rows { OnOk result ((cells : List ℕ) → slice_get so_far.now.rows at ≡ Some cells
-        → GainsOnly into.old.rows into.new.rows
-        (IsKept join.now.kept.now (IsFollower join.now.get.now cells rows.now.rows))) }
+    requires arity { into.old.own.arity ≡ length join.now.kept.now }
+    ensures arity { OnOk result (into.new.own.arity ≡ into.old.own.arity) }
+    ensures rows { OnOk result (GainsOnly (gained_rows join.now.kept.now so_far.now rows.now into.old)
+        (gained_rows join.now.kept.now so_far.now rows.now into.new) (IsKept join.now.kept.now
+        (IsFollower join.now.get.now (slice_index_or so_far.now.rows at []) rows.now.rows))) }
 {
-    if !name_codes(&[], so_far, at, sources, &mut buffers.key)? {
+    if !name_codes(so_far, at, sources, key)? {
         return Ok(());
     }
-    so_far.read_row(at, &mut buffers.cells)?;
-    buffers.first = into.next_stretch();
-    push_followers(alloc, join, rows, index, buffers, into)
+    into.begin();
+    push_followers(alloc, join, so_far, at, rows, index, key.items(), into)
 }
 
 /// Puts what is kept of each of the rows so far with every one of the rows that follows it at the end.
@@ -155,20 +147,23 @@ fn push_each_joined(
     rows: &Rows,
     sources: &Sources,
     index: &Index,
-    buffers: &mut Buffers,
-    into: &mut Seen,
+    key: &mut Values<u64>,
+    into: &mut Gained,
 ) -> Result<(), OutOfMemory>
-    requires none { into.old.rows ≡ [] }
-    requires arity { into.old.arity ≡ length join.now.kept.now }
+    requires none { gained_rows join.now.kept.now so_far.now rows.now into.old ≡ [] }
+    requires arity { into.old.own.arity ≡ length join.now.kept.now }
+    requires named { NameAll join.now.kept.now so_far.now.rows rows.now.rows }
     requires found { (columns : List Source) × FindsRows rows.now.rows columns index.now
         × ((cells row : List ℕ) → Contains so_far.now.rows cells
         → Follows join.now.get.now cells row
         → (codes : List ℕ) × NamesCodes cells sources.now codes × NamesCodes row columns codes) }
-    ensures { OnOk result ((row : List ℕ) → Contains into.new.rows row
+    ensures arity { OnOk result (into.new.own.arity ≡ into.old.own.arity) }
+    ensures rows { OnOk result ((row : List ℕ)
+        → Contains (gained_rows join.now.kept.now so_far.now rows.now into.new) row
         ↔ IsKept join.now.kept.now (IsJoin join.now.get.now so_far.now.rows rows.now.rows) row) }
 {
     'rows: for at in 0..so_far.len() {
-        push_joined(alloc, join, so_far, at, rows, sources, index, buffers, into)?;
+        push_joined(alloc, join, so_far, at, rows, sources, index, key, into)?;
     }
     Ok(())
 }
@@ -192,40 +187,50 @@ fn push_by_index(
     rows: &Rows,
     links: &Links,
     index: &Index,
-    into: &mut Seen,
+    into: &mut Gained,
 ) -> Result<(), OutOfMemory>
-    requires none { into.old.rows ≡ [] }
-    requires arity { into.old.arity ≡ length join.now.kept.now }
+    requires none { gained_rows join.now.kept.now so_far.now rows.now into.old ≡ [] }
+    requires arity { into.old.own.arity ≡ length join.now.kept.now }
+    requires named { NameAll join.now.kept.now so_far.now.rows rows.now.rows }
     requires own { FindsRows rows.now.rows (map (λ link. Cell link.column) links.now) index.now }
     requires early { (cells row : List ℕ) → Contains so_far.now.rows cells
         → Follows join.now.get.now cells row
         → (link : Link) → Contains links.now link → IsMet cells row link }
-    ensures { OnOk result ((row : List ℕ) → Contains into.new.rows row
+    ensures arity { OnOk result (into.new.own.arity ≡ into.old.own.arity) }
+    ensures rows { OnOk result ((row : List ℕ)
+        → Contains (gained_rows join.now.kept.now so_far.now rows.now into.new) row
         ↔ IsKept join.now.kept.now (IsJoin join.now.get.now so_far.now.rows rows.now.rows) row) }
 {
     let sources = sources_of(alloc, links)?;
-    let mut buffers = Buffers::new(alloc);
-    push_each_joined(
-        alloc,
-        join,
-        so_far,
-        rows,
-        &sources,
-        index,
-        &mut buffers,
-        into,
-    )
+    let mut key = Values::new(alloc);
+    push_each_joined(alloc, join, so_far, rows, &sources, index, &mut key, into)
 }
 
-/// No rows of what is kept, with memory for as many as there are so far. Where the join keeps the key of these, rows that
-/// follow different ones differ.
-pub(crate) fn none_kept(alloc: Global, join: &Join, so_far: &Rows) -> Result<Seen, OutOfMemory>
-    ensures { IfOk result (λ it. it ≡ record { arity = length join.now.kept.now; rows = [] }) }
+/// How many rows are foreseen, at most, where there is no more than one row so far.
+const FORESEEN: usize = 1 << 12;
+
+/// Nothing gained yet, with room for one row of each row so far, and for each row of the fragment, up to some thousands,
+/// where there is no more than one so far. Where the join keeps the codes of the key of several rows so far, what is kept
+/// of pairs of different ones differs, so each is looked for only among those of one.
+pub(crate) fn none_gained(
+    alloc: Global,
+    join: &Join,
+    so_far: &Rows,
+    rows: &Rows,
+) -> Result<Gained, OutOfMemory>
+    ensures { IfOk result (λ it. it ≡ record {
+      own = record { arity = length join.now.kept.now; rows = [] };
+      pairs = [];
+    }) }
 {
-    if is_key_kept(join, so_far.arity()) {
-        return Seen::in_stretches(alloc, join.kept.len(), so_far.len());
+    let count = so_far.len();
+    if count <= 1 {
+        return Gained::new(alloc, join.kept.len(), rows.len().min(FORESEEN));
     }
-    Seen::new(alloc, join.kept.len(), so_far.len())
+    if is_key_kept(join, so_far.arity()) {
+        return Gained::in_stretches(alloc, join.kept.len(), count);
+    }
+    Gained::new(alloc, join.kept.len(), count)
 }
 
 /// What is kept of the rows so far, each with every one of the rows that follows it after it, by an index of the rows
@@ -245,9 +250,12 @@ pub(crate) fn joined_over(
     ensures { IfOk result (λ it. (row : List ℕ) → Contains it.rows row
         ↔ IsKept join.now.kept.now (IsJoin join.now.get.now so_far.now.rows rows.now.rows) row) }
 {
-    let mut joined = none_kept(alloc, join, so_far)?;
-    push_by_index(alloc, join, so_far, rows, links, index, &mut joined)?;
-    Ok(joined.into_rows())
+    if !name_all(join.kept, so_far, rows) {
+        return Rows::new(alloc, join.kept.len());
+    }
+    let mut gained = none_gained(alloc, join, so_far, rows)?;
+    push_by_index(alloc, join, so_far, rows, links, index, &mut gained)?;
+    into_rows(alloc, join.kept, so_far, rows, gained)
 }
 
 /// The same, where the index is made for it.

@@ -1,4 +1,4 @@
-//! Where what a join keeps has the codes of the cells of a row so far. Nothing rests on it but speed, so nothing here has a
+//! Where among what a join keeps the codes of a row so far stand. Nothing rests on it but speed, so nothing here has a
 //! contract.
 use crate::join::Join;
 use crate::steps::{Links, Source, Sources};

@@ -5,10 +5,13 @@
 mod asked;
 mod codes;
 mod cost;
+mod gained;
+mod gather;
 mod index;
 mod join;
 mod key;
 mod links;
+mod pairs;
 mod probe;
 mod project;
 mod reads;

@@ -1,166 +1,170 @@
 //! Rows so far joined with rows that are found by the indexes that these have, or else looked at one by one.
-ghost use Rattle.std.specs.Prelude.{◌≡◌, ◌↔◌, ◌<◌, [], List, ℕ, Some, slice_get, length};
+ghost use Rattle.std.specs.Prelude.{◌≡◌, ◌↔◌, ◌<◌, [], List, ℕ, slice_index_or, length};
 ghost use Rattle.std.specs.Prelude.{Contains, IfOk, OnOk, IsTrue, MatchOption};
 ghost use Rattle.esto_steps.specs.declared.steps.Link.{Link};
 ghost use Rattle.esto_steps.specs.Meaning.{IsMet, Follows};
 ghost use Rattle.esto_steps.specs.Joined.{IsJoin, IsFollower, IsFollowerAt, IsKept, GainsOnly};
+ghost use Rattle.esto_steps.specs.Paired.{gained_rows, NameAll};
 ghost use Rattle.esto_steps.specs.Probed.{HaveMet, HaveAllMet};
 
 use crate::codes::code_at;
-use crate::join::{Buffers, Join, none_kept, push_follower};
-use crate::seen::Seen;
+use crate::gained::{Gained, into_rows};
+use crate::gather::name_all;
+use crate::join::{Join, none_gained, push_follower};
+use crate::pairs::Pair;
 use crate::steps::{Link, Links};
 use esto_columns::Rows;
 use esto_term::OutOfMemory;
 use std::alloc::Global;
 
-/// Places among which are those of all rows that meet the link with the cells. `None` may come where the rows have no
-/// index by the link's column.
+/// Places among which are those of all rows that meet the link with the row so far at the place. `None` may come where the
+/// rows have no index by the link's column.
 fn places_met(
     alloc: Global,
+    so_far: &Rows,
+    at: usize,
     rows: &Rows,
-    cells: &[u64],
     link: &Link,
 ) -> Result<Option<Vec<usize>>, OutOfMemory>
-    ensures { IfOk result (λ found. MatchOption found Unit
-        (λ places. HaveMet cells.now rows.now.rows link.now places.items)) }
+    requires { at < length so_far.now.rows }
+    ensures { IfOk result (λ found. MatchOption found Unit (λ places.
+        HaveMet (slice_index_or so_far.now.rows at []) rows.now.rows link.now places.items)) }
 {
-    let Some(code) = code_at(cells, &link.source) else {
+    let Some(code) = code_at(so_far, at, &link.source) else {
         return Ok(Some(Vec::new(alloc)));
     };
     rows.places(alloc, &[link.column], &[code])
 }
 
-/// Places among which are those of all rows that meet the links with the cells, by the first link whose column has an
-/// index.
+/// Places among which are those of all rows that meet the links with the row so far at the place, by the first link whose
+/// column has an index.
 fn places_by(
     alloc: Global,
+    so_far: &Rows,
+    at: usize,
     rows: &Rows,
-    cells: &[u64],
     links: &Links,
 ) -> Result<Option<Vec<usize>>, OutOfMemory>
-    ensures { IfOk result (λ found. MatchOption found Unit
-        (λ places. HaveAllMet cells.now rows.now.rows links.now places.items)) }
+    requires { at < length so_far.now.rows }
+    ensures { IfOk result (λ found. MatchOption found Unit (λ places.
+        HaveAllMet (slice_index_or so_far.now.rows at []) rows.now.rows links.now places.items)) }
 {
     'links: for link in links.items() {
-        if let Some(places) = places_met(alloc, rows, cells, link)? {
+        if let Some(places) = places_met(alloc, so_far, at, rows, link)? {
             return Ok(Some(places));
         }
     }
     Ok(None)
 }
 
-/// Puts what is kept of the cells with each of the rows at the places that follows them at the end. Tells how many
-/// places were looked at.
+/// Puts what is kept of the row so far at the place with each of the rows at the places that follows it at the end. Tells how many places
+/// were looked at.
 fn push_at_places(
     alloc: Global,
     join: &Join,
+    so_far: &Rows,
+    at: usize,
     rows: &Rows,
     places: &[usize],
-    buffers: &mut Buffers,
-    into: &mut Seen,
+    into: &mut Gained,
 ) -> Result<usize, OutOfMemory>
-    requires { into.old.arity ≡ length join.now.kept.now }
-    ensures arity { OnOk result (into.new.arity ≡ into.old.arity) }
-    ensures rows { OnOk result (GainsOnly into.old.rows into.new.rows (λ it. (place : ℕ)
-        × Contains places.now place × IsKept join.now.kept.now
-        (IsFollowerAt join.now.get.now buffers.old.cells rows.now.rows place) it)) }
+    requires there { at < length so_far.now.rows }
+    requires named { NameAll join.now.kept.now so_far.now.rows rows.now.rows }
+    requires arity { into.old.own.arity ≡ length join.now.kept.now }
+    ensures arity { OnOk result (into.new.own.arity ≡ into.old.own.arity) }
+    ensures rows { OnOk result (GainsOnly (gained_rows join.now.kept.now so_far.now rows.now into.old)
+        (gained_rows join.now.kept.now so_far.now rows.now into.new) (λ it. (place : ℕ)
+        × Contains places.now place × IsKept join.now.kept.now (IsFollowerAt join.now.get.now
+        (slice_index_or so_far.now.rows at []) rows.now.rows place) it)) }
 {
     'places: for place in places {
-        push_follower(alloc, join, rows, *place, buffers, into)?;
+        let pair = Pair {
+            left: at,
+            right: *place,
+        };
+        push_follower(alloc, join, so_far, rows, pair, into)?;
     }
     Ok(places.len())
 }
 
-/// Puts what is kept of the cells with each of the rows that follows them at the end, by a look at every row. Tells how
+/// Puts what is kept of the row so far at the place with each of the rows that follows it at the end, by a look at every row. Tells how
 /// many were looked at.
 fn push_everywhere(
     alloc: Global,
     join: &Join,
+    so_far: &Rows,
+    at: usize,
     rows: &Rows,
-    buffers: &mut Buffers,
-    into: &mut Seen,
+    into: &mut Gained,
 ) -> Result<usize, OutOfMemory>
-    requires { into.old.arity ≡ length join.now.kept.now }
-    ensures arity { OnOk result (into.new.arity ≡ into.old.arity) }
-    ensures rows { OnOk result (GainsOnly into.old.rows into.new.rows
-        (IsKept join.now.kept.now (IsFollower join.now.get.now buffers.old.cells rows.now.rows))) }
+    requires there { at < length so_far.now.rows }
+    requires named { NameAll join.now.kept.now so_far.now.rows rows.now.rows }
+    requires arity { into.old.own.arity ≡ length join.now.kept.now }
+    ensures arity { OnOk result (into.new.own.arity ≡ into.old.own.arity) }
+    ensures rows { OnOk result (GainsOnly (gained_rows join.now.kept.now so_far.now rows.now into.old)
+        (gained_rows join.now.kept.now so_far.now rows.now into.new) (IsKept join.now.kept.now
+        (IsFollower join.now.get.now (slice_index_or so_far.now.rows at []) rows.now.rows))) }
 {
     'rows: for place in 0..rows.len() {
-        push_follower(alloc, join, rows, place, buffers, into)?;
+        let pair = Pair {
+            left: at,
+            right: place,
+        };
+        push_follower(alloc, join, so_far, rows, pair, into)?;
     }
     Ok(rows.len())
 }
 
-/// Puts what is kept of the cells with each of the rows that follows them at the end, by one of the links, which each
-/// of these meets, where its column has an index. Tells how many rows were looked at.
+/// Puts what is kept of the row so far at the place with each of the rows that follows it at the end, by one of the links, which each of
+/// these meets, where its column has an index. Tells how many rows were looked at.
 fn push_met(
-    alloc: Global,
-    join: &Join,
-    rows: &Rows,
-    links: &Links,
-    buffers: &mut Buffers,
-    into: &mut Seen,
-) -> Result<usize, OutOfMemory>
-    requires arity { into.old.arity ≡ length join.now.kept.now }
-    requires early { (row : List ℕ) → Follows join.now.get.now buffers.old.cells row
-        → (link : Link) → Contains links.now link → IsMet buffers.old.cells row link }
-    ensures arity { OnOk result (into.new.arity ≡ into.old.arity) }
-    ensures rows { OnOk result (GainsOnly into.old.rows into.new.rows
-        (IsKept join.now.kept.now (IsFollower join.now.get.now buffers.old.cells rows.now.rows))) }
-{
-    if let Some(places) = places_by(alloc, rows, buffers.cells.items(), links)? {
-        return push_at_places(alloc, join, rows, places.as_slice(), buffers, into);
-    }
-    push_everywhere(alloc, join, rows, buffers, into)
-}
-
-/// Puts what is kept of the row so far at the place with each of the rows that follows it at the end, by one of the
-/// links where its column has an index. Tells how many rows were looked at.
-fn push_reached(
     alloc: Global,
     join: &Join,
     so_far: &Rows,
     at: usize,
     rows: &Rows,
     links: &Links,
-    buffers: &mut Buffers,
-    into: &mut Seen,
+    into: &mut Gained,
 ) -> Result<usize, OutOfMemory>
     requires there { at < length so_far.now.rows }
-    requires arity { into.old.arity ≡ length join.now.kept.now }
+    requires named { NameAll join.now.kept.now so_far.now.rows rows.now.rows }
     requires early { (cells row : List ℕ) → Contains so_far.now.rows cells
         → Follows join.now.get.now cells row
         → (link : Link) → Contains links.now link → IsMet cells row link }
-    ensures arity { OnOk result (into.new.arity ≡ into.old.arity) }
-    ensures rows { OnOk result ((cells : List ℕ) → slice_get so_far.now.rows at ≡ Some cells
-        → GainsOnly into.old.rows into.new.rows
-        (IsKept join.now.kept.now (IsFollower join.now.get.now cells rows.now.rows))) }
+    requires arity { into.old.own.arity ≡ length join.now.kept.now }
+    ensures arity { OnOk result (into.new.own.arity ≡ into.old.own.arity) }
+    ensures rows { OnOk result (GainsOnly (gained_rows join.now.kept.now so_far.now rows.now into.old)
+        (gained_rows join.now.kept.now so_far.now rows.now into.new) (IsKept join.now.kept.now
+        (IsFollower join.now.get.now (slice_index_or so_far.now.rows at []) rows.now.rows))) }
 {
-    so_far.read_row(at, &mut buffers.cells)?;
-    buffers.first = into.next_stretch();
-    push_met(alloc, join, rows, links, buffers, into)
+    into.begin();
+    if let Some(places) = places_by(alloc, so_far, at, rows, links)? {
+        return push_at_places(alloc, join, so_far, at, rows, places.as_slice(), into);
+    }
+    push_everywhere(alloc, join, so_far, at, rows, into)
 }
 
-/// Puts what is kept of each of the rows so far with every one of the rows that follows it at the end, by one of the
-/// links where its column has an index. Gives up before the next row so far once more than the most were looked at, and
-/// tells whether it went through.
-fn push_each_reached(
+/// Puts what is kept of each of the rows so far with every one of the rows that follows it at the end, by one of the links where its
+/// column has an index. Gives up before the next row so far once more than the most were looked at, and tells whether it
+/// went through.
+fn push_each_met(
     alloc: Global,
     join: &Join,
     so_far: &Rows,
     rows: &Rows,
     links: &Links,
     most: usize,
-    buffers: &mut Buffers,
-    into: &mut Seen,
+    into: &mut Gained,
 ) -> Result<bool, OutOfMemory>
-    requires none { into.old.rows ≡ [] }
-    requires arity { into.old.arity ≡ length join.now.kept.now }
+    requires none { gained_rows join.now.kept.now so_far.now rows.now into.old ≡ [] }
+    requires arity { into.old.own.arity ≡ length join.now.kept.now }
+    requires named { NameAll join.now.kept.now so_far.now.rows rows.now.rows }
     requires early { (cells row : List ℕ) → Contains so_far.now.rows cells
         → Follows join.now.get.now cells row
         → (link : Link) → Contains links.now link → IsMet cells row link }
-    ensures { IfOk result (λ through. IsTrue through → (row : List ℕ) → Contains into.new.rows row
+    ensures arity { OnOk result (into.new.own.arity ≡ into.old.own.arity) }
+    ensures rows { IfOk result (λ through. IsTrue through → (row : List ℕ)
+        → Contains (gained_rows join.now.kept.now so_far.now rows.now into.new) row
         ↔ IsKept join.now.kept.now (IsJoin join.now.get.now so_far.now.rows rows.now.rows) row) }
 {
     let mut looked: usize = 0;
@@ -168,32 +172,10 @@ fn push_each_reached(
         if looked > most {
             return Ok(false);
         }
-        let more = push_reached(alloc, join, so_far, at, rows, links, buffers, into)?;
+        let more = push_met(alloc, join, so_far, at, rows, links, into)?;
         looked = looked.saturating_add(more);
     }
     Ok(true)
-}
-
-/// The same with lists of its own that are filled anew for each row.
-fn push_all_reached(
-    alloc: Global,
-    join: &Join,
-    so_far: &Rows,
-    rows: &Rows,
-    links: &Links,
-    most: usize,
-    into: &mut Seen,
-) -> Result<bool, OutOfMemory>
-    requires none { into.old.rows ≡ [] }
-    requires arity { into.old.arity ≡ length join.now.kept.now }
-    requires early { (cells row : List ℕ) → Contains so_far.now.rows cells
-        → Follows join.now.get.now cells row
-        → (link : Link) → Contains links.now link → IsMet cells row link }
-    ensures { IfOk result (λ through. IsTrue through → (row : List ℕ) → Contains into.new.rows row
-        ↔ IsKept join.now.kept.now (IsJoin join.now.get.now so_far.now.rows rows.now.rows) row) }
-{
-    let mut buffers = Buffers::new(alloc);
-    push_each_reached(alloc, join, so_far, rows, links, most, &mut buffers, into)
 }
 
 /// What is kept of the rows so far, each with every one of the rows that follows it after it. The rows are found by the
@@ -214,7 +196,13 @@ pub(crate) fn joined_reached(
         → Contains it.rows row
         ↔ IsKept join.now.kept.now (IsJoin join.now.get.now so_far.now.rows rows.now.rows) row)) }
 {
-    let mut joined = none_kept(alloc, join, so_far)?;
-    let through = push_all_reached(alloc, join, so_far, rows, links, most, &mut joined)?;
-    Ok(through.then_some(joined.into_rows()))
+    if !name_all(join.kept, so_far, rows) {
+        return Ok(Some(Rows::new(alloc, join.kept.len())?));
+    }
+    let mut gained = none_gained(alloc, join, so_far, rows)?;
+    if !push_each_met(alloc, join, so_far, rows, links, most, &mut gained)? {
+        return Ok(None);
+    }
+    let joined = into_rows(alloc, join.kept, so_far, rows, gained)?;
+    Ok(Some(joined))
 }

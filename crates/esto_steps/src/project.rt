@@ -1,52 +1,40 @@
-//! The codes that sources name in rows.
-ghost use Rattle.std.specs.Prelude.{◌≡◌, ◌↔◌, ◌<◌, List, ℕ, length, slice_get, Some, [], Contains, IfOk, OnOk};
-ghost use Rattle.esto_steps.specs.Joined.{GainsOnly};
-ghost use Rattle.esto_steps.specs.Named.{NamesCodes};
+//! The codes that sources name in rows, column by column.
+ghost use Rattle.std.specs.Prelude.{◌≡◌, ◌↔◌, List, ℕ, length, map, Contains, IfOk};
+ghost use Rattle.esto_steps.specs.declared.steps.Source.{Source};
+ghost use Rattle.esto_steps.specs.Meaning.{code_at};
+ghost use Rattle.esto_steps.specs.Named.{IsEarly, NamesCodes};
+ghost use Rattle.esto_steps.specs.Paired.{code_or_zero};
 
-use crate::codes::name_codes;
-use crate::steps::Sources;
-use esto_columns::Rows;
-use esto_term::{OutOfMemory, Values};
+use crate::gather::{are_within, repeated};
+use crate::steps::{Source, Sources};
+use esto_columns::{Column, Rows};
+use esto_term::{List, OutOfMemory, Replicate};
 use std::alloc::Global;
 
-/// Puts the codes of the head in the row at the place at the end, where each is there. The codes are read into the
-/// list.
-fn push_projected(
-    head: &Sources,
-    rows: &Rows,
-    at: usize,
-    codes: &mut Values<u64>,
-    into: &mut Rows,
-) -> Result<(), OutOfMemory>
-    requires there { at < length rows.now.rows }
-    requires arity { into.old.arity ≡ length head.now }
-    ensures arity { OnOk result (into.new.arity ≡ into.old.arity) }
-    ensures rows { OnOk result ((row : List ℕ) → slice_get rows.now.rows at ≡ Some row
-        → GainsOnly into.old.rows into.new.rows (NamesCodes row head.now)) }
+/// The codes that the source names in the rows.
+fn codes_of(alloc: Global, rows: &Rows, source: &Source) -> Result<Column, OutOfMemory>
+    requires { IsEarly rows.now.arity source.now }
+    ensures { IfOk result (λ it. it
+        ≡ map (λ row. code_or_zero (code_at row source.now)) rows.now.rows) }
 {
-    if !name_codes(&[], rows, at, head, codes)? {
-        return Ok(());
+    match source {
+        Source::Code(code) => repeated(alloc, rows.len(), *code),
+        Source::Cell(place) => rows.column(*place).copy(alloc),
     }
-    into.add(codes.items())
 }
 
-/// Puts the codes of the head in each of the rows at the end, where each is there.
-fn push_each_projected(
-    alloc: Global,
-    head: &Sources,
-    rows: &Rows,
-    into: &mut Rows,
-) -> Result<(), OutOfMemory>
-    requires { into.old ≡ record { arity = length head.now; rows = [] } }
-    ensures arity { OnOk result (into.new.arity ≡ length head.now) }
-    ensures rows { OnOk result ((row : List ℕ) → Contains into.new.rows row
-        ↔ ((end : List ℕ) × Contains rows.now.rows end × NamesCodes end head.now row)) }
+/// The columns of the head's codes in the rows.
+fn head_columns(alloc: Global, head: &Sources, rows: &Rows) -> Result<List<Column>, OutOfMemory>
+    requires { (source : Source) → Contains head.now source → IsEarly rows.now.arity source }
+    ensures { IfOk result (λ it. it ≡ map (λ source.
+        map (λ row. code_or_zero (code_at row source)) rows.now.rows) head.now) }
 {
-    let mut codes = Values::new(alloc);
-    'rows: for at in 0..rows.len() {
-        push_projected(head, rows, at, &mut codes, into)?;
+    let mut columns = List::new(alloc);
+    'sources: for source in head.items() {
+        let column = codes_of(alloc, rows, source)?;
+        columns.push(column)?;
     }
-    Ok(())
+    Ok(columns)
 }
 
 /// The codes of the head in each of the rows.
@@ -55,7 +43,9 @@ pub fn projected(alloc: Global, head: &Sources, rows: &Rows) -> Result<Rows, Out
     ensures rows { IfOk result (λ it. (row : List ℕ) → Contains it.rows row
         ↔ ((end : List ℕ) × Contains rows.now.rows end × NamesCodes end head.now row)) }
 {
-    let mut projected = Rows::new(alloc, head.len())?;
-    push_each_projected(alloc, head, rows, &mut projected)?;
-    Ok(projected)
+    if !are_within(head, rows.arity(), 0) {
+        return Rows::new(alloc, head.len());
+    }
+    let columns = head_columns(alloc, head, rows)?;
+    Ok(Rows::of_columns(alloc, columns.into_vec(), rows.len()))
 }

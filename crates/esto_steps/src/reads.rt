@@ -140,13 +140,13 @@ fn push_first(
         (AreStood cells.now (take at rows.now.rows) seen.old.rows few.old.rows
         → AreStood cells.now (take (at + 1) rows.now.rows) seen.new.rows few.new.rows) }
 {
-    if !name_codes(&[], rows, at, cells, &mut buffers.key)? {
+    if !name_codes(rows, at, cells, &mut buffers.key)? {
         return few.add_from(rows, at, &mut buffers.row);
     }
-    if seen.has(0, buffers.key.items()) {
+    if seen.has(buffers.key.items()) {
         return Ok(());
     }
-    seen.put(alloc, 0, buffers.key.items())?;
+    seen.put(alloc, buffers.key.items())?;
     few.add_from(rows, at, &mut buffers.row)
 }
 

@@ -32,5 +32,5 @@ pub fn read_key(
     if at >= rows.len() {
         return Ok(false);
     }
-    name_codes(&[], rows, at, columns, key)
+    name_codes(rows, at, columns, key)
 }

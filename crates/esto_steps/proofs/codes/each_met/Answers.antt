@@ -23,7 +23,7 @@ returns-then-not-has_code c =
 pub links-preserved : goal.links-preserved
 links-preserved c =
     let has = c.has_code.ensures.0 c.if-not-has_code.false in
-    holds_more (λ _ link. IsMet c.args.cells.now (get_or c.args.rows.now.rows c.args.place []) link) c.items-link-items.result.now
+    holds_more (λ _ link. IsMet (get_or c.args.so_far.now.rows c.args.pair.left []) (get_or c.args.rows.now.rows c.args.pair.right []) link) c.items-link-items.result.now
     c.links.link-index _ c.links-test.true (get_or_default _ _ _ _ c.links-test.true) c.links.invariant
     (has.0, has.1, sym c.code_at-code.ensures ∙ has.2)
 
@@ -31,7 +31,7 @@ pub returns : goal.returns
 returns c = (
   λ _ link inside.
       let at = place-from_Contains c.args.links.now link inside in
-      holds_all (λ _ it. IsMet c.args.cells.now (get_or c.args.rows.now.rows c.args.place []) it) c.items-link-items.result.now
+      holds_all (λ _ it. IsMet (get_or c.args.so_far.now.rows c.args.pair.left []) (get_or c.args.rows.now.rows c.args.pair.right []) it) c.items-link-items.result.now
       c.links.link-index c.links-test.false c.links.invariant at.0 link
       (subst (λ them. slice_get them at.0 ≡ Some link) (sym c.items-link-items.ensures) at.1),
   λ _. refl,

@@ -4,4 +4,4 @@ use Rattle.esto_steps.specs.Meaning.{IsMet}
 use Rattle.esto_steps.proofs.codes.each_passed.Given as goal
 
 abbrev pub invariant-links : goal.invariant-links
-invariant-links l = HoldsBelow (λ _ link. IsMet (l.cells ++ get_or l.rows.rows l.place []) (get_or l.rows.rows l.place []) link) l.link-items l.link-index
+invariant-links l = HoldsBelow (λ _ link. IsMet (get_or l.so_far.rows l.pair.left [] ++ get_or l.rows.rows l.pair.right []) (get_or l.rows.rows l.pair.right []) link) l.link-items l.link-index

@@ -1,19 +1,28 @@
-use Rattle.std.proofs.Common.{◌↔◌, ℕ, List, Contains, sym, subst, ap}
+use Rattle.std.proofs.Common.{ap, ◌∙◌}
 use Rattle.esto_columns.specs.CodedRows.{CodedRows}
 use Rattle.esto_steps.specs.Joined.{IsJoin, IsKept}
-use Rattle.esto_steps.proofs.ProbeLemmas.{come_through}
+use Rattle.esto_steps.specs.Paired.{Gained, gained_rows}
+use Rattle.esto_steps.proofs.GainLemmas.{joins_unnamed, joins_gained}
 use Rattle.esto_steps.proofs.probe.joined_reached.Goals as goal
 
-pub push_all_reached-requires-clause-none : goal.push_all_reached-requires-clause-none
-push_all_reached-requires-clause-none c = ap (λ (it : CodedRows). it.rows) c.in_ok-joined.ensures
+pub returns-then-not-name_all : goal.returns-then-not-name_all
+returns-then-not-name_all c =
+    joins_unnamed c.args.join.now.get.now c.args.join.now.kept.now c.args.so_far.now.rows c.args.rows.now.rows c.in_ok-new.field-0.rows
+    (ap (λ (them : CodedRows). them.rows) c.in_ok-new.ensures) (c.name_all.ensures.none c.if-not-name_all.true)
 
-pub push_all_reached-requires-clause-arity : goal.push_all_reached-requires-clause-arity
-push_all_reached-requires-clause-arity c = ap (λ (it : CodedRows). it.arity) c.in_ok-joined.ensures
+pub push_each_met-requires-clause-none : goal.push_each_met-requires-clause-none
+push_each_met-requires-clause-none c = ap (gained_rows c.args.join.now.kept.now c.args.so_far.now c.args.rows.now) c.in_ok-gained.ensures
+
+pub push_each_met-requires-clause-arity : goal.push_each_met-requires-clause-arity
+push_each_met-requires-clause-arity c = ap (λ (it : Gained). it.own.arity) c.in_ok-gained.ensures
+
+pub push_each_met-requires-clause-named : goal.push_each_met-requires-clause-named
+push_each_met-requires-clause-named c = c.name_all.ensures.all c.if-not-name_all.false
+
+pub into_rows-requires : goal.into_rows-requires
+into_rows-requires c = c.in_ok-push_each_met.ensures.arity ∙ ap (λ (it : Gained). it.own.arity) c.in_ok-gained.ensures
 
 pub returns : goal.returns
-returns c = come_through c.in_ok-through.through c.into_rows.result c.then_some.result
-    (λ it. (row : List ℕ) → Contains it.rows row ↔ IsKept c.args.join.now.kept.now (IsJoin c.args.join.now.get.now c.args.so_far.now.rows
-    c.args.rows.now.rows) row) c.then_some.ensures
-    (λ all row. subst
-    (λ (it : CodedRows). Contains it.rows row ↔ IsKept c.args.join.now.kept.now (IsJoin c.args.join.now.get.now c.args.so_far.now.rows c.args.rows.now.rows)
-    row) (sym c.into_rows.ensures) (c.in_ok-through.ensures all row))
+returns c = joins_gained c.args.join.now.kept.now c.args.so_far.now c.args.rows.now c.in_ok-joined.joined c.push_each_met.new.into
+    (IsKept c.args.join.now.kept.now (IsJoin c.args.join.now.get.now c.args.so_far.now.rows c.args.rows.now.rows)) c.in_ok-joined.ensures
+    (c.in_ok-push_each_met.ensures.rows c.if-not-branch.false)

@@ -1,4 +1,4 @@
-use Rattle.esto_steps.proofs.seen.Seen.place_by_index.Given as goal
+use Rattle.esto_steps.proofs.gained.Gained.has_row.Given as goal
 
 abbrev pub decreases-places : goal.decreases-places
 decreases-places l = l.next

@@ -1,8 +1,0 @@
-use Rattle.std.proofs.Common.{◌≡◌, ◌↔◌, ℕ, List, take, Contains}
-use Rattle.esto_steps.specs.Joined.{IsJoin, IsKept}
-use Rattle.esto_steps.proofs.probe.push_each_reached.Given as goal
-
-abbrev pub invariant-rows : goal.invariant-rows
-invariant-rows l =
-    ((row : List ℕ) → Contains l.into.rows row ↔ IsKept l.join.kept.now (IsJoin l.join.get.now (take l.at l.so_far.rows) l.rows.rows) row)
-    × (l.into.arity ≡ l.initial.into.arity)
