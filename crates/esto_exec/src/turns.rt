@@ -206,7 +206,7 @@ fn join_rows<F: Whole>(
 }
 
 /// Joins the rows so far with those of the fragment, and keeps the codes of the kept slots, where the cells are those of
-/// the slots at the places.
+/// the slots at the places. The key is one of the rows so far, and becomes one of what is kept.
 fn join_slots<F: Whole>(
     alloc: Global,
     get: &Get,
@@ -222,22 +222,23 @@ fn join_slots<F: Whole>(
         (IsJoin get.now so_far.old.rows (F.rows fragment.now)) row) }
 {
     let sources = slot_sources(alloc, places, kept)?;
-    let known = Join {
+    let carried = Join {
         get,
         kept: &sources,
         key: &*key,
     };
-    let own = key_before(alloc, &known, so_far)?;
+    let own_key = key_before(alloc, &carried, so_far)?;
     let join = Join {
         get,
         kept: &sources,
-        key: &own,
+        key: &own_key,
     };
     *key = join_rows(alloc, &join, fragment, so_far)?;
     Ok(())
 }
 
-/// Joins the rows so far with those of the fragment, and keeps of their slots those that are needed, with a key.
+/// Joins the rows so far with those of the fragment, and keeps of their slots those that are needed. The key is one of the
+/// rows so far, and becomes one of what is kept.
 fn follow<F: Whole>(
     alloc: Global,
     get: &Get,
@@ -270,7 +271,7 @@ pub(crate) struct Prepared<'a> {
     pub first: Option<usize>,
 }
 
-/// Rows so far: the numbers of the gets that are done, the slots of the cells, a key, which is cells such that no two of
+/// Rows so far: the numbers of the gets that are done, the slots of the cells, a key, that is, cells such that no two of
 /// the rows have the same codes in all of them, and the rows.
 #[derive(Drop)]
 pub(crate) struct SoFar {

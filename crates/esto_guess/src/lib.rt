@@ -1,6 +1,6 @@
 //! How many rows there are about once a get is joined, by a look at some of the rows so far and of the fragment's, and
-//! keys of rows so far, by which a join finds rows that are there already. Nothing rests on either but speed, so nothing
-//! here has a contract. Start from `guessed_count`, `key_before` and `key_after`.
+//! keys of rows so far, by which a join knows where a row may stand already. Nothing rests on either but speed, so
+//! nothing here has a contract. Start from `guessed_count`, `key_before` and `key_after`.
 #![tactic(auto)]
 
 mod found;
