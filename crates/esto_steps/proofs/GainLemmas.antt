@@ -33,7 +33,7 @@ same_gains old new row same inside it = (
 pub gains_after : (old begun new : List (List ℕ)) (Has : List ℕ → Type 0) → begun ≡ old → GainsOnly begun new Has → GainsOnly old new Has
 gains_after old begun new Has same gains = subst (λ it. GainsOnly it new Has) same gains
 
--- ---- joins of which nothing is kept, and of which all that is gained is
+-- ---- joins of which nothing or all is kept
 
 -- no joined row is kept where the sources name no codes
 pub joins_unnamed : (get : Get) (kept : List Source) (so_far rows new : List (List ℕ)) → new ≡ [] → NameNone kept so_far rows → (row : List ℕ)
@@ -119,7 +119,7 @@ module _ (kept : List Source) (so_far rows : CodedRows) where
       (subst (λ them. Contains ((old.own.rows ++ code ∷ []) ++ before) row ↔ Contains (old.own.rows ++ them) row) (sym whole)
       (moved old.own.rows before code row))
 
-  -- what is gained where there are no own rows, and where what is kept of the pairs comes after them
+  -- what is gained where no pair is a row of its own, and where each is put after those
   pub none_own : (gained : Gained) (more : CodedRows) → length gained.own.rows ≡ 0
       → more ≡ record { arity = length kept; rows = kept_rows kept so_far rows gained.pairs } → (row : List ℕ)
       → Contains more.rows row ↔ Contains (gained_rows kept so_far rows gained) row

@@ -1,4 +1,4 @@
-//! What a join gains: rows, of which no two are the same where its stretches are truly told.
+//! What a join gains: rows, of which no two are the same.
 ghost use Rattle.std.specs.Prelude.{◌≡◌, ◌↔◌, [], ◌∷◌, ◌++◌, List, ℕ, length, Contains, IfOk, OnOk, IsTrue};
 ghost use Rattle.esto_columns.specs.CodedRows.{CodedRows};
 ghost use Rattle.esto_steps.specs.Joined.{GainsOnly};
@@ -17,11 +17,10 @@ use std::marker::Model;
 const MOST_NEAR: usize = 32;
 
 /// What a join gained so far: rows of its own, and pairs of which what is kept isn't put together yet. What comes is in
-/// stretches: what is kept of the pairs of one differs from what is kept of those of another, so a pair is looked for in its
-/// own alone. Pairs of a short stretch are looked through one by one. Those of a long one become rows, which an index finds,
-/// and so does all where there is but one stretch. The index is made anew when it is full, and for the next long stretch.
-/// The stretch begins at `first` among the pairs, and where it is indexed, at `indexed` among the rows, from where the index
-/// counts. There is room in it for so many rows. The codes are filled anew for each pair.
+/// stretches: what is kept of the pairs of one differs from what is kept of those of another, so a pair is looked for in
+/// its own alone. Pairs of a short stretch are looked through one by one. Those of a long one become rows, which an index
+/// finds, and so does all where there is but one stretch. The index is made anew when it is full, and for the next long
+/// stretch.
 #[derive(Drop)]
 pub(crate) struct Gained {
     own: Rows,
@@ -224,7 +223,7 @@ impl Gained {
         Ok(())
     }
 
-    /// Where the pairs of the stretch are many, makes them rows, which an index made for them finds.
+    /// Makes the pairs of the stretch rows that an index finds, where they are many.
     fn settle(
         &mut self,
         alloc: Global,
@@ -249,8 +248,7 @@ impl Gained {
         self.move_stretch(alloc, kept, so_far, rows)
     }
 
-    /// Puts the pair at the end, unless one of the stretch is the same in what is kept. Pairs that are many then become
-    /// rows.
+    /// Puts the pair at the end, unless one of the stretch is the same in what is kept.
     fn put_pair(
         &mut self,
         alloc: Global,
@@ -294,8 +292,7 @@ pub(crate) fn put_unseen(
     into.put_pair(alloc, kept, so_far, rows, pair)
 }
 
-/// The rows that are gained: its own, and then what is kept of the pairs. What comes of a stretch stands side by side, since
-/// all of it is in the one or in the other; keys of joined rows rest on that.
+/// The rows that are gained.
 pub(crate) fn into_rows(
     alloc: Global,
     kept: &Sources,
