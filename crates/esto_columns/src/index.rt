@@ -32,7 +32,7 @@ impl Model for Index {
 }
 
 /// The hash with the code taken into it.
-fn mixed(hash: u64, code: u64) -> u64
+pub(crate) fn mixed(hash: u64, code: u64) -> u64
     ensures { result ≡ mixed hash code }
 {
     hash.wrapping_mul(FACTOR).wrapping_add(code)
@@ -73,7 +73,7 @@ fn zeros(alloc: Global, count: usize) -> Result<Values<u32>, OutOfMemory>
     ensures long { IfOk result (λ it. length it ≡ count) }
     ensures zero { IfOk result (λ it. (at : ℕ) → slice_index_or it at 0 ≡ 0) }
 {
-    let mut zeros = Values::new(alloc);
+    let mut zeros = Values::with_room(alloc, count)?;
     'places: for _place in 0..count {
         zeros.push(0)?;
     }
@@ -126,11 +126,14 @@ fn chain_of(alloc: Global, before: &Values<u32>, last: usize) -> Result<Vec<usiz
 }
 
 impl Index {
-    /// The index of no keys. Places are found fast as long as there are not many more of them than the count.
-    pub fn new(alloc: Global, count: usize) -> Result<Index, OutOfMemory>
+    /// The index of no keys. Places are found fast as long as there are not many more of them than there is room for.
+    ///
+    /// The count of buckets is odd: where it is even, codes that come at an even step, such as every second one, leave half
+    /// of the buckets empty.
+    pub fn new(alloc: Global, room: usize) -> Result<Index, OutOfMemory>
         ensures { IfOk result (λ it. IsIndexOf it []) }
     {
-        let last = zeros(alloc, count.max(1))?;
+        let last = zeros(alloc, room | 1)?;
         Ok(Index {
             last,
             before: Values::new(alloc),

@@ -226,14 +226,6 @@ impl Rows {
         self.table.read_row(at, codes)
     }
 
-    /// The row at a place.
-    pub fn row(&self, alloc: Global, at: usize) -> Result<Values<u64>, OutOfMemory>
-        requires { at < length self.now.rows }
-        ensures { IfOk result (λ row. slice_get self.now.rows at ≡ Some row) }
-    {
-        self.table.row(alloc, at)
-    }
-
     /// Makes an index of the rows by the columns, which stays until a row is added.
     pub fn index(&mut self, alloc: Global, columns: &[usize]) -> Result<(), OutOfMemory>
         ensures { self.new ≡ self.old }

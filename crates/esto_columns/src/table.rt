@@ -158,16 +158,6 @@ impl Table {
         self.push_row(at, codes)
     }
 
-    /// The row at a place.
-    pub(crate) fn row(&self, alloc: Global, at: usize) -> Result<Values<u64>, OutOfMemory>
-        requires { at < length self.now.rows }
-        ensures { IfOk result (λ row. slice_get self.now.rows at ≡ Some row) }
-    {
-        let mut row = Values::new(alloc);
-        self.push_row(at, &mut row)?;
-        Ok(row)
-    }
-
     /// The same rows.
     pub(crate) fn copy(&self, alloc: Global) -> Result<Table, OutOfMemory>
         ensures { IfOk result (λ it. it ≡ self.now) }

@@ -17,7 +17,7 @@ use crate::slots::{
     side_of, source_in,
 };
 use esto_columns::Rows;
-use esto_guess::{key_after, key_before};
+use esto_guess::{Keyed, is_key_kept, key_after, key_before};
 use esto_steps::{Get, Gets, Join, Link, Links, Sources, Whole, asked_rows, joined_firsts};
 use esto_term::{List, OutOfMemory, Places, Values};
 use std::alloc::Global;
@@ -189,18 +189,24 @@ fn joined_fragment<F: Whole>(
 /// Joins the rows so far with those of the fragment, and gives a key of what is kept.
 fn join_rows<F: Whole>(
     alloc: Global,
-    join: &Join,
+    keyed: &Keyed,
     fragment: &F,
     so_far: &mut Rows,
 ) -> Result<Places, OutOfMemory>
     requires { IsAllowed (F.shape fragment.now)
-        (map (λ link. link.column) join.now.get.now.inputs) }
+        (map (λ link. link.column) keyed.now.get.now.inputs) }
     ensures { OnOk result ((row : List ℕ) → Contains so_far.new.rows row
-        ↔ IsKept join.now.kept.now
-        (IsJoin join.now.get.now so_far.old.rows (F.rows fragment.now)) row) }
+        ↔ IsKept keyed.now.kept.now
+        (IsJoin keyed.now.get.now so_far.old.rows (F.rows fragment.now)) row) }
 {
-    let joined = joined_fragment(alloc, join, fragment, so_far)?;
-    let key = key_after(alloc, join, so_far.arity(), &joined)?;
+    let width = so_far.arity();
+    let join = Join {
+        get: keyed.get,
+        kept: keyed.kept,
+        in_stretches: is_key_kept(keyed, width),
+    };
+    let joined = joined_fragment(alloc, &join, fragment, so_far)?;
+    let key = key_after(alloc, keyed, width, &joined)?;
     *so_far = joined;
     Ok(key)
 }
@@ -222,18 +228,18 @@ fn join_slots<F: Whole>(
         (IsJoin get.now so_far.old.rows (F.rows fragment.now)) row) }
 {
     let sources = slot_sources(alloc, places, kept)?;
-    let carried = Join {
+    let carried = Keyed {
         get,
         kept: &sources,
         key: &*key,
     };
     let own_key = key_before(alloc, &carried, so_far)?;
-    let join = Join {
+    let keyed = Keyed {
         get,
         kept: &sources,
         key: &own_key,
     };
-    *key = join_rows(alloc, &join, fragment, so_far)?;
+    *key = join_rows(alloc, &keyed, fragment, so_far)?;
     Ok(())
 }
 

@@ -1,7 +1,8 @@
 //! Keys of rows so far: cells such that no two of the rows have the same codes in all of them.
+use crate::kept::{Keyed, code_kept_at, is_key_kept};
 use crate::marks::all_differ;
 use esto_columns::Rows;
-use esto_steps::{Join, Source, Sources, code_kept_at, is_key_kept};
+use esto_steps::{Source, Sources};
 use esto_term::{OutOfMemory, Places, Replicate, Values};
 use std::alloc::Global;
 
@@ -17,7 +18,7 @@ fn push_once(into: &mut Places, place: usize) -> Result<(), OutOfMemory> {
 
 /// Puts at the end of the list where among the kept the codes of the join's key stand, as far as they are kept and are not
 /// there. Rows so far have so many cells.
-fn push_key(into: &mut Places, join: &Join, width: usize) -> Result<(), OutOfMemory> {
+fn push_key(into: &mut Places, join: &Keyed, width: usize) -> Result<(), OutOfMemory> {
     'cells: for cell in join.key.items() {
         if let Some(at) = code_kept_at(join, width, *cell) {
             push_once(into, at)?;
@@ -80,12 +81,13 @@ fn any_as_before(rows: &Rows, cells: &Places) -> bool {
 }
 
 /// A key of the joined rows, where the join's key is one of the rows so far, which have so many cells. Where the join keeps
-/// its codes, joined rows that are the same in them follow one row so far, and stand side by side. If there are none, these
-/// codes are a key of the joined rows too; else the new cells come before them, since neighbours likely differ there. Where
-/// the join drops one of the codes, the key is all that is kept, from the last one back for the same reason.
+/// its codes, joined rows that are the same in them follow one row so far, and stand side by side (`into_rows` of esto_steps
+/// sees to it). If no two are the same, these codes are a key of the joined rows too; else the new cells come before them,
+/// since neighbours likely differ there. Where the join drops one of the codes, the key is all that is kept, from the last
+/// one back for the same reason.
 pub fn key_after(
     alloc: Global,
-    join: &Join,
+    join: &Keyed,
     width: usize,
     joined: &Rows,
 ) -> Result<Places, OutOfMemory> {
@@ -113,7 +115,7 @@ fn differ_in(alloc: Global, rows: &Rows, cell: usize) -> Result<bool, OutOfMemor
 
 /// The first cell of which the join keeps the code and in which all rows so far are found to differ; none where none is
 /// found.
-fn kept_apart(alloc: Global, join: &Join, so_far: &Rows) -> Result<Option<usize>, OutOfMemory> {
+fn kept_apart(alloc: Global, join: &Keyed, so_far: &Rows) -> Result<Option<usize>, OutOfMemory> {
     let width = so_far.arity();
     'cells: for cell in 0..width {
         if code_kept_at(join, width, cell).is_some() && differ_in(alloc, so_far, cell)? {
@@ -148,7 +150,7 @@ fn are_twice(rows: &Rows, cell: usize, other: usize) -> bool {
 
 /// A cell of which the join keeps the code and that stands for the cell in all rows so far: the cell itself or one with the
 /// same codes; none where there is none.
-fn kept_for(join: &Join, so_far: &Rows, cell: usize) -> Option<usize> {
+fn kept_for(join: &Keyed, so_far: &Rows, cell: usize) -> Option<usize> {
     let width = so_far.arity();
     if code_kept_at(join, width, cell).is_some() {
         return Some(cell);
@@ -161,8 +163,9 @@ fn kept_for(join: &Join, so_far: &Rows, cell: usize) -> Option<usize> {
     None
 }
 
-/// The join's key, with a cell that the join keeps in place of each one that it drops; none where one has no such cell.
-fn key_kept(alloc: Global, join: &Join, so_far: &Rows) -> Result<Option<Places>, OutOfMemory> {
+/// The join's key, with a cell that the join keeps in place of each one that it drops; none where one has no such cell. The
+/// same cell may come twice, where it stands in for two; `push_once` drops it later.
+fn key_kept(alloc: Global, join: &Keyed, so_far: &Rows) -> Result<Option<Places>, OutOfMemory> {
     let mut key = Values::new(alloc);
     'cells: for cell in join.key.items() {
         let Some(kept) = kept_for(join, so_far, *cell) else {
@@ -173,9 +176,13 @@ fn key_kept(alloc: Global, join: &Join, so_far: &Rows) -> Result<Option<Places>,
     Ok(Some(key))
 }
 
-/// A key of the rows so far, of which the join's key is one. Where one is found of which the join keeps the codes, it is that:
-/// the join's, with other cells in place of those that it drops, or a cell that is a key alone.
-pub fn key_before(alloc: Global, join: &Join, so_far: &Rows) -> Result<Places, OutOfMemory> {
+/// A key of the rows so far, of which the join's key is one. For at most one row so far it is the empty one. For more, where
+/// one is found of which the join keeps the codes, it is that: the join's, with other cells in place of those that it drops,
+/// or a cell that is a key alone.
+pub fn key_before(alloc: Global, join: &Keyed, so_far: &Rows) -> Result<Places, OutOfMemory> {
+    if so_far.len() <= 1 {
+        return Ok(Values::new(alloc));
+    }
     if let Some(key) = key_kept(alloc, join, so_far)? {
         return Ok(key);
     }

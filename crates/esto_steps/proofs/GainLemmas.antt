@@ -1,7 +1,7 @@
 -- What a join gains.
 use Rattle.std.proofs.Common.{◌≡◌, ◌↔◌, inl, inr, ℕ, ◌+◌, ◌≤◌, List, [], ◌∷◌, ◌++◌, length, take, Some}
 use Rattle.std.proofs.Common.{slice_get, Contains, sym, ap, ◌∙◌, subst}
-use Rattle.std.proofs.lemmas.List.{append_assoc, map-append, nil_from_length, take_all}
+use Rattle.std.proofs.lemmas.List.{append_assoc, map-append, take_all}
 use Rattle.std.proofs.lemmas.List.Elements.{Contains-append_cases, Contains-append_left, Contains-append_right, Contains-push, Contains-push_cases}
 use Rattle.esto_columns.specs.CodedRows.{CodedRows}
 use Rattle.esto_term.proofs.ListLemmas.{Contains-nil}
@@ -22,6 +22,13 @@ put_gains old new row grown it = (
   ]),
 )
 
+-- what one of two lists has, they have in the other order too
+Contains-swapped : (xs ys : List (List ℕ)) (row : List ℕ) → Contains (xs ++ ys) row → Contains (ys ++ xs) row
+Contains-swapped xs ys row has = elim (Contains-append_cases xs ys row has) [
+  | inl left ↦ Contains-append_right ys xs row left
+  | inr right ↦ Contains-append_left ys xs row right
+]
+
 -- nothing is gained by a pair that is the same in what is kept as one before it
 pub same_gains : (old new : List (List ℕ)) (row : List ℕ) → new ≡ old → Contains old row → GainsOnly old new (λ it. row ≡ it)
 same_gains old new row same inside it = (
@@ -33,7 +40,7 @@ same_gains old new row same inside it = (
 pub gains_after : (old begun new : List (List ℕ)) (Has : List ℕ → Type 0) → begun ≡ old → GainsOnly begun new Has → GainsOnly old new Has
 gains_after old begun new Has same gains = subst (λ it. GainsOnly it new Has) same gains
 
--- ---- joins of which nothing or all is kept
+-- ---- joins of which nothing is kept, and of which all that is gained is
 
 -- no joined row is kept where the sources name no codes
 pub joins_unnamed : (get : Get) (kept : List Source) (so_far rows new : List (List ℕ)) → new ≡ [] → NameNone kept so_far rows → (row : List ℕ)
@@ -119,19 +126,22 @@ module _ (kept : List Source) (so_far rows : CodedRows) where
       (subst (λ them. Contains ((old.own.rows ++ code ∷ []) ++ before) row ↔ Contains (old.own.rows ++ them) row) (sym whole)
       (moved old.own.rows before code row))
 
-  -- what is gained where no pair is a row of its own, and where each is put after those
-  pub none_own : (gained : Gained) (more : CodedRows) → length gained.own.rows ≡ 0
-      → more ≡ record { arity = length kept; rows = kept_rows kept so_far rows gained.pairs } → (row : List ℕ)
-      → Contains more.rows row ↔ Contains (gained_rows kept so_far rows gained) row
-  none_own gained more none is row = subst (λ them. Contains them row ↔ Contains (gained_rows kept so_far rows gained) row)
-      ((λ i. nil_from_length gained.own.rows none i ++ kept_rows kept so_far rows gained.pairs) ∙ sym (ap (λ (it : CodedRows). it.rows) is))
-      (λ has. has, λ has. has)
-
+  -- what is gained where what is kept of the pairs comes after the own rows, and before them
   pub own_and_more : (gained : Gained) (more all : CodedRows) → more ≡ record { arity = length kept; rows = kept_rows kept so_far rows gained.pairs }
       → all ≡ record { arity = gained.own.arity; rows = gained.own.rows ++ more.rows } → (row : List ℕ)
       → Contains all.rows row ↔ Contains (gained_rows kept so_far rows gained) row
   own_and_more gained more all is joined row = subst (λ them. Contains them row ↔ Contains (gained_rows kept so_far rows gained) row)
       (sym (ap (λ (it : CodedRows). it.rows) joined ∙ ap (λ (it : CodedRows). gained.own.rows ++ it.rows) is)) (λ has. has, λ has. has)
+
+  pub more_and_own : (gained : Gained) (more all : CodedRows) → more ≡ record { arity = length kept; rows = kept_rows kept so_far rows gained.pairs }
+      → all ≡ record { arity = more.arity; rows = more.rows ++ gained.own.rows } → (row : List ℕ)
+      → Contains all.rows row ↔ Contains (gained_rows kept so_far rows gained) row
+  more_and_own gained more all is joined row =
+      let pairs = kept_rows kept so_far rows gained.pairs in
+      let own = gained.own.rows in
+      subst (λ them. Contains them row ↔ Contains (own ++ pairs) row)
+      (sym (ap (λ (it : CodedRows). it.rows) joined ∙ ap (λ (it : CodedRows). it.rows ++ own) is))
+      (Contains-swapped pairs own row, Contains-swapped own pairs row)
 
   -- what is gained from the first to the last of some that are the same
   pub gains_between : (old before after new : Gained) (Has : List ℕ → Type 0) → before ≡ old → new ≡ after

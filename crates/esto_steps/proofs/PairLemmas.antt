@@ -3,7 +3,7 @@ use Rattle.std.proofs.Common.{◌≡◌, ℕ, ◌-◌, ◌<◌, ◌≤◌, nat_l
 use Rattle.std.proofs.Common.{slice_get, Contains, refl, sym, ap, ◌∙◌, subst, arith}
 use Rattle.std.specs.Option.{option_eq}
 use Rattle.std.proofs.Math.Dec.{eqb}
-use Rattle.std.proofs.lemmas.Bool.{eqb-true}
+use Rattle.std.proofs.lemmas.Bool.{eqb-true, not-false}
 use Rattle.std.proofs.lemmas.Bool.Decides.{nat_tests}
 use Rattle.std.proofs.lemmas.List.Elements.{Contains-get_or}
 use Rattle.esto_columns.specs.CodedRows.{CodedRows}
@@ -56,16 +56,12 @@ named_is_kept width cells row kept codes long named = names kept codes named
         let later : NamesCodes (cells ++ row) sources rest = cc in
         λ i. (ap code_or_zero (past_is width cells row source long ∙ first) i) ∷ names sources rest later i
 
-true_from : (answer : Bool) → not answer ≡ false → answer ≡ true
-true_from true is = refl
-true_from false is = absurd (cc)
-
 -- codes that are told to be no different are the same
 pub same_codes : (one other : Option ℕ) → not (option_eq eqb one other) ≡ false → one ≡ other
 same_codes None None told = refl
 same_codes None (Some code) told = absurd (cc)
 same_codes (Some code) None told = absurd (cc)
-same_codes (Some code) (Some other) told = ap Some (eqb-true code other (true_from (eqb code other) told))
+same_codes (Some code) (Some other) told = ap Some (eqb-true code other (not-false (eqb code other) told))
 
 -- what is kept of a pair are the codes that the sources name in its rows
 pub kept_named : (kept : List Source) (so_far rows : CodedRows) (pair : Pair) → NameAll kept so_far.rows rows.rows → HaveLength so_far.arity so_far.rows

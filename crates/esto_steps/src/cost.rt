@@ -3,18 +3,17 @@ ghost use Rattle.std.specs.Prelude.{Contains, IfOk};
 ghost use Rattle.esto_steps.specs.declared.steps.Link.{Link};
 
 use crate::codes::code_at;
-use crate::links::sources_of;
-use crate::sample::{place_in, read_key, scaled};
-use crate::steps::{Link, Links, Sources};
+use crate::sample::{place_in, scaled};
+use crate::steps::{Link, Links};
 use esto_columns::{Index, Rows};
-use esto_term::{List, OutOfMemory, Values};
+use esto_term::{List, OutOfMemory};
 use std::alloc::Global;
 
 /// How many of the rows so far are tried, at most.
 const TRIED: usize = 16;
 
 /// How many rows a join may look at and be cheap.
-fn most_cheap(so_far: &Rows, rows: &Rows) -> usize {
+pub(crate) fn most_cheap(so_far: &Rows, rows: &Rows) -> usize {
     so_far.len().saturating_add(rows.len()).saturating_mul(2)
 }
 
@@ -116,53 +115,4 @@ pub(crate) fn cheap_links(
 {
     let best = cheapest(so_far, rows, links);
     link_alone(alloc, links, best)
-}
-
-/// How many places are on the chain of the key that the sources name in the row so far at the place; one more than so
-/// many where there are more.
-fn chain_at(
-    so_far: &Rows,
-    at: usize,
-    sources: &Sources,
-    index: &Index,
-    most: usize,
-    key: &mut Values<u64>,
-) -> Result<usize, OutOfMemory> {
-    if !read_key(so_far, at, sources, key)? {
-        return Ok(0);
-    }
-    Ok(chain_length(index, key.items(), most))
-}
-
-/// Whether no more places than the most are on the chains of all rows so far, whose keys are read into the list.
-fn are_at_most(
-    so_far: &Rows,
-    sources: &Sources,
-    index: &Index,
-    most: usize,
-    key: &mut Values<u64>,
-) -> Result<bool, OutOfMemory> {
-    let mut left = most;
-    'rows: for at in 0..so_far.len() {
-        let count = chain_at(so_far, at, sources, index, left, key)?;
-        if count > left {
-            return Ok(false);
-        }
-        left = left.saturating_sub(count);
-    }
-    Ok(true)
-}
-
-/// Whether few of the rows are in those buckets of their index, by the columns of the links, which the rows so far
-/// name; a row counts as often as one of these names its bucket.
-pub(crate) fn are_short(
-    alloc: Global,
-    so_far: &Rows,
-    rows: &Rows,
-    links: &Links,
-    index: &Index,
-) -> Result<bool, OutOfMemory> {
-    let sources = sources_of(alloc, links)?;
-    let mut key = Values::new(alloc);
-    are_at_most(so_far, &sources, index, most_cheap(so_far, rows), &mut key)
 }

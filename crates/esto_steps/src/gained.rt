@@ -1,4 +1,4 @@
-//! What a join gains: rows, of which no two are the same.
+//! What a join gains: rows, of which no two are the same where its stretches are truly told.
 ghost use Rattle.std.specs.Prelude.{◌≡◌, ◌↔◌, [], ◌∷◌, ◌++◌, List, ℕ, length, Contains, IfOk, OnOk, IsTrue};
 ghost use Rattle.esto_columns.specs.CodedRows.{CodedRows};
 ghost use Rattle.esto_steps.specs.Joined.{GainsOnly};
@@ -17,10 +17,11 @@ use std::marker::Model;
 const MOST_NEAR: usize = 32;
 
 /// What a join gained so far: rows of its own, and pairs of which what is kept isn't put together yet. What comes is in
-/// stretches: what is kept of the pairs of one differs from what is kept of those of another, so a pair is looked for in
-/// its own alone. Pairs of a short stretch are looked through one by one. Those of a long one become rows, which an index
-/// finds, and so does all where there is but one stretch. The index is made anew when it is full, and for the next long
-/// stretch.
+/// stretches: what is kept of the pairs of one differs from what is kept of those of another, so a pair is looked for in its
+/// own alone. Pairs of a short stretch are looked through one by one. Those of a long one become rows, which an index finds,
+/// and so does all where there is but one stretch. The index is made anew when it is full, and for the next long stretch.
+/// The stretch begins at `first` among the pairs, and where it is indexed, at `indexed` among the rows, from where the index
+/// counts. There is room in it for so many rows. The codes are filled anew for each pair.
 #[derive(Drop)]
 pub(crate) struct Gained {
     own: Rows,
@@ -223,7 +224,7 @@ impl Gained {
         Ok(())
     }
 
-    /// Makes the pairs of the stretch rows that an index finds, where they are many.
+    /// Where the pairs of the stretch are many, makes them rows, which an index made for them finds.
     fn settle(
         &mut self,
         alloc: Global,
@@ -248,7 +249,8 @@ impl Gained {
         self.move_stretch(alloc, kept, so_far, rows)
     }
 
-    /// Puts the pair at the end, unless one of the stretch is the same in what is kept.
+    /// Puts the pair at the end, unless one of the stretch is the same in what is kept. Pairs that are many then become
+    /// rows.
     fn put_pair(
         &mut self,
         alloc: Global,
@@ -292,7 +294,8 @@ pub(crate) fn put_unseen(
     into.put_pair(alloc, kept, so_far, rows, pair)
 }
 
-/// The rows that are gained.
+/// The rows that are gained: its own and what is kept of the pairs, the fewer after the others. What comes of a stretch stands
+/// side by side, since all of it is in the one or in the other; keys of joined rows rest on that.
 pub(crate) fn into_rows(
     alloc: Global,
     kept: &Sources,
@@ -304,11 +307,12 @@ pub(crate) fn into_rows(
     ensures { IfOk result (λ it. (row : List ℕ) → Contains it.rows row
         ↔ Contains (gained_rows kept.now so_far.now rows.now gained) row) }
 {
-    let more = gathered(alloc, kept, so_far, rows, &gained.pairs)?;
-    let mut all = gained.own;
-    if all.len() == 0 {
+    let mut more = gathered(alloc, kept, so_far, rows, &gained.pairs)?;
+    let mut own = gained.own;
+    if own.len() < more.len() {
+        more.add_all(alloc, &own)?;
         return Ok(more);
     }
-    all.add_all(alloc, &more)?;
-    Ok(all)
+    own.add_all(alloc, &more)?;
+    Ok(own)
 }

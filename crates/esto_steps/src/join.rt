@@ -1,6 +1,6 @@
 //! Rows so far joined with rows of a fragment.
-ghost use Rattle.std.specs.Prelude.{◌≡◌, ◌↔◌, ◌<◌, [], List, ℕ, Some, slice_get, slice_index_or, length, map};
-ghost use Rattle.std.specs.Prelude.{Contains, IfOk, OnOk, IsTrue};
+ghost use Rattle.std.specs.Prelude.{◌≡◌, ◌↔◌, ◌<◌, ◌≤◌, [], List, ℕ, Some, slice_get, slice_index_or, length, map};
+ghost use Rattle.std.specs.Prelude.{Contains, IfOk, OnOk, IsTrue, MatchOption};
 ghost use Rattle.esto_steps.specs.Meaning.{IsMet, Follows};
 ghost use Rattle.esto_steps.specs.declared.steps.Link.{Link};
 ghost use Rattle.esto_steps.specs.declared.steps.Source.{Source};
@@ -15,21 +15,20 @@ use crate::codes::{each_met, each_passed, name_codes};
 use crate::gained::{Gained, into_rows, put_unseen};
 use crate::gather::name_all;
 use crate::index::index_of;
-use crate::key::is_key_kept;
 use crate::links::{columns_of, sources_of};
 use crate::pairs::Pair;
 use crate::steps::{Get, Links, Sources};
 use esto_columns::{Index, Rows};
-use esto_term::{OutOfMemory, Places, Values};
+use esto_term::{OutOfMemory, Values};
 use std::alloc::Global;
 
-/// A get that is joined, what names the codes that are kept of its joined rows, and a key of the rows so far: cells such
-/// that no two of these rows have the same codes in all of them. Nothing rests on the key but speed.
+/// A get that is joined, what names the codes that are kept of its joined rows, and whether what is kept of pairs of
+/// different rows so far differs. No contract rests on this: where it is wrongly told, rows come twice.
 #[derive(Clone, Copy)]
 pub struct Join<'a> {
     pub get: &'a Get,
     pub kept: &'a Sources,
-    pub key: &'a Places,
+    pub in_stretches: bool,
 }
 
 /// Whether the pair's row of the fragment follows its row so far.
@@ -72,7 +71,7 @@ pub(crate) fn push_follower(
 }
 
 /// Puts what is kept of the row so far at the place with each of the rows that follows it at the end, of the rows whose
-/// keys are in one bucket with the key.
+/// keys are in one bucket with the key. Tells how many places were looked at.
 fn push_followers(
     alloc: Global,
     join: &Join,
@@ -82,7 +81,7 @@ fn push_followers(
     index: &Index,
     key: &[u64],
     into: &mut Gained,
-) -> Result<(), OutOfMemory>
+) -> Result<usize, OutOfMemory>
     requires there { at < length so_far.now.rows }
     requires named { NameAll join.now.kept.now so_far.now.rows rows.now.rows }
     requires arity { into.old.own.arity ≡ length join.now.kept.now }
@@ -95,6 +94,7 @@ fn push_followers(
         (slice_index_or so_far.now.rows at []) rows.now.rows place) it)) }
 {
     let mut next = index.last_of(key);
+    let mut looked: usize = 0;
     'places: while next > 0 {
         let place = next - 1;
         let pair = Pair {
@@ -103,12 +103,13 @@ fn push_followers(
         };
         push_follower(alloc, join, so_far, rows, pair, into)?;
         next = index.before(place);
+        looked = looked.saturating_add(1);
     }
-    Ok(())
+    Ok(looked)
 }
 
 /// Puts what is kept of the row so far at the place with each of the rows that follows it at the end. Its key is read into
-/// the list.
+/// the list. Tells how many places were looked at.
 fn push_joined(
     alloc: Global,
     join: &Join,
@@ -119,7 +120,7 @@ fn push_joined(
     index: &Index,
     key: &mut Values<u64>,
     into: &mut Gained,
-) -> Result<(), OutOfMemory>
+) -> Result<usize, OutOfMemory>
     requires there { at < length so_far.now.rows }
     requires named { NameAll join.now.kept.now so_far.now.rows rows.now.rows }
     requires found { (columns : List Source) × FindsRows rows.now.rows columns index.now
@@ -133,13 +134,14 @@ fn push_joined(
         (IsFollower join.now.get.now (slice_index_or so_far.now.rows at []) rows.now.rows))) }
 {
     if !name_codes(so_far, at, sources, key)? {
-        return Ok(());
+        return Ok(0);
     }
     into.begin();
     push_followers(alloc, join, so_far, at, rows, index, key.items(), into)
 }
 
-/// Puts what is kept of each of the rows so far with every one of the rows that follows it at the end.
+/// Puts what is kept of each of the rows so far with every one of the rows that follows it at the end. Gives up before the
+/// next row so far once more than the most were looked at, and tells whether it went through.
 fn push_each_joined(
     alloc: Global,
     join: &Join,
@@ -148,8 +150,9 @@ fn push_each_joined(
     sources: &Sources,
     index: &Index,
     key: &mut Values<u64>,
+    most: usize,
     into: &mut Gained,
-) -> Result<(), OutOfMemory>
+) -> Result<bool, OutOfMemory>
     requires none { gained_rows join.now.kept.now so_far.now rows.now into.old ≡ [] }
     requires arity { into.old.own.arity ≡ length join.now.kept.now }
     requires named { NameAll join.now.kept.now so_far.now.rows rows.now.rows }
@@ -158,14 +161,20 @@ fn push_each_joined(
         → Follows join.now.get.now cells row
         → (codes : List ℕ) × NamesCodes cells sources.now codes × NamesCodes row columns codes) }
     ensures arity { OnOk result (into.new.own.arity ≡ into.old.own.arity) }
-    ensures rows { OnOk result ((row : List ℕ)
+    ensures through { IfOk result (λ through. 18446744073709551615 ≤ most → IsTrue through) }
+    ensures rows { IfOk result (λ through. IsTrue through → (row : List ℕ)
         → Contains (gained_rows join.now.kept.now so_far.now rows.now into.new) row
         ↔ IsKept join.now.kept.now (IsJoin join.now.get.now so_far.now.rows rows.now.rows) row) }
 {
+    let mut looked: usize = 0;
     'rows: for at in 0..so_far.len() {
-        push_joined(alloc, join, so_far, at, rows, sources, index, key, into)?;
+        if looked > most {
+            return Ok(false);
+        }
+        let more = push_joined(alloc, join, so_far, at, rows, sources, index, key, into)?;
+        looked = looked.saturating_add(more);
     }
-    Ok(())
+    Ok(true)
 }
 
 /// An index of the rows by the columns of the links.
@@ -179,7 +188,8 @@ pub(crate) fn index_by(alloc: Global, rows: &Rows, links: &Links) -> Result<Inde
 }
 
 /// Puts what is kept of each of the rows so far with every one of the rows that follows it at the end, by an index of
-/// these by the columns of the links. The links are ones that each row meets which follows one so far.
+/// these by the columns of the links. The links are ones that each row meets which follows one so far. Gives up before the
+/// next row so far once more than the most were looked at, and tells whether it went through.
 fn push_by_index(
     alloc: Global,
     join: &Join,
@@ -187,8 +197,9 @@ fn push_by_index(
     rows: &Rows,
     links: &Links,
     index: &Index,
+    most: usize,
     into: &mut Gained,
-) -> Result<(), OutOfMemory>
+) -> Result<bool, OutOfMemory>
     requires none { gained_rows join.now.kept.now so_far.now rows.now into.old ≡ [] }
     requires arity { into.old.own.arity ≡ length join.now.kept.now }
     requires named { NameAll join.now.kept.now so_far.now.rows rows.now.rows }
@@ -197,45 +208,82 @@ fn push_by_index(
         → Follows join.now.get.now cells row
         → (link : Link) → Contains links.now link → IsMet cells row link }
     ensures arity { OnOk result (into.new.own.arity ≡ into.old.own.arity) }
-    ensures rows { OnOk result ((row : List ℕ)
+    ensures through { IfOk result (λ through. 18446744073709551615 ≤ most → IsTrue through) }
+    ensures rows { IfOk result (λ through. IsTrue through → (row : List ℕ)
         → Contains (gained_rows join.now.kept.now so_far.now rows.now into.new) row
         ↔ IsKept join.now.kept.now (IsJoin join.now.get.now so_far.now.rows rows.now.rows) row) }
 {
     let sources = sources_of(alloc, links)?;
     let mut key = Values::new(alloc);
-    push_each_joined(alloc, join, so_far, rows, &sources, index, &mut key, into)
+    push_each_joined(
+        alloc, join, so_far, rows, &sources, index, &mut key, most, into,
+    )
 }
 
 /// How many rows are foreseen, at most, where there is no more than one row so far.
 const FORESEEN: usize = 1 << 12;
 
-/// Nothing gained yet, with room for one row of each row so far, and for each row of the fragment, up to some thousands,
-/// where there is no more than one so far. Where the join keeps the codes of the key of several rows so far, what is kept
-/// of pairs of different ones differs, so each is looked for only among those of one.
+/// How many rows are foreseen: one of each row so far, or, where there is no more than one so far and all rows of the
+/// fragment are looked at, one for each of these, up to some thousands.
+pub(crate) fn foreseen(so_far: &Rows, rows: &Rows, all: bool) -> usize {
+    if all && so_far.len() <= 1 {
+        return rows.len().min(FORESEEN);
+    }
+    so_far.len()
+}
+
+/// Nothing gained yet, with room for so many rows. Where pairs of different rows so far differ in what is kept, each is
+/// looked for only among those of one.
 pub(crate) fn none_gained(
     alloc: Global,
     join: &Join,
     so_far: &Rows,
-    rows: &Rows,
+    room: usize,
 ) -> Result<Gained, OutOfMemory>
     ensures { IfOk result (λ it. it ≡ record {
       own = record { arity = length join.now.kept.now; rows = [] };
       pairs = [];
     }) }
 {
-    let count = so_far.len();
-    if count <= 1 {
-        return Gained::new(alloc, join.kept.len(), rows.len().min(FORESEEN));
+    if so_far.len() > 1 && join.in_stretches {
+        return Gained::in_stretches(alloc, join.kept.len(), room);
     }
-    if is_key_kept(join, so_far.arity()) {
-        return Gained::in_stretches(alloc, join.kept.len(), count);
-    }
-    Gained::new(alloc, join.kept.len(), count)
+    Gained::new(alloc, join.kept.len(), room)
 }
 
 /// What is kept of the rows so far, each with every one of the rows that follows it after it, by an index of the rows
-/// by the columns of the links, which each row meets that follows one so far.
+/// by the columns of the links, which each row meets that follows one so far. `None` comes where more than the most would
+/// be looked at, and what one row so far gives.
 pub(crate) fn joined_over(
+    alloc: Global,
+    join: &Join,
+    so_far: &Rows,
+    rows: &Rows,
+    links: &Links,
+    index: &Index,
+    most: usize,
+) -> Result<Option<Rows>, OutOfMemory>
+    requires own { FindsRows rows.now.rows (map (λ link. Cell link.column) links.now) index.now }
+    requires early { (cells row : List ℕ) → Contains so_far.now.rows cells
+        → Follows join.now.get.now cells row
+        → (link : Link) → Contains links.now link → IsMet cells row link }
+    ensures { IfOk result (λ found. MatchOption found Unit (λ it. (row : List ℕ)
+        → Contains it.rows row
+        ↔ IsKept join.now.kept.now (IsJoin join.now.get.now so_far.now.rows rows.now.rows) row)) }
+{
+    if !name_all(join.kept, so_far, rows) {
+        return Ok(Some(Rows::new(alloc, join.kept.len())?));
+    }
+    let mut gained = none_gained(alloc, join, so_far, foreseen(so_far, rows, true))?;
+    if !push_by_index(alloc, join, so_far, rows, links, index, most, &mut gained)? {
+        return Ok(None);
+    }
+    let joined = into_rows(alloc, join.kept, so_far, rows, gained)?;
+    Ok(Some(joined))
+}
+
+/// The same, however many are looked at.
+fn joined_all(
     alloc: Global,
     join: &Join,
     so_far: &Rows,
@@ -253,8 +301,17 @@ pub(crate) fn joined_over(
     if !name_all(join.kept, so_far, rows) {
         return Rows::new(alloc, join.kept.len());
     }
-    let mut gained = none_gained(alloc, join, so_far, rows)?;
-    push_by_index(alloc, join, so_far, rows, links, index, &mut gained)?;
+    let mut gained = none_gained(alloc, join, so_far, foreseen(so_far, rows, true))?;
+    let _through = push_by_index(
+        alloc,
+        join,
+        so_far,
+        rows,
+        links,
+        index,
+        usize::MAX,
+        &mut gained,
+    )?;
     into_rows(alloc, join.kept, so_far, rows, gained)
 }
 
@@ -273,5 +330,5 @@ pub(crate) fn joined_linked(
         ↔ IsKept join.now.kept.now (IsJoin join.now.get.now so_far.now.rows rows.now.rows) row) }
 {
     let index = index_by(alloc, rows, links)?;
-    joined_over(alloc, join, so_far, rows, links, &index)
+    joined_all(alloc, join, so_far, rows, links, &index)
 }

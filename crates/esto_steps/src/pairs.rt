@@ -15,8 +15,8 @@ pub struct Pair {
     pub right: usize,
 }
 
-/// Whether what is kept of two pairs seems the same, by a look from the last source back, since the first ones likely name
-/// cells of one row so far.
+/// The same as `are_same`, without a contract: by a look from the last source back, which finds a difference sooner, since
+/// the first sources likely name cells of one row so far.
 fn seem_same(kept: &Sources, so_far: &Rows, rows: &Rows, pair: Pair, other: Pair) -> bool {
     'sources: for back in 0..kept.len() {
         let source = kept.item(kept.len() - 1 - back);

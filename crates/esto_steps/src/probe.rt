@@ -10,7 +10,7 @@ ghost use Rattle.esto_steps.specs.Probed.{HaveMet, HaveAllMet};
 use crate::codes::code_at;
 use crate::gained::{Gained, into_rows};
 use crate::gather::name_all;
-use crate::join::{Join, none_gained, push_follower};
+use crate::join::{Join, foreseen, none_gained, push_follower};
 use crate::pairs::Pair;
 use crate::steps::{Link, Links};
 use esto_columns::Rows;
@@ -57,8 +57,8 @@ fn places_by(
     Ok(None)
 }
 
-/// Puts what is kept of the row so far at the place with each of the rows at the places that follows it at the end. Tells how many places
-/// were looked at.
+/// Puts what is kept of the row so far at the place with each of the rows at the places that follows it at the end. Tells
+/// how many places were looked at.
 fn push_at_places(
     alloc: Global,
     join: &Join,
@@ -87,8 +87,8 @@ fn push_at_places(
     Ok(places.len())
 }
 
-/// Puts what is kept of the row so far at the place with each of the rows that follows it at the end, by a look at every row. Tells how
-/// many were looked at.
+/// Puts what is kept of the row so far at the place with each of the rows that follows it at the end, by a look at every
+/// row. Tells how many were looked at.
 fn push_everywhere(
     alloc: Global,
     join: &Join,
@@ -115,8 +115,8 @@ fn push_everywhere(
     Ok(rows.len())
 }
 
-/// Puts what is kept of the row so far at the place with each of the rows that follows it at the end, by one of the links, which each of
-/// these meets, where its column has an index. Tells how many rows were looked at.
+/// Puts what is kept of the row so far at the place with each of the rows that follows it at the end, by one of the links,
+/// which each of these meets, where its column has an index. Tells how many rows were looked at.
 fn push_met(
     alloc: Global,
     join: &Join,
@@ -144,9 +144,9 @@ fn push_met(
     push_everywhere(alloc, join, so_far, at, rows, into)
 }
 
-/// Puts what is kept of each of the rows so far with every one of the rows that follows it at the end, by one of the links where its
-/// column has an index. Gives up before the next row so far once more than the most were looked at, and tells whether it
-/// went through.
+/// Puts what is kept of each of the rows so far with every one of the rows that follows it at the end, by one of the links
+/// where its column has an index. Gives up before the next row so far once more than the most were looked at, and tells
+/// whether it went through.
 fn push_each_met(
     alloc: Global,
     join: &Join,
@@ -199,7 +199,8 @@ pub(crate) fn joined_reached(
     if !name_all(join.kept, so_far, rows) {
         return Ok(Some(Rows::new(alloc, join.kept.len())?));
     }
-    let mut gained = none_gained(alloc, join, so_far, rows)?;
+    let room = foreseen(so_far, rows, links.is_empty());
+    let mut gained = none_gained(alloc, join, so_far, room)?;
     if !push_each_met(alloc, join, so_far, rows, links, most, &mut gained)? {
         return Ok(None);
     }

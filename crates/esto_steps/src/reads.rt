@@ -9,7 +9,7 @@ ghost use Rattle.esto_steps.specs.Joined.{IsJoin, IsKept};
 ghost use Rattle.esto_steps.specs.Meaning.{IsMet, Follows};
 
 use crate::codes::name_codes;
-use crate::cost::{are_short, cheap_links, most_looks};
+use crate::cost::{cheap_links, most_cheap, most_looks};
 use crate::join::{Join, index_by, joined_linked, joined_over};
 use crate::links::early_links;
 use crate::probe::joined_reached;
@@ -214,8 +214,8 @@ fn joined_by(
     joined_linked(alloc, join, so_far, &few, links)
 }
 
-/// The same by an index of the rows by the columns of the links, where they are read whole or few of them are in the
-/// buckets that the rows so far name; else none. Each row that follows one so far meets the links.
+/// The same by an index of the rows by the columns of the links, unless they aren't read whole and more of them than is
+/// cheap would be looked at; else none. Each row that follows one so far meets the links.
 fn joined_short(
     alloc: Global,
     join: &Join,
@@ -233,11 +233,12 @@ fn joined_short(
         → Contains it.rows row
         ↔ IsKept join.now.kept.now (IsJoin join.now.get.now so_far.now.rows rows.now.rows) row)) }
 {
-    if !whole && !are_short(alloc, so_far, rows, links, index)? {
-        return Ok(None);
-    }
-    let joined = joined_over(alloc, join, so_far, rows, links, index)?;
-    Ok(Some(joined))
+    let most = if whole {
+        usize::MAX
+    } else {
+        most_cheap(so_far, rows)
+    };
+    joined_over(alloc, join, so_far, rows, links, index, most)
 }
 
 /// The same, where the index is made for it.
@@ -260,8 +261,9 @@ fn joined_indexed(
     joined_short(alloc, join, so_far, rows, links, &index, whole)
 }
 
-/// The same by an index of the rows where it serves; else few of the rows are made to stand for all. Each row that
-/// follows one so far meets the links, and the cells are those of the rows that the join reads.
+/// The same by an index of the rows; where they aren't read whole, and there are no links or more of them than is cheap
+/// would be looked at, few of the rows are made to stand for all. Each row that follows one so far meets the links, and
+/// the cells are those of the rows that the join reads.
 fn joined_read(
     alloc: Global,
     join: &Join,
@@ -351,8 +353,8 @@ fn joined_early(
 
 /// What is kept of the rows so far, each with every one of the rows that follows it after it. An index of the rows by
 /// one column serves to find them where it is cheap, and for one row so far none is needed. Else an index is made, and
-/// where a cell of the rows is not read and many of them are in the buckets that the rows so far name, only the first
-/// of those that are the same in the others is joined.
+/// where a cell of the rows is not read, only the first of those that are the same in the others is joined, unless no
+/// more than so many of them would be looked at.
 pub fn joined_firsts(
     alloc: Global,
     join: &Join,

@@ -1,5 +1,4 @@
 use Rattle.std.proofs.Common.{ap, ◌∙◌}
-use Rattle.std.proofs.lemmas.Result.{IfOk-weaker}
 use Rattle.esto_columns.specs.CodedRows.{CodedRows}
 use Rattle.esto_steps.specs.Joined.{IsJoin, IsKept}
 use Rattle.esto_steps.specs.Paired.{Gained, gained_rows}
@@ -7,10 +6,9 @@ use Rattle.esto_steps.proofs.GainLemmas.{joins_unnamed, joins_gained}
 use Rattle.esto_steps.proofs.join.joined_over.Goals as goal
 
 pub returns-then-not-name_all : goal.returns-then-not-name_all
-returns-then-not-name_all c = IfOk-weaker c.new.result _ _
-    (λ it is. joins_unnamed c.args.join.now.get.now c.args.join.now.kept.now c.args.so_far.now.rows c.args.rows.now.rows it.rows
-    (ap (λ (them : CodedRows). them.rows) is) (c.name_all.ensures.none c.if-not-name_all.true))
-    c.new.ensures
+returns-then-not-name_all c =
+    joins_unnamed c.args.join.now.get.now c.args.join.now.kept.now c.args.so_far.now.rows c.args.rows.now.rows c.in_ok-new.field-0.rows
+    (ap (λ (them : CodedRows). them.rows) c.in_ok-new.ensures) (c.name_all.ensures.none c.if-not-name_all.true)
 
 pub push_by_index-requires-clause-none : goal.push_by_index-requires-clause-none
 push_by_index-requires-clause-none c = ap (gained_rows c.args.join.now.kept.now c.args.so_far.now c.args.rows.now) c.in_ok-gained.ensures
@@ -25,8 +23,6 @@ pub into_rows-requires : goal.into_rows-requires
 into_rows-requires c = c.in_ok-push_by_index.ensures.arity ∙ ap (λ (it : Gained). it.own.arity) c.in_ok-gained.ensures
 
 pub returns : goal.returns
-returns c = IfOk-weaker c.into_rows.result _ _
-    (λ it same. joins_gained c.args.join.now.kept.now c.args.so_far.now c.args.rows.now it c.push_by_index.new.into
-    (IsKept c.args.join.now.kept.now (IsJoin c.args.join.now.get.now c.args.so_far.now.rows c.args.rows.now.rows)) same
-    c.in_ok-push_by_index.ensures.rows)
-    c.into_rows.ensures
+returns c = joins_gained c.args.join.now.kept.now c.args.so_far.now c.args.rows.now c.in_ok-joined.joined c.push_by_index.new.into
+    (IsKept c.args.join.now.kept.now (IsJoin c.args.join.now.get.now c.args.so_far.now.rows c.args.rows.now.rows)) c.in_ok-joined.ensures
+    (c.in_ok-push_by_index.ensures.rows c.if-not-branch.false)

@@ -10,6 +10,7 @@ rows-init c = (
       (gained_rows c.args.join.now.kept.now c.args.so_far.now c.args.rows.now c.args.into.now)
       c.requires.none),
   refl,
+  omega arith,
 )
 
 pub push_joined-requires-clause-there : goal.push_joined-requires-clause-there
@@ -28,17 +29,22 @@ rows-preserved c = (
       joins_more c.args.join.now.get.now c.args.join.now.kept.now c.args.rows.now.rows
       (gained_rows c.args.join.now.kept.now c.args.so_far.now c.args.rows.now c.rows.into)
       (gained_rows c.args.join.now.kept.now c.args.so_far.now c.args.rows.now c.push_joined.new.into) c.args.so_far.now.rows c.rows.at cells below
-      (get_or_default c.args.so_far.now.rows c.rows.at [] cells below) c.rows.invariant.0 c.in_ok-push_joined.ensures.rows),
-  c.in_ok-push_joined.ensures.arity ∙ c.rows.invariant.1,
+      (get_or_default c.args.so_far.now.rows c.rows.at [] cells below) c.rows.invariant.0 c.in_ok-more.ensures.rows),
+  c.in_ok-more.ensures.arity ∙ c.rows.invariant.1,
+  c.saturating_add-looked.type_inv,
 )
 
 pub returns-clause-arity : goal.returns-clause-arity
 returns-clause-arity c = c.rows.invariant.1
 
 pub returns-clause-rows : goal.returns-clause-rows
-returns-clause-rows c = joins_all c.args.join.now.get.now c.args.join.now.kept.now c.args.so_far.now.rows c.args.rows.now.rows
+returns-clause-rows c = λ _. joins_all c.args.join.now.get.now c.args.join.now.kept.now c.args.so_far.now.rows c.args.rows.now.rows
     (gained_rows c.args.join.now.kept.now c.args.so_far.now c.args.rows.now c.rows.into) c.rows.at
     (let past = c.rows-test.false in let count = c.len-at-end.ensures in omega (arith, past, count)) c.rows.invariant.0
 
 pub push_joined-requires-clause-arity : goal.push_joined-requires-clause-arity
 push_joined-requires-clause-arity c = c.rows.invariant.1 ∙ c.requires.arity
+
+pub returns-then-looked-most-clause-through : goal.returns-then-looked-most-clause-through
+returns-then-looked-most-clause-through c = λ great.
+    let past = c.if-looked-most.true in let held = c.rows.invariant.2 in absurd (omega (arith, great, past, held))
