@@ -10,9 +10,6 @@ use esto_steps::{Link, Source, Whole};
 use esto_term::{List, OutOfMemory, Values};
 use std::alloc::Global;
 
-/// For how many rows it is told what a get with inputs gives.
-const ASKED: usize = 4;
-
 /// The rows that the get of the number reads, if it is there and has no inputs.
 fn rows_read<'a, F: Whole>(steps: &Prepared, fragments: &'a [F], number: usize) -> Option<&'a Rows>
     requires { AreRunnable (map F.shape fragments.now) steps.now.gets.now }
@@ -27,8 +24,8 @@ fn rows_read<'a, F: Whole>(steps: &Prepared, fragments: &'a [F], number: usize) 
     Some(fragments[get.fragment].whole())
 }
 
-/// How many rows a get with inputs is taken to give for so many that lead to it: a quarter more, since no look tells that
-/// it gives one each. So one of which a look tells it comes first.
+/// How many rows a get with inputs is taken to give for so many that lead to it: a quarter more, from four on, since no look
+/// tells that it gives one each. So of the gets that can come next, one of which a look tells it comes first.
 fn asked_of(count: usize) -> usize {
     count.saturating_add(count / 4)
 }
@@ -144,8 +141,8 @@ fn followers_of(
 }
 
 /// How many followers rows with the one cell have among those with the other, by the code that both hold, where each
-/// get gives so many rows by itself. A get with inputs is taken to give about one row for each row of the get that leads
-/// to it, and, where it leads on itself, the codes that the rows of the other one hold.
+/// get gives so many rows by itself. A get with inputs is taken to give one row for each row of the get that leads to
+/// it, and, where it leads on itself, the codes that the rows of the other one hold.
 fn fan_out<F: Whole>(
     alloc: Global,
     steps: &Prepared,
@@ -162,8 +159,8 @@ fn fan_out<F: Whole>(
         return Ok(FanOut {
             from,
             to,
-            rows: ASKED,
-            followers: asked_of(ASKED),
+            rows: 1,
+            followers: 1,
         });
     };
     let (rows, cell) = match rows_read(steps, fragments, from) {

@@ -12,9 +12,29 @@ use std::alloc::Global;
 /// How many of the rows so far are tried, at most.
 const TRIED: usize = 16;
 
+/// A join of rows that are read whole gives up only where what it gained so many times is less than what it looked at.
+const GAINED: usize = 8;
+
+/// When a join by an index that is made for it gives up: once it looked at more places than the most, and at more than what
+/// it gained so many times.
+#[derive(Clone, Copy)]
+pub struct Patience {
+    pub most: usize,
+    pub times: usize,
+}
+
 /// How many rows a join may look at and be cheap.
-pub(crate) fn most_cheap(so_far: &Rows, rows: &Rows) -> usize {
+fn most_cheap(so_far: &Rows, rows: &Rows) -> usize {
     so_far.len().saturating_add(rows.len()).saturating_mul(2)
+}
+
+/// When the join of these rows by an index gives up. Of rows that are read whole few can be made to stand for all only
+/// where the same ones stand there again and again.
+pub(crate) fn patience_for(so_far: &Rows, rows: &Rows, whole: bool) -> Patience {
+    Patience {
+        most: most_cheap(so_far, rows),
+        times: if whole { GAINED } else { 0 },
+    }
 }
 
 /// How many rows a join by an index that they have may look at before it gives up; any number for one row so far.

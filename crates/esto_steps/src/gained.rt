@@ -105,6 +105,11 @@ impl Gained {
         })
     }
 
+    /// How many rows and pairs there are.
+    pub(crate) fn count(&self) -> usize {
+        self.own.len().saturating_add(self.pairs.len())
+    }
+
     /// Begins the next stretch, unless all are one.
     pub(crate) fn begin(&mut self)
         ensures { self.new ≡ self.old }

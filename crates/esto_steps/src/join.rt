@@ -12,6 +12,7 @@ ghost use Rattle.esto_steps.specs.Named.{NamesCodes};
 ghost use Rattle.esto_steps.specs.Paired.{gained_rows, NameAll};
 
 use crate::codes::{each_met, each_passed, name_codes};
+use crate::cost::Patience;
 use crate::gained::{Gained, into_rows, put_unseen};
 use crate::gather::name_all;
 use crate::index::index_of;
@@ -140,8 +141,15 @@ fn push_joined(
     push_followers(alloc, join, so_far, at, rows, index, key.items(), into)
 }
 
-/// Puts what is kept of each of the rows so far with every one of the rows that follows it at the end. Gives up before the
-/// next row so far once more than the most were looked at, and tells whether it went through.
+/// Whether the join, which looked at so many places, gives up.
+fn gives_up(patience: Patience, looked: usize, gained: &Gained) -> bool
+    ensures { IsTrue result → patience.most < looked }
+{
+    looked > patience.most && looked > gained.count().saturating_mul(patience.times)
+}
+
+/// Puts what is kept of each of the rows so far with every one of the rows that follows it at the end. Tells whether it went
+/// through; if not, it gave up before one of the rows so far.
 fn push_each_joined(
     alloc: Global,
     join: &Join,
@@ -150,7 +158,7 @@ fn push_each_joined(
     sources: &Sources,
     index: &Index,
     key: &mut Values<u64>,
-    most: usize,
+    patience: Patience,
     into: &mut Gained,
 ) -> Result<bool, OutOfMemory>
     requires none { gained_rows join.now.kept.now so_far.now rows.now into.old ≡ [] }
@@ -161,14 +169,14 @@ fn push_each_joined(
         → Follows join.now.get.now cells row
         → (codes : List ℕ) × NamesCodes cells sources.now codes × NamesCodes row columns codes) }
     ensures arity { OnOk result (into.new.own.arity ≡ into.old.own.arity) }
-    ensures through { IfOk result (λ through. 18446744073709551615 ≤ most → IsTrue through) }
+    ensures through { IfOk result (λ through. 18446744073709551615 ≤ patience.most → IsTrue through) }
     ensures rows { IfOk result (λ through. IsTrue through → (row : List ℕ)
         → Contains (gained_rows join.now.kept.now so_far.now rows.now into.new) row
         ↔ IsKept join.now.kept.now (IsJoin join.now.get.now so_far.now.rows rows.now.rows) row) }
 {
     let mut looked: usize = 0;
     'rows: for at in 0..so_far.len() {
-        if looked > most {
+        if gives_up(patience, looked, into) {
             return Ok(false);
         }
         let more = push_joined(alloc, join, so_far, at, rows, sources, index, key, into)?;
@@ -188,8 +196,8 @@ pub(crate) fn index_by(alloc: Global, rows: &Rows, links: &Links) -> Result<Inde
 }
 
 /// Puts what is kept of each of the rows so far with every one of the rows that follows it at the end, by an index of
-/// these by the columns of the links. The links are ones that each row meets which follows one so far. Gives up before the
-/// next row so far once more than the most were looked at, and tells whether it went through.
+/// these by the columns of the links. The links are ones that each row meets which follows one so far. Tells whether it went
+/// through; if not, it gave up before one of the rows so far.
 fn push_by_index(
     alloc: Global,
     join: &Join,
@@ -197,7 +205,7 @@ fn push_by_index(
     rows: &Rows,
     links: &Links,
     index: &Index,
-    most: usize,
+    patience: Patience,
     into: &mut Gained,
 ) -> Result<bool, OutOfMemory>
     requires none { gained_rows join.now.kept.now so_far.now rows.now into.old ≡ [] }
@@ -208,7 +216,7 @@ fn push_by_index(
         → Follows join.now.get.now cells row
         → (link : Link) → Contains links.now link → IsMet cells row link }
     ensures arity { OnOk result (into.new.own.arity ≡ into.old.own.arity) }
-    ensures through { IfOk result (λ through. 18446744073709551615 ≤ most → IsTrue through) }
+    ensures through { IfOk result (λ through. 18446744073709551615 ≤ patience.most → IsTrue through) }
     ensures rows { IfOk result (λ through. IsTrue through → (row : List ℕ)
         → Contains (gained_rows join.now.kept.now so_far.now rows.now into.new) row
         ↔ IsKept join.now.kept.now (IsJoin join.now.get.now so_far.now.rows rows.now.rows) row) }
@@ -216,20 +224,8 @@ fn push_by_index(
     let sources = sources_of(alloc, links)?;
     let mut key = Values::new(alloc);
     push_each_joined(
-        alloc, join, so_far, rows, &sources, index, &mut key, most, into,
+        alloc, join, so_far, rows, &sources, index, &mut key, patience, into,
     )
-}
-
-/// How many rows are foreseen, at most, where there is no more than one row so far.
-const FORESEEN: usize = 1 << 12;
-
-/// How many rows are foreseen: one of each row so far, or, where there is no more than one so far and all rows of the
-/// fragment are looked at, one for each of these, up to some thousands.
-pub(crate) fn foreseen(so_far: &Rows, rows: &Rows, all: bool) -> usize {
-    if all && so_far.len() <= 1 {
-        return rows.len().min(FORESEEN);
-    }
-    so_far.len()
 }
 
 /// Nothing gained yet, with room for so many rows. Where pairs of different rows so far differ in what is kept, each is
@@ -252,8 +248,7 @@ pub(crate) fn none_gained(
 }
 
 /// What is kept of the rows so far, each with every one of the rows that follows it after it, by an index of the rows
-/// by the columns of the links, which each row meets that follows one so far. `None` comes where more than the most would
-/// be looked at, and what one row so far gives.
+/// by the columns of the links, which each row meets that follows one so far; none where it gives up.
 pub(crate) fn joined_over(
     alloc: Global,
     join: &Join,
@@ -261,7 +256,7 @@ pub(crate) fn joined_over(
     rows: &Rows,
     links: &Links,
     index: &Index,
-    most: usize,
+    patience: Patience,
 ) -> Result<Option<Rows>, OutOfMemory>
     requires own { FindsRows rows.now.rows (map (λ link. Cell link.column) links.now) index.now }
     requires early { (cells row : List ℕ) → Contains so_far.now.rows cells
@@ -274,15 +269,24 @@ pub(crate) fn joined_over(
     if !name_all(join.kept, so_far, rows) {
         return Ok(Some(Rows::new(alloc, join.kept.len())?));
     }
-    let mut gained = none_gained(alloc, join, so_far, foreseen(so_far, rows, true))?;
-    if !push_by_index(alloc, join, so_far, rows, links, index, most, &mut gained)? {
+    let mut gained = none_gained(alloc, join, so_far, so_far.len())?;
+    if !push_by_index(
+        alloc,
+        join,
+        so_far,
+        rows,
+        links,
+        index,
+        patience,
+        &mut gained,
+    )? {
         return Ok(None);
     }
     let joined = into_rows(alloc, join.kept, so_far, rows, gained)?;
     Ok(Some(joined))
 }
 
-/// The same, however many are looked at.
+/// The same without giving up.
 fn joined_all(
     alloc: Global,
     join: &Join,
@@ -301,7 +305,11 @@ fn joined_all(
     if !name_all(join.kept, so_far, rows) {
         return Rows::new(alloc, join.kept.len());
     }
-    let mut gained = none_gained(alloc, join, so_far, foreseen(so_far, rows, true))?;
+    let mut gained = none_gained(alloc, join, so_far, so_far.len())?;
+    let patience = Patience {
+        most: usize::MAX,
+        times: 0,
+    };
     let _through = push_by_index(
         alloc,
         join,
@@ -309,7 +317,7 @@ fn joined_all(
         rows,
         links,
         index,
-        usize::MAX,
+        patience,
         &mut gained,
     )?;
     into_rows(alloc, join.kept, so_far, rows, gained)

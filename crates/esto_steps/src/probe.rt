@@ -10,12 +10,24 @@ ghost use Rattle.esto_steps.specs.Probed.{HaveMet, HaveAllMet};
 use crate::codes::code_at;
 use crate::gained::{Gained, into_rows};
 use crate::gather::name_all;
-use crate::join::{Join, foreseen, none_gained, push_follower};
+use crate::join::{Join, none_gained, push_follower};
 use crate::pairs::Pair;
 use crate::steps::{Link, Links};
 use esto_columns::Rows;
 use esto_term::OutOfMemory;
 use std::alloc::Global;
+
+/// How many rows are foreseen, at most, where there is no more than one row so far.
+const FORESEEN: usize = 1 << 12;
+
+/// How many rows are foreseen: one of each row so far, or, where there is no more than one so far and all rows of the
+/// fragment are looked at, one for each of these, up to some thousands.
+fn foreseen(so_far: &Rows, rows: &Rows, all: bool) -> usize {
+    if all && so_far.len() <= 1 {
+        return rows.len().min(FORESEEN);
+    }
+    so_far.len()
+}
 
 /// Places among which are those of all rows that meet the link with the row so far at the place. `None` may come where the
 /// rows have no index by the link's column.
@@ -179,8 +191,8 @@ fn push_each_met(
 }
 
 /// What is kept of the rows so far, each with every one of the rows that follows it after it. The rows are found by the
-/// first of the links whose column has an index, and where none has one, each row is looked at for each so far. `None`
-/// comes where more than the most would be looked at, and what one row so far gives.
+/// first of the links whose column has an index, and where none has one, each row is looked at for each so far. None come
+/// where more than the most were looked at before one of the rows so far.
 pub(crate) fn joined_reached(
     alloc: Global,
     join: &Join,

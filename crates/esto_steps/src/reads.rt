@@ -4,18 +4,17 @@ ghost use Rattle.std.specs.Prelude.{Contains, IfOk, OnOk, MatchOption};
 ghost use Rattle.esto_steps.specs.declared.steps.Source.TheVariants.{Cell};
 ghost use Rattle.esto_steps.specs.Reads.{own_cells, filter_cells, read_cells, StandFor, AreStood};
 ghost use Rattle.esto_steps.specs.declared.steps.Link.{Link};
-ghost use Rattle.esto_steps.specs.Indexed.{FindsRows};
 ghost use Rattle.esto_steps.specs.Joined.{IsJoin, IsKept};
 ghost use Rattle.esto_steps.specs.Meaning.{IsMet, Follows};
 
 use crate::codes::name_codes;
-use crate::cost::{cheap_links, most_cheap, most_looks};
+use crate::cost::{cheap_links, most_looks, patience_for};
 use crate::join::{Join, index_by, joined_linked, joined_over};
 use crate::links::early_links;
 use crate::probe::joined_reached;
 use crate::seen::Seen;
 use crate::steps::{Link, Links, Source, Sources};
-use esto_columns::{Index, Rows};
+use esto_columns::Rows;
 use esto_term::{List, OutOfMemory, Values};
 use std::alloc::Global;
 
@@ -214,34 +213,8 @@ fn joined_by(
     joined_linked(alloc, join, so_far, &few, links)
 }
 
-/// The same by an index of the rows by the columns of the links, unless they aren't read whole and more of them than is
-/// cheap would be looked at; else none. Each row that follows one so far meets the links.
-fn joined_short(
-    alloc: Global,
-    join: &Join,
-    so_far: &Rows,
-    rows: &Rows,
-    links: &Links,
-    index: &Index,
-    whole: bool,
-) -> Result<Option<Rows>, OutOfMemory>
-    requires own { FindsRows rows.now.rows (map (λ link. Cell link.column) links.now) index.now }
-    requires early { (cells row : List ℕ) → Contains so_far.now.rows cells
-        → Follows join.now.get.now cells row
-        → (link : Link) → Contains links.now link → IsMet cells row link }
-    ensures { IfOk result (λ found. MatchOption found Unit (λ it. (row : List ℕ)
-        → Contains it.rows row
-        ↔ IsKept join.now.kept.now (IsJoin join.now.get.now so_far.now.rows rows.now.rows) row)) }
-{
-    let most = if whole {
-        usize::MAX
-    } else {
-        most_cheap(so_far, rows)
-    };
-    joined_over(alloc, join, so_far, rows, links, index, most)
-}
-
-/// The same, where the index is made for it.
+/// The same by an index of the rows by the columns of the links, which is made for it; none where it gives up. Each row that
+/// follows one so far meets the links.
 fn joined_indexed(
     alloc: Global,
     join: &Join,
@@ -257,13 +230,14 @@ fn joined_indexed(
         → Contains it.rows row
         ↔ IsKept join.now.kept.now (IsJoin join.now.get.now so_far.now.rows rows.now.rows) row)) }
 {
+    let patience = patience_for(so_far, rows, whole);
     let index = index_by(alloc, rows, links)?;
-    joined_short(alloc, join, so_far, rows, links, &index, whole)
+    joined_over(alloc, join, so_far, rows, links, &index, patience)
 }
 
-/// The same by an index of the rows; where they aren't read whole, and there are no links or more of them than is cheap
-/// would be looked at, few of the rows are made to stand for all. Each row that follows one so far meets the links, and
-/// the cells are those of the rows that the join reads.
+/// The same by an index of the rows, unless it gives up. Then few of the rows are made to stand for all, and at once where
+/// there are no links and a cell of the rows isn't read. Each row that follows one so far meets the links, and the cells
+/// are those of the rows that the join reads.
 fn joined_read(
     alloc: Global,
     join: &Join,
@@ -352,9 +326,9 @@ fn joined_early(
 }
 
 /// What is kept of the rows so far, each with every one of the rows that follows it after it. An index of the rows by
-/// one column serves to find them where it is cheap, and for one row so far none is needed. Else an index is made, and
-/// where a cell of the rows is not read, only the first of those that are the same in the others is joined, unless no
-/// more than so many of them would be looked at.
+/// one column serves to find them where it is cheap, and for one row so far none is needed. Else an index is made; and
+/// where a join by it looks at many rows for few that it gives, only the first of those that are the same in the cells
+/// that are read is joined.
 pub fn joined_firsts(
     alloc: Global,
     join: &Join,

@@ -45,6 +45,6 @@ returns-clause-rows c = λ _. joins_all c.args.join.now.get.now c.args.join.now.
 pub push_joined-requires-clause-arity : goal.push_joined-requires-clause-arity
 push_joined-requires-clause-arity c = c.rows.invariant.1 ∙ c.requires.arity
 
-pub returns-then-looked-most-clause-through : goal.returns-then-looked-most-clause-through
-returns-then-looked-most-clause-through c = λ great.
-    let past = c.if-looked-most.true in let held = c.rows.invariant.2 in absurd (omega (arith, great, past, held))
+pub returns-then-gives_up-clause-through : goal.returns-then-gives_up-clause-through
+returns-then-gives_up-clause-through c = λ great.
+    let past = c.gives_up.ensures c.if-gives_up.true in let held = c.rows.invariant.2 in absurd (omega (arith, great, past, held))
